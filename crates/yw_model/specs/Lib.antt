@@ -1,0 +1,5 @@
+pub mod Lines
+pub mod Meaning
+pub mod Replies
+pub mod State
+pub mod Run
