@@ -1,15 +1,17 @@
 -- A line that is too long means the same when it is cut behind the limit, and each line has an answer.
-use Rattle.std.proofs.Common.{◌≡◌, ℕ, ◌+◌, ◌<◌, List, [], ◌∷◌, length, take, Bool, true, false, cond, nat_lt, Option, None, Some, refl, sym, ap, inl, inr, ◌∙◌, subst, arith, length-take}
+use Rattle.std.proofs.Common.{◌≡◌, ℕ, suc, ◌∷◌, ◌+◌, ◌<◌, List, [], length, take, Bool, true, false, cond, nat_lt, Option, None, Some, refl, sym, ap, inl, inr, ◌∙◌, subst, arith, length-take}
 use Rattle.std.proofs.lemmas.List.{take_all}
 use Rattle.std.proofs.lemmas.Bool.{cases_lt, lt-ltb}
-use Rattle.std.specs.Prelude.{codes, option_and_then}
+use Rattle.std.specs.Prelude.{codes, option_and_then, option_map}
 use Rattle.std.specs.List.{list_any}
 use Rattle.std.specs.Str.{bytes_eq, is_utf8}
-use Rattle.serde_json.specs.Data.{Data}
+use Rattle.serde_json.specs.Data.{Data, Items, no_items, item}
+use Rattle.serde_json.specs.Events.{items_len}
 use Rattle.serde_json.specs.Find.{get, as_str, as_array}
 use Rattle.serde_json.specs.Read.{read}
-use Rattle.yw_model.specs.Meaning.{meaning, line_limit, text_meaning, value_meaning, word_meaning, later_meaning, later_words, person_meaning, person_from, has_members, only_if, are_roles, names_from, roles_of}
-use Rattle.yw_model.specs.State.{State, after_all}
+use Rattle.yw_model.specs.Meaning.{meaning, line_limit, text_meaning, value_meaning, word_meaning, later_meaning, later_words, person_meaning, person_from, has_members, only_if, are_roles, name_of, names_from, roles_of}
+use Rattle.yw_model.specs.State.{State, after_all, IsProper}
+use Rattle.yw_model.specs.declared.speech.Command.{Command}
 use Rattle.yw_model.specs.Replies.{done, refused}
 use Rattle.yw_model.specs.Run.{Entry, placeless, MeaningAnswers, Answers}
 use Rattle.yw_model.specs.declared.rule.Rule.TheVariants.{NotBuilt}
@@ -38,10 +40,10 @@ pub Answers-take : (s : State) (n : ℕ) (line : List ℕ) (entries : List Entry
     → Answers s n (take (line_limit + 1) line) entries reply t → Answers s n line entries reply t
 Answers-take s n line entries reply t a = subst (λ (m : Meaning). MeaningAnswers m s n entries reply t) (meaning-take line) a
 
--- a command that a line can ask for
+-- a meaning whose command is proper
 abbrev pub IsReadable : Meaning → Type 0
 IsReadable (Bad rule) = Unit {0}
-IsReadable (Asks (Person name roles)) = are_roles roles ≡ true
+IsReadable (Asks c) = IsProper c
 
 either : (b : Bool) (m n : Meaning) → IsReadable m → IsReadable n → IsReadable (cond b m n)
 either b m n one other = elim b as (λ x. IsReadable (cond x m n)) [ true ↦ one | false ↦ other ]
@@ -83,9 +85,24 @@ text_readable : (line : List ℕ) → IsReadable (text_meaning line)
 unfolding text_meaning
 text_readable line = either (is_utf8 line) _ _ (value_readable (read line)) tt
 
-pub readable : (line : List ℕ) → IsReadable (meaning line)
+readable : (line : List ℕ) → IsReadable (meaning line)
 unfolding meaning
 readable line = either (nat_lt line_limit (length line)) _ _ tt (text_readable line)
+
+-- a line asks for proper commands alone
+pub proper : (m : Meaning) (line : List ℕ) (c : Command) → m ≡ meaning line → m ≡ Asks c → IsProper c
+proper m line c e is = subst IsReadable (sym e ∙ is) (readable line)
+
+-- the names of a list are as many as its items
+pub length-names_from : (ds : Items) (names : List (List ℕ)) → names_from ds ≡ Some names → length names ≡ items_len ds
+length-names_from no_items names e = let none : names ≡ [] = cc in ap length none
+length-names_from (item d ds) names e = counted (name_of d) (names_from ds) (length-names_from ds) e
+  where
+    counted : (o : Option (List ℕ)) (os : Option (List (List ℕ))) → ((ns : List (List ℕ)) → os ≡ Some ns → length ns ≡ items_len ds)
+        → option_and_then (λ name. option_map (λ ns. name ∷ ns) os) o ≡ Some names → length names ≡ suc (items_len ds)
+    counted None os h e = cc
+    counted (Some name) None h e = cc
+    counted (Some name) (Some ns) h e = let same : names ≡ name ∷ ns = cc in ap length same ∙ ap suc (h ns refl)
 
 meaning_answered : (m : Meaning) → IsReadable m → (s : State) (n : ℕ) → (entries : List Entry) × (reply : List ℕ) × (t : State) × MeaningAnswers m s n entries reply t
 meaning_answered (Bad rule) h s n = ([], refused n (placeless rule), s, record { nothing = refl; told = refl; same = refl })

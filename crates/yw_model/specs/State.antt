@@ -22,6 +22,10 @@ pub record State : Type 0 where
 abbrev pub opening : State
 opening = record { persons = empty }
 
+-- a command whose fields are as a line gives them
+abbrev pub IsProper : Command → Type 0
+IsProper (commands.Person name roles) = are_roles roles ≡ true
+
 -- the event is allowed in this state
 abbrev pub IsAllowed : State → Event → Type 0
 IsAllowed s (events.Person name roles) = are_roles roles ≡ true

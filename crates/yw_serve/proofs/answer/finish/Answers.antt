@@ -1,0 +1,27 @@
+use Rattle.std.proofs.Common.{◌≡◌, ◌<◌, ℕ, List, [], length, refl, sym, ◌∷◌, arith, vec_len}
+use Rattle.std.proofs.lemmas.Bool.{eqb-true, eqb-false}
+use Rattle.std.proofs.lemmas.Result.{IfOk-weaker, IfErr-weaker}
+use Rattle.yw_serve.proofs.Going.{ends_without_line, ends_with_line, stops_in_last}
+use Rattle.yw_serve.proofs.answer.finish.Goals as goal
+
+none : (xs : List ℕ) → length xs ≡ 0 → xs ≡ []
+none [] e = refl
+none (x ∷ xs) e = absurd (omega arith)
+
+pub returns-then-is_empty-clause-ok : goal.returns-then-is_empty-clause-ok
+returns-then-is_empty-clause-ok g c = λ taken at.
+    let front = c.args.session.now.front in
+    let empty : front.items ≡ [] = none _ (omega (arith, front.ok.0, eqb-true (vec_len front) 0 (sym c.if-is_empty.ensures))) in
+    ends_without_line _ c.args.session.now taken at _ empty
+
+pub returns-clause-ok : goal.returns-clause-ok
+returns-clause-ok g c =
+    let front = c.args.session.now.front in
+    let some : 0 < length front.items = omega (arith, front.ok.0, eqb-false (vec_len front) 0 (sym c.if-is_empty.ensures)) in
+    IfOk-weaker c.end_line.result _ _ (λ x e taken at. ends_with_line _ c.args.session.now taken at _ _ some _ e) c.end_line.ensures.ok
+
+pub returns-clause-err : goal.returns-clause-err
+returns-clause-err g c =
+    let front = c.args.session.now.front in
+    let some : 0 < length front.items = omega (arith, front.ok.0, eqb-false (vec_len front) 0 (sym c.if-is_empty.ensures)) in
+    IfErr-weaker c.end_line.result _ _ (λ x e taken at. stops_in_last _ c.args.session.now taken at _ _ some e) c.end_line.ensures.err

@@ -1,0 +1,7 @@
+-- The forms that the program's words have.
+use Rattle.std.specs.Prelude.{◌≡◌, List, [], ◌∷◌, map, codes, String, string_bytes}
+use Rattle.std.specs.declared.alloc.Global.{Global}
+
+-- `run` alone
+abbrev pub IsRun : List (String Global) → Type 0
+IsRun words = map string_bytes words ≡ codes "run" ∷ []

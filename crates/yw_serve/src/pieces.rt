@@ -1,0 +1,30 @@
+// Lines out of pieces of the input.
+ghost use Rattle.std.specs.Prelude.{◌≡◌, ◌+◌, ◌<◌, ◌≤◌, ◌∷◌, ◌++◌, length, MatchOption, OnOk, OnErr, vec_len};
+ghost use Rattle.yw_model.specs.Lines.{newline, HasNoNewline};
+ghost use Rattle.yw_serve.specs.Kept.{kept_of};
+
+use memchr::memchr;
+use std::alloc::AllocError;
+
+pub const MOST_KEPT: usize = 1_048_577;
+
+/// The bytes before the first newline, and those behind it.
+pub fn split_line(bytes: &[u8]) -> Option<(&[u8], &[u8])>
+    ensures { MatchOption result (HasNoNewline bytes.now)
+        (λ parts. HasNoNewline parts.0.now × (bytes.now ≡ parts.0.now ++ newline ∷ parts.1.now)) }
+{
+    let at = memchr(b'\n', bytes)?;
+    Some((&bytes[..at], &bytes[at + 1..]))
+}
+
+/// Adds to what is kept of a line, which of one that is too long is one byte more than a line may have. An
+/// `Err` says that no memory was left, and changes nothing.
+pub fn keep(front: &mut Vec<u8>, part: &[u8]) -> Result<(), AllocError>
+    requires { vec_len front.old ≤ MOST_KEPT }
+    ensures ok { OnOk result (front.new.items ≡ kept_of (front.old.items ++ part.now)) }
+    ensures err { OnErr result (front.new.items ≡ front.old.items) }
+    ensures bound { vec_len front.new ≤ MOST_KEPT }
+{
+    let count = part.len().min(MOST_KEPT - front.len());
+    front.extend_from_slice(&part[..count])
+}
