@@ -1,5 +1,6 @@
 // Values in order, which contracts see as a list.
-ghost use Rattle.std.specs.Prelude.{◌≡◌, ◌↔◌, [], ◌∷◌, ◌++◌, List, ℕ, length, IfOk, OnOk, OnErr, IsTrue};
+ghost use Rattle.std.specs.Prelude.{◌≡◌, ◌↔◌, [], ◌∷◌, ◌++◌, List, ℕ, length, IfOk, OnOk, OnErr, IsTrue, slice_get};
+ghost use Rattle.std.specs.Option.{option_copied};
 ghost use Rattle.std.specs.List.{list_any};
 ghost use Rattle.std.specs.Str.{bytes_eq};
 ghost use Rattle.yw_base.specs.Spelling.{are_distinct};
@@ -72,6 +73,13 @@ impl<T: Drop> Items<T> {
         ensures { result.now ≡ self.now }
     {
         &self.items
+    }
+
+    /// The value at a place, or `None` past the end. It takes no memory.
+    pub fn get(&self, index: usize) -> Option<&T>
+        ensures { option_copied result ≡ slice_get self.now index }
+    {
+        self.items.get(index)
     }
 
     /// Adds a value at the end. An `Err` says that no memory was left, and changes nothing but that the

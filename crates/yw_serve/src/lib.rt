@@ -8,6 +8,8 @@ mod pieces;
 mod reply;
 mod run;
 mod session;
+#[cfg(test)]
+mod tests;
 mod top;
 
 pub use top::{INPUT_LIMIT, Status, serve};
