@@ -70,10 +70,13 @@ fn makes_and_compares_identities(rt: HostRuntime) -> Result<(), Fail> {
     assert!(rt; !case.is_under(&item));
     let other = Ident::read(rt.alloc(), "12.10")?;
     assert!(rt; !other.is_under(&item));
-    assert_eq!(rt; case.compare(&item), Ordering::Less);
-    assert_eq!(rt; item.compare(&other), Ordering::Less);
-    assert_eq!(rt; other.compare(&case), Ordering::Greater);
-    assert_eq!(rt; item.compare(&copy), Ordering::Equal);
+    assert_eq!(rt; case.cmp(&item), Ordering::Less);
+    assert_eq!(rt; item.cmp(&other), Ordering::Less);
+    assert_eq!(rt; other.cmp(&case), Ordering::Greater);
+    assert_eq!(rt; item.cmp(&copy), Ordering::Equal);
+    assert!(rt; item == copy);
+    assert!(rt; item != case);
+    assert!(rt; case < item);
     Ok(())
 }
 

@@ -1,0 +1,9 @@
+pub mod Digits
+pub mod Found
+pub mod Once
+pub mod Scoped
+pub mod SmallConstants
+pub mod SmallValues
+pub mod Sound
+pub mod TokenLemmas
+pub mod Worth

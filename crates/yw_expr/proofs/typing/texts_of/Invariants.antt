@@ -1,0 +1,7 @@
+use Rattle.std.proofs.Common.{◌≡◌, take}
+use Rattle.std.specs.Prelude.{map}
+use Rattle.yw_expr.specs.Typing.{text_of}
+use Rattle.yw_expr.proofs.typing.texts_of.Given as goal
+
+abbrev pub invariant-loop-item : goal.invariant-loop-item
+invariant-loop-item l = l.list ≡ map (text_of l.text) (take l.item-index l.items)

@@ -1,0 +1,11 @@
+pub mod Faults
+pub mod Lexemes
+pub mod Meaning
+pub mod Node
+pub mod Parsing
+pub mod Scope
+pub mod Small
+pub mod Sorts
+pub mod Tree
+pub mod Typing
+pub mod Walk

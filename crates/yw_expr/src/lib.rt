@@ -1,0 +1,18 @@
+//! Expressions over named values: their texts, their sorts and what they are worth.
+#![tactic(auto)]
+
+mod fault;
+mod lexeme;
+mod node;
+mod parsing;
+mod scope;
+#[cfg(test)]
+mod tests;
+mod typing;
+mod value;
+
+pub use fault::ExprFault;
+pub use node::{Expr, sort_of};
+pub use parsing::parse;
+pub use scope::{Binding, Scope};
+pub use value::{truth, view};

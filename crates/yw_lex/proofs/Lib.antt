@@ -1,0 +1,4 @@
+pub mod FrontLemmas
+pub mod KindLemmas
+pub mod QuotedLemmas
+pub mod TokenLemmas
