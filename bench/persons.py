@@ -3,8 +3,9 @@
 
     python3 bench/persons.py [PROGRAM]
 
-Each input has lines of a thousand names with one role each. The output goes to a file. Nothing is asserted:
-read the numbers. PROGRAM is crates/yw_main/out/yw_main where it isn't given.
+Each input has lines of a thousand names with one role each. The output goes to a file. The folder is in memory where
+the system has one there, so that a sync costs no disk. Nothing is asserted: read the numbers. PROGRAM is
+crates/yw_main/out/yw_main where it isn't given.
 """
 import os
 import sys
@@ -37,7 +38,8 @@ def main():
     top = os.path.dirname(os.path.dirname(os.path.abspath(__file__)))
     program = os.path.abspath(sys.argv[1] if len(sys.argv) > 1 else os.path.join(top, "crates/yw_main/out/yw_main"))
     print("%10s %12s %14s %14s %12s" % ("lines", "us a line", "of it, system", "lines a second", "peak KiB"))
-    with tempfile.TemporaryDirectory() as folder:
+    in_memory = "/dev/shm" if os.path.isdir("/dev/shm") else None
+    with tempfile.TemporaryDirectory(dir=in_memory) as folder:
         for count in SIZES:
             path, out = os.path.join(folder, "in"), os.path.join(folder, "out")
             write_lines(path, count)
@@ -46,6 +48,7 @@ def main():
                 replies = sum(1 for _ in f)
             if replies != count:
                 sys.exit("%d replies to %d lines" % (replies, count))
+            os.remove(os.path.join(folder, "yawl.a"))
             total = user + system
             print("%10d %12.2f %14.2f %14.0f %12d" % (count, 1e6 * total / count, 1e6 * system / count, count / total, peak))
 

@@ -1,30 +1,48 @@
-//! The program: a case server over standard input and output.
+//! The program: a case server over a folder, standard input and standard output.
 //!
 //! Its first word is the folder of its files, `.` where there is none; its other words are the server's. Its
 //! exit status is the number of the server's status. It writes nothing to standard error.
 #![tactic(auto)]
 
-mod adapt;
-
-use adapt::{StdDesk, StdSource};
+use std::alloc::AllocError;
 use std::process::ExitCode;
 use std::{env, io};
+use yw_adapt::{FolderDesk, StdSource};
 use yw_serve::{Status, serve};
 
-/// The words behind the program's name and the folder.
-fn words_of(rt: &HostRuntime) -> io::Result<Vec<String>> {
+/// The words behind the program's name. An `Err` says that no memory was left.
+fn words_of(rt: &HostRuntime, args: env::Args) -> Result<Vec<String>, AllocError> {
     let mut words = Vec::new(rt.alloc());
-    for word in env::args(rt)?.skip(2) {
+    for word in args.skip(1) {
         words.push(word)?;
     }
     Ok(words)
 }
 
+/// The first word, `.` where there is none.
+fn folder_of(words: &[String]) -> &str {
+    match words.first() {
+        Some(word) => word.as_str(),
+        None => ".",
+    }
+}
+
+/// The words behind the first.
+fn behind_first(words: &[String]) -> &[String] {
+    if words.is_empty() { words } else { &words[1..] }
+}
+
+/// Words that can't be read at all have none of the forms.
 fn main(rt: HostRuntime) -> ExitCode {
-    let Ok(words) = words_of(&rt) else {
+    let Ok(args) = env::args(&rt) else {
         return ExitCode::from(Status::Usage as u8);
     };
+    let Ok(words) = words_of(&rt, args) else {
+        return ExitCode::from(Status::Memory as u8);
+    };
+    let Ok(mut desk) = FolderDesk::new(rt.alloc(), &rt, folder_of(&words), io::writer(&rt)) else {
+        return ExitCode::from(Status::Memory as u8);
+    };
     let mut source = StdSource::new(rt.reader());
-    let mut desk = StdDesk::new(io::writer(&rt));
-    ExitCode::from(serve(rt.alloc(), &words, &mut source, &mut desk) as u8)
+    ExitCode::from(serve(rt.alloc(), behind_first(&words), &mut source, &mut desk) as u8)
 }

@@ -13,7 +13,7 @@ use Rattle.yw_model.specs.Meaning.{meaning, line_limit, text_meaning, value_mean
 use Rattle.yw_model.specs.State.{State, after_all, IsProper}
 use Rattle.yw_model.specs.declared.speech.Command.{Command}
 use Rattle.yw_model.specs.Replies.{done, refused}
-use Rattle.yw_model.specs.Run.{Entry, placeless, MeaningAnswers, Answers}
+use Rattle.yw_model.specs.Run.{Step, placeless, MeaningAnswers, Answers}
 use Rattle.yw_model.specs.declared.rule.Rule.TheVariants.{NotBuilt}
 use Rattle.yw_model.specs.declared.speech.Command.TheVariants.{Person}
 use Rattle.yw_model.specs.declared.speech.Event.TheVariants as events
@@ -36,9 +36,8 @@ pub meaning-take : (line : List ℕ) → meaning (take (line_limit + 1) line) �
 unfolding meaning
 meaning-take line = within_limit line_limit text_meaning (Bad NotBuilt) line
 
-pub Answers-take : (s : State) (n : ℕ) (line : List ℕ) (entries : List Entry) (reply : List ℕ) (t : State)
-    → Answers s n (take (line_limit + 1) line) entries reply t → Answers s n line entries reply t
-Answers-take s n line entries reply t a = subst (λ (m : Meaning). MeaningAnswers m s n entries reply t) (meaning-take line) a
+pub Answers-take : (s : State) (n : ℕ) (line : List ℕ) (step : Step) (t : State) → Answers s n (take (line_limit + 1) line) step t → Answers s n line step t
+Answers-take s n line step t a = subst (λ (m : Meaning). MeaningAnswers m s n step t) (meaning-take line) a
 
 -- a meaning whose command is proper
 abbrev pub IsReadable : Meaning → Type 0
@@ -104,13 +103,12 @@ length-names_from (item d ds) names e = counted (name_of d) (names_from ds) (len
     counted (Some name) None h e = cc
     counted (Some name) (Some ns) h e = let same : names ≡ name ∷ ns = cc in ap length same ∙ ap suc (h ns refl)
 
-meaning_answered : (m : Meaning) → IsReadable m → (s : State) (n : ℕ) → (entries : List Entry) × (reply : List ℕ) × (t : State) × MeaningAnswers m s n entries reply t
-meaning_answered (Bad rule) h s n = ([], refused n (placeless rule), s, record { nothing = refl; told = refl; same = refl })
+meaning_answered : (m : Meaning) → IsReadable m → (s : State) (n : ℕ) → (step : Step) × (t : State) × MeaningAnswers m s n step t
+meaning_answered (Bad rule) h s n = (record { taken = []; reply = refused n (placeless rule) }, s, record { nothing = refl; told = refl; same = refl })
 meaning_answered (Asks (Person name roles)) h s n =
     let event = events.Person name roles in
     let entry = event ∷ [] in (
-      entry ∷ [],
-      done n entry true,
+      record { taken = entry ∷ []; reply = done n entry true },
       after_all s entry,
       record {
         entry = entry;
@@ -123,5 +121,5 @@ meaning_answered (Asks (Person name roles)) h s n =
     )
 
 -- each line has an answer
-pub answered : (s : State) (n : ℕ) (line : List ℕ) → (entries : List Entry) × (reply : List ℕ) × (t : State) × Answers s n line entries reply t
+pub answered : (s : State) (n : ℕ) (line : List ℕ) → (step : Step) × (t : State) × Answers s n line step t
 answered s n line = meaning_answered (meaning line) (readable line) s n

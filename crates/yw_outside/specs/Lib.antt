@@ -1,3 +1,14 @@
 pub mod Causes
-pub mod Desk
-pub mod Fakes
+pub mod Image
+pub mod Moments
+pub mod Log
+pub mod LogLaws
+pub mod Fills
+pub mod FillLaws
+pub mod Counts
+pub mod Disk
+pub mod MemDesk
+pub mod MemSource
+pub mod NeverSource
+pub mod NeverDesk
+pub mod Stored

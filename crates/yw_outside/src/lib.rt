@@ -1,12 +1,24 @@
-//! The outside as traits, a source of bytes and a desk that says replies, and small ones in memory.
+//! What the server reads from, writes to and says to, as traits, and small ones in memory.
 #![tactic(auto)]
 
 mod desk;
-mod memory;
-mod never;
+mod disk;
+mod image;
+mod log;
+mod mem_desk;
+mod mem_source;
+mod never_desk;
+mod never_source;
+mod replay;
 mod source;
+mod stored;
+#[cfg(test)]
+mod tests;
 
-pub use desk::Desk;
-pub use memory::{MemDesk, MemSource};
-pub use never::{NeverDesk, NeverSource};
+pub use desk::{Desk, File};
+pub use image::{Fill, Image};
+pub use mem_desk::MemDesk;
+pub use mem_source::MemSource;
+pub use never_desk::NeverDesk;
+pub use never_source::NeverSource;
 pub use source::{Failed, Source};

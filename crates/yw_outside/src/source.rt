@@ -1,15 +1,15 @@
 // A source of bytes.
-ghost use Rattle.std.specs.Prelude.{◌≡◌, ◌<◌, ◌≤◌, List, [], ℕ, ◌++◌, length, take, drop, IfOk, OnErr};
+ghost use Rattle.std.specs.Prelude.{◌≡◌, ◌<◌, ◌≤◌, ◌++◌, [], List, ℕ, length, take, drop, IfOk, OnErr, is_some};
 ghost use Rattle.std.specs.declared.option.Option.{Option};
 ghost use Rattle.std.specs.Io.{ReadsAtMost};
 ghost use Rattle.std.specs.Io.KnownBytes.{ReadConsumes};
 ghost use Rattle.yw_outside.specs.Causes.{HasCause};
 
-/// A call of the outside failed. What it says of the cause is its count of faults.
+/// A call failed outside.
 #[derive(Clone, Copy, Debug, PartialEq, Eq)]
 pub struct Failed;
 
-/// Bytes that come in pieces.
+/// Where the server's input comes from.
 pub trait Source {
     /// The bytes still to come, where it tells them.
     ghost left: { Self → Option (List ℕ) };
@@ -17,14 +17,15 @@ pub trait Source {
     /// How many bytes the last read with `Ok` gave, and 0 before the first.
     ghost piece: { Self → ℕ };
 
-    /// How often a read has failed. It never falls.
+    /// How often it has failed.
     ghost faults: { Self → ℕ };
 
-    /// Gives the next bytes, at most as many as there is room for, and none only at the end or where there is
-    /// no room. It is `Failed` only where `faults` rose, and takes nothing then.
+    /// Gives the next bytes, and how many they are: none only at the end or where there is no room.
+    /// `Failed` comes only where the count of faults rose, and takes nothing.
     fn read(&mut self, buf: &mut [u8]) -> Result<usize, Failed>
         ensures bound { ReadsAtMost result buf.new }
         ensures bytes { ReadConsumes (left self.old) (left self.new) result buf.new }
+        ensures tells { is_some (left self.new) ≡ is_some (left self.old) }
         ensures piece { IfOk result (λ n. piece self.new ≡ n) }
         ensures piece_err { OnErr result (piece self.new ≡ piece self.old) }
         ensures cause { HasCause (faults self.old) (faults self.new) result };
@@ -37,6 +38,7 @@ pub(crate) fn copy_front(bytes: &[u8], most: usize, buf: &mut [u8]) -> usize
     ensures fits { result ≤ length buf.new }
     ensures front { bytes.now ≡ take result buf.new ++ drop result bytes.now }
     ensures end { result ≡ 0 → 0 < length buf.new → bytes.now ≡ [] }
+    ensures most { result ≤ most }
 {
     let count = bytes.len().min(most).min(buf.len());
     buf[..count].copy_from_slice(&bytes[..count]);

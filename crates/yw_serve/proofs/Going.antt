@@ -1,17 +1,26 @@
 -- How a session goes on, and where it stops.
-use Rattle.std.proofs.Common.{◌≡◌, ◌≤◌, ◌<◌, ℕ, ◌+◌, List, [], ◌∷◌, ◌++◌, length, take, Bool, inl, inr, refl, sym, ap, ◌∙◌, subst, append_assoc, arith, length-append, length-take}
+use Rattle.std.proofs.Common.{◌≡◌, ◌≤◌, ◌<◌, ℕ, ◌+◌, List, [], ◌∷◌, ◌++◌, length, take, inl, inr, refl, sym, ap, ◌∙◌, subst, append_assoc, arith, length-append, length-take}
 use Rattle.std.proofs.lemmas.List.{append-nil, take_all, take-append-le}
 use Rattle.std.proofs.lemmas.Bool.{cases_lt}
+use Rattle.yw_outside.specs.declared.image.Image.{Image}
+use Rattle.yw_outside.specs.Moments.{IsSettled, LeavesOnly}
+use Rattle.yw_journal.specs.Files.{Content}
+use Rattle.yw_journal.specs.Journal.{IsCurrent}
+use Rattle.yw_journal.specs.declared.journal.Journal.{Journal}
+use Rattle.yw_journal.proofs.Passing.{weakened}
 use Rattle.yw_model.specs.Lines.{newline, HasNoNewline, whole_lines, last_part, last_line, all_lines}
 use Rattle.yw_model.specs.State.{State}
-use Rattle.yw_model.specs.Run.{Entry, Answers}
+use Rattle.yw_model.specs.Run.{Step, Answers, Run}
 use Rattle.yw_model.proofs.LinesLemmas.{whole_lines-append, whole_lines-newline, last_part-newline, whole_lines-part, last_part-part}
 use Rattle.yw_model.proofs.MeaningLemmas.{Answers-take}
+use Rattle.yw_model.proofs.RunLemmas.{Run-one, Run-append, Run-exists}
 use Rattle.yw_serve.specs.declared.session.Session.{Session}
+use Rattle.yw_serve.specs.declared.session.Stop.{Stop}
+use Rattle.yw_serve.specs.declared.session.Stop.TheVariants.{Disk, Write, Memory, Full}
 use Rattle.yw_serve.specs.Kept.{most_kept, kept_of}
-use Rattle.yw_serve.specs.Session.{state_of, SaysAll, SaysFront, AnswersOn, StopsWithin, IsAt, GoesOn, EndsLine, CutsLine}
+use Rattle.yw_serve.specs.Session.{state_of, with_steps, OfSteps, AreDone, AnswersOn, Why, StopsWithin, IsAtByte, GoesOn, EndsLine, CutsLine}
 use Rattle.yw_serve.proofs.KeptLemmas.{kept_is, kept_over}
-use Rattle.yw_serve.proofs.Saying.{says_nothing, says_one, says_front_of_one, says_both, says_both_front, says_front_of_more, says_empty_front}
+use Rattle.yw_serve.proofs.Doing.{with_steps-none, with_steps-append, of_steps_longer, of_no_steps, nothing_done, done_both, leaves_nothing}
 
 -- to cut before more is added and to cut after it
 take_cut : {A : Type 0} (k : ℕ) (xs ys : List A) → take k (take k xs ++ ys) ≡ take k (xs ++ ys)
@@ -24,29 +33,68 @@ take_cut k xs ys =
     ]
 
 -- what is kept of a line is answered as the line is
-pub answered_as_kept : (s : State) (n : ℕ) (line : List ℕ) (entries : List Entry) (reply : List ℕ) (t : State)
-    → Answers s n (kept_of line) entries reply t → Answers s n line entries reply t
-answered_as_kept s n line entries reply t a = Answers-take s n line entries reply t (subst (λ (k : ℕ). Answers s n (take k line) entries reply t) kept_over a)
+answered_as_kept : (s : State) (n : ℕ) (line : List ℕ) (step : Step) (t : State) → Answers s n (kept_of line) step t → Answers s n line step t
+answered_as_kept s n line step t a = Answers-take s n line step t (subst (λ (k : ℕ). Answers s n (take k line) step t) kept_over a)
 
-module _ (tells : Bool) where
-  pub goes_nowhere : (session : Session) (taken said : List ℕ) → IsAt session taken → GoesOn session session taken [] tells said said
-  goes_nowhere session taken said at = record {
-    answers = record { lines = []; split = ap whole_lines (append-nil taken) ∙ sym (append-nil (whole_lines taken)); says = says_nothing (state_of session) session.number tells said };
+line_ends : (taken part : List ℕ) → HasNoNewline part → whole_lines (taken ++ (part ++ newline ∷ [])) ≡ whole_lines taken ++ (last_part taken ++ part) ∷ []
+line_ends taken part none =
+    ap whole_lines (sym (append_assoc taken part (newline ∷ []))) ∙ whole_lines-newline (taken ++ part)
+    ∙ ap (λ (ls : List (List ℕ)). ls ++ last_part (taken ++ part) ∷ []) (whole_lines-part taken part none)
+    ∙ ap (λ (l : List ℕ). whole_lines taken ++ l ∷ []) (last_part-part taken part none)
+
+no_last_line : (k : ℕ) (ws : List (List ℕ)) (p : List ℕ) → 0 < k → take k p ≡ [] → ws ++ last_line p ≡ ws ++ []
+no_last_line k ws [] some e = refl
+no_last_line k ws (b ∷ bs) some e = absurd (omega (arith, ap length e, length-take k (b ∷ bs)))
+
+one_last_line : (k : ℕ) (ws : List (List ℕ)) (p front : List ℕ) → front ≡ take k p → 0 < length front → ws ++ last_line p ≡ ws ++ p ∷ []
+one_last_line k ws [] front e some = absurd (omega (arith, ap length e, length-take {A = ℕ} k []))
+one_last_line k ws (b ∷ bs) front e some = refl
+
+-- with what may come of further lines, the cause is the same
+why_longer : {D : Type 0} (stop : Stop) (journal : Journal) (work more : List Step) (old new : D) → Why stop journal work old new → Why stop journal (work ++ more) old new
+why_longer Memory journal work more old new w = w
+why_longer Disk journal work more old new w = w
+why_longer Write journal work more old new w = w
+why_longer (Full n) journal work more old new w = (w.0, w.1, w.2, w.3 ++ more, ap (λ (s : List Step). s ++ more) w.4, w.5, w.6, w.7)
+
+module _ {D : Type 0} (moment : D → ℕ) (left_since : D → ℕ → Image → Type 0) (state : D → Image) (may_leave : D → Image → Type 0) where
+  -- nothing is pending at a desk, and the journal's file has this content
+  pub record IsReadyAt (c : Content) (journal : Journal) (d : D) : Type 0 where
+    pub settled : IsSettled (state d) (may_leave d)
+    pub said : (i : Image) → may_leave d i → i.said ≡ (state d).said
+    pub only : (i : Image) → left_since d (moment d) i → may_leave d i
+    pub current : IsCurrent journal c (state d)
+
+  pub none_done : (c : Content) (journal : Journal) (d : D) → IsReadyAt c journal d → AreDone moment left_since state may_leave c [] journal d d
+  none_done c journal d r = nothing_done moment left_since state may_leave d c journal r.settled r.said r.only r.current
+
+  pub goes_nowhere : (c : Content) (session : Session) (taken : List ℕ) (d : D) → IsReadyAt c session.journal d → IsAtByte session taken → GoesOn moment left_since state may_leave c session session taken [] d d
+  goes_nowhere c session taken d r at = record {
+    answers = record {
+      lines = [];
+      split = ap whole_lines (append-nil taken) ∙ sym (append-nil (whole_lines taken));
+      steps = [];
+      run = refl;
+      are_done = none_done c session.journal d r;
+    };
     at = at ∙ ap (λ (bs : List ℕ). kept_of (last_part bs)) (sym (append-nil taken));
     number = omega arith;
   }
 
-  module _ (a b : Session) (taken p : List ℕ) (before mid now : List ℕ) (first : GoesOn a b taken p tells before mid) where
-    pub goes_further : (c : Session) (q : List ℕ) → GoesOn b c (taken ++ p) q tells mid now → GoesOn a c taken (p ++ q) tells before now
-    goes_further c q next =
+  module _ (c : Content) (a b : Session) (taken p : List ℕ) (old mid new : D) (same : b.journal.file ≡ a.journal.file) (limit : b.journal.limit ≡ a.journal.limit)
+      (first : GoesOn moment left_since state may_leave c a b taken p old mid) where
+    pub goes_further : (z : Session) (q : List ℕ) → z.journal.file ≡ b.journal.file → GoesOn moment left_since state may_leave (with_steps c first.answers.steps) b z (taken ++ p) q mid new
+        → GoesOn moment left_since state may_leave c a z taken (p ++ q) old new
+    goes_further z q file next =
         let whole : taken ++ (p ++ q) ≡ (taken ++ p) ++ q = sym (append_assoc taken p q) in
-        let lines = first.answers.lines ++ next.answers.lines in
         record {
           answers = record {
-            lines = lines;
+            lines = first.answers.lines ++ next.answers.lines;
             split = ap whole_lines whole ∙ next.answers.split ∙ ap (λ (ls : List (List ℕ)). ls ++ next.answers.lines) first.answers.split ∙ append_assoc (whole_lines taken) first.answers.lines next.answers.lines;
-            says = says_both (state_of a) a.number first.answers.lines (state_of b) next.answers.lines (state_of c) tells before mid now first.answers.says
-                (subst (λ (n : ℕ). SaysAll (state_of b) n next.answers.lines (state_of c) tells mid now) first.number next.answers.says);
+            steps = first.answers.steps ++ next.answers.steps;
+            run = Run-append (state_of a) a.number first.answers.lines first.answers.steps (state_of b) next.answers.lines next.answers.steps (state_of z) first.answers.run
+                (subst (λ (n : ℕ). Run (state_of b) n next.answers.lines next.answers.steps (state_of z)) first.number next.answers.run);
+            are_done = done_both moment left_since state may_leave c first.answers.steps next.answers.steps b.journal z.journal old mid new file first.answers.are_done next.answers.are_done;
           };
           at = next.at ∙ ap (λ (bs : List ℕ). kept_of (last_part bs)) (append_assoc taken p q);
           number = next.number ∙ ap (λ n. n + length next.answers.lines) first.number ∙ summed a.number first.answers.lines next.answers.lines;
@@ -55,116 +103,181 @@ module _ (tells : Bool) where
         summed : (n : ℕ) (xs ys : List (List ℕ)) → n + length xs + length ys ≡ n + length (xs ++ ys)
         summed n xs ys = omega (arith, length-append xs ys)
 
-    pub stops_further : (all : List (List ℕ)) → StopsWithin b (whole_lines (taken ++ p)) all tells mid now → StopsWithin a (whole_lines taken) all tells before now
-    stops_further all stop = record {
-      lines = first.answers.lines ++ stop.lines;
-      split = stop.split ∙ ap (λ (ls : List (List ℕ)). ls ++ stop.lines) first.answers.split ∙ append_assoc (whole_lines taken) first.answers.lines stop.lines;
-      says = says_both_front (state_of a) a.number first.answers.lines (state_of b) stop.lines tells before mid now first.answers.says
-          (subst (λ (n : ℕ). SaysFront (state_of b) n stop.lines tells mid now) first.number stop.says);
-    }
+    pub stops_further : (stop : Stop) (all : List (List ℕ)) → StopsWithin moment left_since state may_leave (with_steps c first.answers.steps) stop b (whole_lines (taken ++ p)) all mid new
+        → StopsWithin moment left_since state may_leave c stop a (whole_lines taken) all old new
+    stops_further stop all s =
+        let steps = first.answers.steps in
+        let place : b.number + length s.lines ≡ a.number + length (first.answers.lines ++ s.lines) = omega (arith, first.number, length-append first.answers.lines s.lines) in
+        record {
+          lines = first.answers.lines ++ s.lines;
+          more = s.more;
+          split = s.split ∙ ap (λ (ls : List (List ℕ)). ls ++ (s.lines ++ s.more)) first.answers.split ∙ append_assoc (whole_lines taken) first.answers.lines (s.lines ++ s.more)
+              ∙ ap (λ (ls : List (List ℕ)). whole_lines taken ++ ls) (sym (append_assoc first.answers.lines s.lines s.more));
+          steps = steps ++ s.steps;
+          reached = s.reached;
+          run = Run-append (state_of a) a.number first.answers.lines steps (state_of b) s.lines s.steps s.reached first.answers.run
+              (subst (λ (n : ℕ). Run (state_of b) n s.lines s.steps s.reached) first.number s.run);
+          mid = s.mid;
+          journal = s.journal;
+          are_done = done_both moment left_since state may_leave c steps s.steps b.journal s.journal old mid s.mid s.file first.answers.are_done s.are_done;
+          work = s.work;
+          after = s.after;
+          run_on = subst (λ (n : ℕ). Run s.reached n s.more s.work s.after) place s.run_on;
+          moments = subst (λ (x : Content). LeavesOnly moment left_since s.mid new (OfSteps s.journal.file x s.work (state s.mid))) (with_steps-append c steps s.steps) s.moments;
+          why = s.why;
+          limit = s.limit ∙ limit;
+          file = s.file ∙ same;
+        }
 
   -- where it stopped it has stopped short of the lines of more bytes too
-  pub stops_short : (a : Session) (done : List (List ℕ)) (taken more all before now : List ℕ) → all ≡ taken ++ more → StopsWithin a done (whole_lines taken) tells before now → StopsWithin a done (whole_lines all) tells before now
-  stops_short a done taken bytes all before now e stop = let more = whole_lines (last_part taken ++ bytes) in record {
-    lines = stop.lines ++ more;
-    split = ap whole_lines e ∙ whole_lines-append taken bytes ∙ ap (λ (ls : List (List ℕ)). ls ++ more) stop.split ∙ append_assoc done stop.lines more;
-    says = says_front_of_more (state_of a) a.number stop.lines more tells before now stop.says;
+  pub stops_short : (c : Content) (stop : Stop) (a : Session) (done : List (List ℕ)) (taken bytes all : List ℕ) (old new : D) → all ≡ taken ++ bytes
+      → StopsWithin moment left_since state may_leave c stop a done (whole_lines taken) old new → StopsWithin moment left_since state may_leave c stop a done (whole_lines all) old new
+  stops_short c stop a done taken bytes all old new e s =
+      let extra = whole_lines (last_part taken ++ bytes) in
+      let r = Run-exists s.after (a.number + length s.lines + length s.more) extra in
+      record {
+        lines = s.lines;
+        more = s.more ++ extra;
+        split = ap whole_lines e ∙ whole_lines-append taken bytes ∙ ap (λ (ls : List (List ℕ)). ls ++ extra) s.split ∙ append_assoc done (s.lines ++ s.more) extra
+            ∙ ap (λ (ls : List (List ℕ)). done ++ ls) (append_assoc s.lines s.more extra);
+        steps = s.steps;
+        reached = s.reached;
+        run = s.run;
+        mid = s.mid;
+        journal = s.journal;
+        are_done = s.are_done;
+        work = s.work ++ r.0;
+        after = r.1;
+        run_on = Run-append s.reached (a.number + length s.lines) s.more s.work s.after extra r.0 r.1 s.run_on r.2;
+        moments = weakened moment left_since s.mid new (OfSteps s.journal.file (with_steps c s.steps) s.work (state s.mid)) (OfSteps s.journal.file (with_steps c s.steps) (s.work ++ r.0) (state s.mid)) s.moments
+            (λ i o. of_steps_longer s.journal.file (with_steps c s.steps) s.work r.0 (state s.mid) i o);
+        why = why_longer stop s.journal s.work r.0 s.mid new s.why;
+        limit = s.limit;
+        file = s.file;
+      }
+
+  -- no memory is left before anything was done for these lines
+  pub stops_before : (c : Content) (a : Session) (done all more : List (List ℕ)) (d : D) → IsReadyAt c a.journal d → all ≡ done ++ more → StopsWithin moment left_since state may_leave c Memory a done all d d
+  stops_before c a done all more d r e =
+      let next = Run-exists (state_of a) (a.number + 0) more in
+      record {
+        lines = [];
+        more = more;
+        split = e;
+        steps = [];
+        reached = state_of a;
+        run = refl;
+        mid = d;
+        journal = a.journal;
+        are_done = none_done c a.journal d r;
+        work = next.0;
+        after = next.1;
+        run_on = next.2;
+        moments = leaves_nothing moment left_since state may_leave d (OfSteps a.journal.file (with_steps c []) next.0 (state d)) r.settled r.said r.only
+            (subst (λ (x : Content). OfSteps a.journal.file x next.0 (state d) (state d)) (sym (with_steps-none c)) (of_no_steps a.journal.file c next.0 (state d) (a.journal.end, r.current.holds)));
+        why = refl;
+        limit = refl;
+        file = refl;
+      }
+
+  pub stops_at_line : (c : Content) (a : Session) (taken part : List ℕ) (d : D) → IsReadyAt c a.journal d → HasNoNewline part
+      → StopsWithin moment left_since state may_leave c Memory a (whole_lines taken) (whole_lines (taken ++ (part ++ newline ∷ []))) d d
+  stops_at_line c a taken part d r none = stops_before c a (whole_lines taken) _ ((last_part taken ++ part) ∷ []) d r (line_ends taken part none)
+
+  -- it stopped at the line that comes behind the done ones
+  stops_in : (c : Content) (stop : Stop) (a : Session) (done all : List (List ℕ)) (line : List ℕ) (old new : D) → IsReadyAt c a.journal old → all ≡ done ++ line ∷ []
+      → (step : Step) (after : State) → Answers (state_of a) a.number line step after
+      → LeavesOnly moment left_since old new (OfSteps a.journal.file c (step ∷ []) (state old)) → Why stop a.journal (step ∷ []) old new
+      → StopsWithin moment left_since state may_leave c stop a done all old new
+  stops_in c stop a done all line old new r e step after answers moments why = record {
+    lines = [];
+    more = line ∷ [];
+    split = e;
+    steps = [];
+    reached = state_of a;
+    run = refl;
+    mid = old;
+    journal = a.journal;
+    are_done = none_done c a.journal old r;
+    work = step ∷ [];
+    after = after;
+    run_on = subst (λ (n : ℕ). Run (state_of a) n (line ∷ []) (step ∷ []) after) (omega arith) (Run-one (state_of a) a.number line step after answers);
+    moments = subst (λ (x : Content). LeavesOnly moment left_since old new (OfSteps a.journal.file x (step ∷ []) (state old))) (sym (with_steps-none c)) moments;
+    why = why;
+    limit = refl;
+    file = refl;
   }
 
-  -- nothing is said of the answers to one line more
-  pub stops_before : (a : Session) (done all : List (List ℕ)) (line said : List ℕ) → all ≡ done ++ line ∷ [] → StopsWithin a done all tells said said
-  stops_before a done all line said e = record { lines = line ∷ []; split = e; says = says_empty_front (state_of a) a.number (line ∷ []) tells said }
-
-  -- nor of no line more
-  pub stops_at_once : (a : Session) (done all : List (List ℕ)) (said : List ℕ) → all ≡ done → StopsWithin a done all tells said said
-  stops_at_once a done all said e = record { lines = []; split = e ∙ sym (append-nil done); says = says_empty_front (state_of a) a.number [] tells said }
-
-  line_ends : (taken part : List ℕ) → HasNoNewline part → whole_lines (taken ++ (part ++ newline ∷ [])) ≡ whole_lines taken ++ (last_part taken ++ part) ∷ []
-  line_ends taken part none =
-      ap whole_lines (sym (append_assoc taken part (newline ∷ []))) ∙ whole_lines-newline (taken ++ part)
-      ∙ ap (λ (ls : List (List ℕ)). ls ++ last_part (taken ++ part) ∷ []) (whole_lines-part taken part none)
-      ∙ ap (λ (l : List ℕ). whole_lines taken ++ l ∷ []) (last_part-part taken part none)
-
-  pub stops_at_line : (old : Session) (taken part said : List ℕ) → HasNoNewline part → StopsWithin old (whole_lines taken) (whole_lines (taken ++ (part ++ newline ∷ []))) tells said said
-  stops_at_line old taken part said none = stops_before old (whole_lines taken) _ (last_part taken ++ part) said (line_ends taken part none)
-
-  module _ (old mid : Session) (taken part : List ℕ) (at : IsAt old taken) (none : HasNoNewline part) (front : mid.front.items ≡ kept_of (old.front.items ++ part)) where
+  module _ (c : Content) (before mid : Session) (taken part : List ℕ) (at : IsAtByte before taken) (none : HasNoNewline part) (front : mid.front.items ≡ kept_of (before.front.items ++ part))
+      (same : state_of mid ≡ state_of before) (number : mid.number ≡ before.number) (journal : mid.journal ≡ before.journal) (old new : D) where
     kept_so_far : mid.front.items ≡ kept_of (last_part taken ++ part)
     kept_so_far = front ∙ ap (λ (bs : List ℕ). kept_of (bs ++ part)) at ∙ take_cut most_kept (last_part taken) part
 
-    pub goes_by_part : (said : List ℕ) → state_of mid ≡ state_of old → mid.number ≡ old.number → GoesOn old mid taken part tells said said
-    goes_by_part said same number = record {
+    pub goes_by_part : IsReadyAt c mid.journal old → GoesOn moment left_since state may_leave c before mid taken part old old
+    goes_by_part r = record {
       answers = record {
         lines = [];
         split = whole_lines-part taken part none ∙ sym (append-nil (whole_lines taken));
-        says = subst (λ (t : State). SaysAll (state_of old) old.number [] t tells said said) (sym same) (says_nothing (state_of old) old.number tells said);
+        steps = [];
+        run = same;
+        are_done = none_done c mid.journal old r;
       };
       at = kept_so_far ∙ ap kept_of (sym (last_part-part taken part none));
       number = number ∙ omega arith;
     }
 
-    module _ (same : state_of mid ≡ state_of old) (number : mid.number ≡ old.number) (before now : List ℕ) where
-      line_answered : (entries : List Entry) (reply : List ℕ) (t : State) → Answers (state_of mid) mid.number mid.front.items entries reply t
-          → Answers (state_of old) old.number (last_part taken ++ part) entries reply t
-      line_answered entries reply t a = answered_as_kept (state_of old) old.number (last_part taken ++ part) entries reply t
-          (subst (λ (s : State). Answers s old.number (kept_of (last_part taken ++ part)) entries reply t) same
-          (subst (λ (n : ℕ). Answers (state_of mid) n (kept_of (last_part taken ++ part)) entries reply t) number
-          (subst (λ (l : List ℕ). Answers (state_of mid) mid.number l entries reply t) kept_so_far a)))
+    line_answered : (step : Step) (t : State) → Answers (state_of mid) mid.number mid.front.items step t → Answers (state_of before) before.number (last_part taken ++ part) step t
+    line_answered step t a = answered_as_kept (state_of before) before.number (last_part taken ++ part) step t
+        (subst (λ (s : State). Answers s before.number (kept_of (last_part taken ++ part)) step t) same
+        (subst (λ (n : ℕ). Answers (state_of mid) n (kept_of (last_part taken ++ part)) step t) number
+        (subst (λ (l : List ℕ). Answers (state_of mid) mid.number l step t) kept_so_far a)))
 
-      pub goes_by_line : (new : Session) → EndsLine mid new tells before now → GoesOn old new taken (part ++ newline ∷ []) tells before now
-      goes_by_line new e = record {
-        answers = record {
-          lines = (last_part taken ++ part) ∷ [];
-          split = line_ends taken part none;
-          says = says_one (state_of old) old.number (last_part taken ++ part) (state_of new) tells before now e.entries e.reply (line_answered e.entries e.reply (state_of new) e.answers) e.said;
-        };
-        at = e.front ∙ sym (ap kept_of (ap last_part (sym (append_assoc taken part (newline ∷ []))) ∙ last_part-newline (taken ++ part)) ∙ take_all most_kept [] (omega arith));
-        number = e.number ∙ ap (λ n. n + 1) number;
-      }
-
-      pub stops_in_line : CutsLine mid tells before now → StopsWithin old (whole_lines taken) (whole_lines (taken ++ (part ++ newline ∷ []))) tells before now
-      stops_in_line e = record {
+    pub goes_by_line : (now : Session) → EndsLine moment left_since state may_leave c mid now old new → GoesOn moment left_since state may_leave c before now taken (part ++ newline ∷ []) old new
+    goes_by_line now e = record {
+      answers = record {
         lines = (last_part taken ++ part) ∷ [];
         split = line_ends taken part none;
-        says = says_front_of_one (state_of old) old.number (last_part taken ++ part) e.state tells before now e.entries e.reply (line_answered e.entries e.reply e.state e.answers) e.said;
-      }
-
-  no_last_line : (k : ℕ) (ws : List (List ℕ)) (p : List ℕ) → 0 < k → take k p ≡ [] → ws ++ last_line p ≡ ws ++ []
-  no_last_line k ws [] some e = refl
-  no_last_line k ws (b ∷ bs) some e = absurd (omega (arith, ap length e, length-take k (b ∷ bs)))
-
-  one_last_line : (k : ℕ) (ws : List (List ℕ)) (p front : List ℕ) → front ≡ take k p → 0 < length front → ws ++ last_line p ≡ ws ++ p ∷ []
-  one_last_line k ws [] front e some = absurd (omega (arith, ap length e, length-take {A = ℕ} k []))
-  one_last_line k ws (b ∷ bs) front e some = refl
-
-  module _ (old : Session) (taken : List ℕ) (at : IsAt old taken) where
-    -- nothing follows the last newline
-    pub ends_without_line : (said : List ℕ) → old.front.items ≡ [] → AnswersOn old (whole_lines taken) (all_lines taken) (state_of old) tells said said
-    ends_without_line said e = record {
-      lines = [];
-      split = no_last_line most_kept (whole_lines taken) (last_part taken) (omega (arith, kept_is)) (sym at ∙ e);
-      says = says_nothing (state_of old) old.number tells said;
+        steps = e.step ∷ [];
+        run = Run-one (state_of before) before.number (last_part taken ++ part) e.step (state_of now) (line_answered e.step (state_of now) e.answers);
+        are_done = e.are_done;
+      };
+      at = e.front ∙ sym (ap kept_of (ap last_part (sym (append_assoc taken part (newline ∷ []))) ∙ last_part-newline (taken ++ part)) ∙ take_all most_kept [] (omega arith));
+      number = e.number ∙ ap (λ n. n + 1) number;
     }
 
-    module _ (before now : List ℕ) (some : 0 < length old.front.items) where
+    pub stops_in_line : (stop : Stop) → IsReadyAt c before.journal old → CutsLine moment left_since state may_leave c stop mid old new
+        → StopsWithin moment left_since state may_leave c stop before (whole_lines taken) (whole_lines (taken ++ (part ++ newline ∷ []))) old new
+    stops_in_line stop r e = stops_in c stop before (whole_lines taken) _ (last_part taken ++ part) old new r (line_ends taken part none) e.step e.after (line_answered e.step e.after e.answers)
+        (subst (λ (j : Journal). LeavesOnly moment left_since old new (OfSteps j.file c (e.step ∷ []) (state old))) journal e.moments)
+        (subst (λ (j : Journal). Why stop j (e.step ∷ []) old new) journal e.why)
+
+  module _ (c : Content) (before : Session) (taken : List ℕ) (at : IsAtByte before taken) (old : D) (r : IsReadyAt c before.journal old) where
+    -- nothing follows the last newline
+    pub ends_without_line : before.front.items ≡ [] → AnswersOn moment left_since state may_leave c before (whole_lines taken) (all_lines taken) (state_of before) before.journal old old
+    ends_without_line e = record {
+      lines = [];
+      split = no_last_line most_kept (whole_lines taken) (last_part taken) (omega (arith, kept_is)) (sym at ∙ e);
+      steps = [];
+      run = refl;
+      are_done = none_done c before.journal old r;
+    }
+
+    module _ (new : D) (some : 0 < length before.front.items) where
       last_line_split : all_lines taken ≡ whole_lines taken ++ last_part taken ∷ []
-      last_line_split = one_last_line most_kept (whole_lines taken) (last_part taken) old.front.items at some
+      last_line_split = one_last_line most_kept (whole_lines taken) (last_part taken) before.front.items at some
 
-      last_answered : (entries : List Entry) (reply : List ℕ) (t : State) → Answers (state_of old) old.number old.front.items entries reply t
-          → Answers (state_of old) old.number (last_part taken) entries reply t
-      last_answered entries reply t a = answered_as_kept (state_of old) old.number (last_part taken) entries reply t
-          (subst (λ (l : List ℕ). Answers (state_of old) old.number l entries reply t) at a)
+      last_answered : (step : Step) (t : State) → Answers (state_of before) before.number before.front.items step t → Answers (state_of before) before.number (last_part taken) step t
+      last_answered step t a = answered_as_kept (state_of before) before.number (last_part taken) step t (subst (λ (l : List ℕ). Answers (state_of before) before.number l step t) at a)
 
-      pub ends_with_line : (new : Session) → EndsLine old new tells before now → AnswersOn old (whole_lines taken) (all_lines taken) (state_of new) tells before now
-      ends_with_line new e = record {
+      pub ends_with_line : (now : Session) → EndsLine moment left_since state may_leave c before now old new
+          → AnswersOn moment left_since state may_leave c before (whole_lines taken) (all_lines taken) (state_of now) now.journal old new
+      ends_with_line now e = record {
         lines = last_part taken ∷ [];
         split = last_line_split;
-        says = says_one (state_of old) old.number (last_part taken) (state_of new) tells before now e.entries e.reply (last_answered e.entries e.reply (state_of new) e.answers) e.said;
+        steps = e.step ∷ [];
+        run = Run-one (state_of before) before.number (last_part taken) e.step (state_of now) (last_answered e.step (state_of now) e.answers);
+        are_done = e.are_done;
       }
 
-      pub stops_in_last : CutsLine old tells before now → StopsWithin old (whole_lines taken) (all_lines taken) tells before now
-      stops_in_last e = record {
-        lines = last_part taken ∷ [];
-        split = last_line_split;
-        says = says_front_of_one (state_of old) old.number (last_part taken) e.state tells before now e.entries e.reply (last_answered e.entries e.reply e.state e.answers) e.said;
-      }
+      pub stops_in_last : (stop : Stop) → CutsLine moment left_since state may_leave c stop before old new → StopsWithin moment left_since state may_leave c stop before (whole_lines taken) (all_lines taken) old new
+      stops_in_last stop e = stops_in c stop before (whole_lines taken) _ (last_part taken) old new r last_line_split e.step e.after (last_answered e.step e.after e.answers) e.moments e.why

@@ -1,5 +1,16 @@
 pub mod KeptLemmas
 pub mod PersonsLemmas
-pub mod Saying
+pub mod Doing
 pub mod Going
+pub mod Telling
 pub mod Reading
+pub mod OpenHeads
+pub mod OpenGates
+pub mod OpenRecords
+pub mod OpenHeld
+pub mod OpenEntries
+pub mod OpenLooked
+pub mod WordsLemmas
+pub mod OpenLaws
+pub mod ServedLemmas
+pub mod HeadlineLemmas

@@ -1,19 +1,26 @@
 -- What a read does to how far the reading has come.
-use Rattle.std.proofs.Common.{◌≡◌, ℕ, ◌+◌, ◌-◌, ◌<◌, ◌≤◌, ◌==◌, List, [], ◌∷◌, ◌++◌, length, take, drop, min, Bool, true, false, Option, None, Some, inl, inr, refl, sym, ap, ◌∙◌, subst, append_assoc, arith, length-append, length-take}
+use Rattle.std.proofs.Common.{◌≡◌, ℕ, ◌+◌, ◌-◌, ◌<◌, ◌≤◌, ◌==◌, List, [], ◌∷◌, ◌++◌, length, take, drop, min, false, Option, None, Some, inl, inr, refl, sym, ap, ◌∙◌, subst, append_assoc, arith, length-append, length-take}
 use Rattle.std.proofs.lemmas.List.{append-nil, take_all, take-take, take_at, drop_at, take-append-le, take-append-drop, length-take-le}
 use Rattle.std.proofs.lemmas.Bool.{cases_lt}
 use Rattle.std.proofs.lemmas.Bool.Decides.{eqb_tells}
 use Rattle.std.proofs.Math.Seq.{take-append-add}
 use Rattle.std.specs.Io.KnownBytes.{Consumes, Keeps, IsAtEnd}
+use Rattle.yw_outside.specs.declared.image.Image.{Image}
+use Rattle.yw_outside.specs.Moments.{LeavesOnly}
+use Rattle.yw_journal.specs.Files.{Content}
+use Rattle.yw_journal.specs.declared.journal.Journal.{Journal}
 use Rattle.yw_model.specs.Lines.{whole_lines, all_lines, lines}
-use Rattle.yw_model.specs.State.{State, opening}
+use Rattle.yw_model.specs.Run.{Run}
+use Rattle.yw_model.specs.State.{State}
+use Rattle.yw_model.proofs.RunLemmas.{Run-append}
 use Rattle.yw_serve.specs.declared.session.Session.{Session}
+use Rattle.yw_serve.specs.declared.session.Stop.{Stop}
 use Rattle.yw_serve.specs.Kept.{most_kept}
-use Rattle.yw_serve.specs.Session.{state_of, SaysAll, SaysFront, AnswersOn, StopsWithin, GoesOn}
-use Rattle.yw_serve.specs.Ends.{Takes, has_ended, before_piece, EndsWhole, EndsBetween, EndsPast, EndsShort}
+use Rattle.yw_serve.specs.Session.{state_of, with_steps, OfSteps, AnswersOn, StopsWithin, GoesOn}
+use Rattle.yw_serve.specs.Ends.{Takes, has_ended, before_piece, AllAnswered, SomeAnswered, EndsWhole, EndsBetween, EndsPast, EndsShort}
 use Rattle.yw_serve.specs.Reading.{HasAnswered, HasRead}
-use Rattle.yw_serve.proofs.Saying.{says_nothing, says_both, says_empty_front}
-use Rattle.yw_serve.proofs.Going.{stops_short}
+use Rattle.yw_serve.proofs.Doing.{with_steps-append, done_both}
+use Rattle.yw_serve.proofs.Going.{IsReadyAt, none_done, stops_short}
 
 consumed_from : (rest bs : List ℕ) (new : Option (List ℕ)) → Consumes (Some rest) new bs → (later : List ℕ) × (new ≡ Some later) × (rest ≡ bs ++ later)
 consumed_from rest bs None h = absurd h
@@ -41,32 +48,32 @@ takes_more bytes taken rest piece later old new t e split = record {
   still = e;
 }
 
-module _ (tells : Bool) (before : List ℕ) where
-  -- a session that has begun
-  answered_nothing : (session : Session) → session.front.items ≡ [] → session.number ≡ 1 → state_of session ≡ opening → HasAnswered session [] tells before before
-  answered_nothing session front number state = record {
-    says = subst (λ (s : State). SaysAll opening 1 [] s tells before before) (sym state) (says_nothing opening 1 tells before);
-    at = front ∙ sym (take_all most_kept [] (omega arith));
-    number = number;
-  }
+not_ended : (l : List ℕ) (k : ℕ) → 0 < k → has_ended l k ≡ false
+not_ended [] k more = elim (eqb_tells k 0) [ inl same ↦ absurd (omega (arith, same.1)) | inr other ↦ other.0 ]
+not_ended (b ∷ bs) k more = refl
 
-  pub read_nothing : (session : Session) (limit : ℕ) (bytes : List ℕ) (left : Option (List ℕ)) → left ≡ Some bytes
-      → session.front.items ≡ [] → session.number ≡ 1 → state_of session ≡ opening → HasRead session limit 0 bytes left tells before before
-  read_nothing session limit bytes left e front number state = record {
+module _ {D : Type 0} (moment : D → ℕ) (left_since : D → ℕ → Image → Type 0) (state : D → Image) (may_leave : D → Image → Type 0) (c : Content) (s : State) (start : D) where
+  pub read_nothing : (session : Session) (limit : ℕ) (bytes : List ℕ) (left : Option (List ℕ)) → left ≡ Some bytes → session.front.items ≡ [] → session.number ≡ 1 → state_of session ≡ s
+      → IsReadyAt moment left_since state may_leave c session.journal start → HasRead moment left_since state may_leave c s session limit 0 bytes left start start
+  read_nothing session limit bytes left e front number same ready = record {
     taken = [];
     rest = bytes;
     takes = record { split = refl; still = e };
     counted = refl;
-    answered = subst (λ (bs : List ℕ). HasAnswered session bs tells before before) (sym (take_all limit [] (omega arith))) (answered_nothing session front number state);
+    answered = subst (λ (bs : List ℕ). HasAnswered moment left_since state may_leave c s session bs start start) (sym (take_all limit [] (omega arith)))
+        (record { steps = []; run = same; are_done = none_done moment left_since state may_leave c session.journal start ready; at = front ∙ sym (take_all most_kept [] (omega arith)); number = number });
   }
 
-  answered_on : (old new : Session) (taken piece mid now : List ℕ) → HasAnswered old taken tells before mid → GoesOn old new taken piece tells mid now → HasAnswered new (taken ++ piece) tells before now
-  answered_on old new taken piece mid now h go =
+  answered_on : (before now : Session) (taken piece : List ℕ) (mid new : D) → now.journal.file ≡ before.journal.file → (h : HasAnswered moment left_since state may_leave c s before taken start mid)
+      → GoesOn moment left_since state may_leave (with_steps c h.steps) before now taken piece mid new → HasAnswered moment left_since state may_leave c s now (taken ++ piece) start new
+  answered_on before now taken piece mid new file h go =
       let more = go.answers.lines in
       record {
-        says = subst (λ (ls : List (List ℕ)). SaysAll opening 1 ls (state_of new) tells before now) (sym go.answers.split)
-            (says_both opening 1 (whole_lines taken) (state_of old) more (state_of new) tells before mid now h.says
-            (subst (λ (n : ℕ). SaysAll (state_of old) n more (state_of new) tells mid now) h.number go.answers.says));
+        steps = h.steps ++ go.answers.steps;
+        run = subst (λ (ls : List (List ℕ)). Run s 1 ls (h.steps ++ go.answers.steps) (state_of now)) (sym go.answers.split)
+            (Run-append s 1 (whole_lines taken) h.steps (state_of before) more go.answers.steps (state_of now) h.run
+            (subst (λ (n : ℕ). Run (state_of before) n more go.answers.steps (state_of now)) h.number go.answers.run));
+        are_done = done_both moment left_since state may_leave c h.steps go.answers.steps before.journal now.journal start mid new file h.are_done go.answers.are_done;
         at = go.at;
         number = go.number ∙ ap (λ n. n + length more) h.number ∙ summed (whole_lines taken) more ∙ ap (λ (ls : List (List ℕ)). 1 + length ls) (sym go.answers.split);
       }
@@ -75,51 +82,41 @@ module _ (tells : Bool) (before : List ℕ) where
       summed xs ys = omega (arith, length-append xs ys)
 
   -- it stopped within the lines of the bytes taken since
-  short : (session : Session) (limit piece : ℕ) (bytes seen taken rest : List ℕ) (left : Option (List ℕ)) (mid now : List ℕ)
-      → Takes bytes taken rest left → length taken ≤ limit + 1 → HasAnswered session seen tells before mid → seen ≡ before_piece taken piece
-      → StopsWithin session (whole_lines seen) (lines taken (has_ended rest piece)) tells mid now
-      → EndsShort limit bytes left piece tells before now
-  short session limit piece bytes seen taken rest left mid now t within h e stop =
-      let done = λ (bs : List ℕ). whole_lines bs in
-      record {
-        taken = taken;
-        rest = rest;
-        takes = t;
-        within = within;
-        state = state_of session;
-        middle = mid;
-        earlier = subst (λ (bs : List ℕ). SaysAll opening 1 (whole_lines bs) (state_of session) tells before mid) e h.says;
-        further = stop.lines;
-        split = stop.split ∙ ap (λ (bs : List ℕ). whole_lines bs ++ stop.lines) e;
-        later = subst (λ (bs : List ℕ). SaysFront (state_of session) (1 + length (whole_lines bs)) stop.lines tells mid now) e
-            (subst (λ (n : ℕ). SaysFront (state_of session) n stop.lines tells mid now) h.number stop.says);
-      }
-
-  no_lines : (ended : Bool) → lines [] ended ≡ []
-  no_lines true = refl
-  no_lines false = refl
-
-  -- before anything was read
-  pub short_at_once : (limit piece : ℕ) (bytes : List ℕ) (left : Option (List ℕ)) → left ≡ Some bytes → EndsShort limit bytes left piece tells before before
-  short_at_once limit piece bytes left e =
-      let none : before_piece [] piece ≡ [] = take_all (0 - piece) [] (omega arith) in
-      record {
-        taken = [];
-        rest = bytes;
-        takes = record { split = refl; still = e };
-        within = omega arith;
-        state = opening;
-        middle = before;
-        earlier = subst (λ (bs : List ℕ). SaysAll opening 1 (whole_lines bs) opening tells before before) (sym none) (says_nothing opening 1 tells before);
-        further = [];
-        split = no_lines (has_ended bytes piece) ∙ sym (ap (λ (bs : List ℕ). whole_lines bs ++ []) none);
-        later = says_empty_front opening _ [] tells before;
-      }
+  short : (stop : Stop) (session : Session) (limit piece : ℕ) (bytes seen taken rest : List ℕ) (left : Option (List ℕ)) (mid new : D)
+      → Takes bytes taken rest left → length taken ≤ limit + 1 → (h : HasAnswered moment left_since state may_leave c s session seen start mid) → seen ≡ before_piece taken piece
+      → StopsWithin moment left_since state may_leave (with_steps c h.steps) stop session (whole_lines seen) (lines taken (has_ended rest piece)) mid new
+      → EndsShort moment left_since state may_leave c s session.journal.limit limit stop bytes left piece start new
+  short stop session limit piece bytes seen taken rest left mid new t within h e z = record {
+    taken = taken;
+    rest = rest;
+    takes = t;
+    within = within;
+    answered = subst (λ (bs : List ℕ). SomeAnswered moment left_since state may_leave c s session.journal.limit stop (whole_lines bs) (lines taken (has_ended rest piece)) start new) e (record {
+      extra = z.lines;
+      more = z.more;
+      split = z.split ∙ sym (append_assoc (whole_lines seen) z.lines z.more);
+      steps = h.steps ++ z.steps;
+      reached = z.reached;
+      run = Run-append s 1 (whole_lines seen) h.steps (state_of session) z.lines z.steps z.reached h.run (subst (λ (n : ℕ). Run (state_of session) n z.lines z.steps z.reached) h.number z.run);
+      mid = z.mid;
+      journal = z.journal;
+      are_done = done_both moment left_since state may_leave c h.steps z.steps session.journal z.journal start mid z.mid z.file h.are_done z.are_done;
+      work = z.work;
+      after = z.after;
+      run_on = subst (λ (n : ℕ). Run z.reached n z.more z.work z.after) (ap (λ n. n + length z.lines) h.number ∙ summed (whole_lines seen) z.lines) z.run_on;
+      moments = subst (λ (x : Content). LeavesOnly moment left_since z.mid new (OfSteps z.journal.file x z.work (state z.mid))) (with_steps-append c h.steps z.steps) z.moments;
+      why = z.why;
+      limited = z.limit;
+    });
+  }
+    where
+      summed : (xs ys : List (List ℕ)) → 1 + length xs + length ys ≡ 1 + length (xs ++ ys)
+      summed xs ys = omega (arith, length-append xs ys)
 
   -- more came than the limit allows
-  pub read_past : (session : Session) (limit count : ℕ) (bytes : List ℕ) (left : Option (List ℕ)) (now : List ℕ)
-      → HasRead session limit count bytes left tells before now → limit < count → count ≤ limit + 1 → EndsPast limit bytes left tells before now
-  read_past session limit count bytes left now h more most =
+  pub read_past : (session : Session) (limit count : ℕ) (bytes : List ℕ) (left : Option (List ℕ)) (new : D) → HasRead moment left_since state may_leave c s session limit count bytes left start new
+      → limit < count → count ≤ limit + 1 → EndsPast moment left_since state may_leave c s limit bytes left start new
+  read_past session limit count bytes left new h more most =
       let exact : length h.taken ≡ limit + 1 = omega (arith, h.counted) in
       let all : take (limit + 1) bytes ≡ h.taken = ap (take (limit + 1)) h.takes.split ∙ take_at h.taken h.rest (limit + 1) exact in
       let rest : drop (limit + 1) bytes ≡ h.rest = ap (drop (limit + 1)) h.takes.split ∙ drop_at h.taken h.rest (limit + 1) exact in
@@ -127,51 +124,57 @@ module _ (tells : Bool) (before : List ℕ) where
       record {
         past = omega (arith, exact, ap length h.takes.split, length-append h.taken h.rest);
         takes = subst (λ (bs : List ℕ). Takes bytes bs (drop (limit + 1) bytes) left) (sym all) (subst (λ (bs : List ℕ). Takes bytes h.taken bs left) (sym rest) h.takes);
-        says = record { state = state_of session; says = subst (λ (bs : List ℕ). SaysAll opening 1 (whole_lines bs) (state_of session) tells before now) (sym front) h.answered.says };
+        answered = subst (λ (bs : List ℕ). AllAnswered moment left_since state may_leave c s (whole_lines bs) start new) (sym front)
+            (record { steps = h.answered.steps; reached = state_of session; run = h.answered.run; journal = session.journal; are_done = h.answered.are_done });
       }
 
-  module _ (session : Session) (limit count : ℕ) (bytes : List ℕ) (left new : Option (List ℕ)) (mid : List ℕ) (h : HasRead session limit count bytes left tells before mid) (within : count ≤ limit) where
-    pub all_answered : HasAnswered session h.taken tells before mid
-    all_answered = subst (λ (bs : List ℕ). HasAnswered session bs tells before mid) (take_all limit h.taken (omega (arith, h.counted))) h.answered
+  module _ (session : Session) (limit count : ℕ) (bytes : List ℕ) (left new_left : Option (List ℕ)) (mid : D) (h : HasRead moment left_since state may_leave c s session limit count bytes left start mid) (within : count ≤ limit) where
+    pub all_answered : HasAnswered moment left_since state may_leave c s session h.taken start mid
+    all_answered = subst (λ (bs : List ℕ). HasAnswered moment left_since state may_leave c s session bs start mid) (take_all limit h.taken (omega (arith, h.counted))) h.answered
 
     -- nothing could be read
-    pub read_failed : Keeps left new → EndsBetween limit bytes new tells before mid
+    pub read_failed : Keeps left new_left → EndsBetween moment left_since state may_leave c s limit bytes new_left start mid
     read_failed keeps = record {
       taken = h.taken;
       rest = h.rest;
-      takes = record { split = h.takes.split; still = still_left h.rest left new h.takes.still keeps };
+      takes = record { split = h.takes.split; still = still_left h.rest left new_left h.takes.still keeps };
       within = omega (arith, h.counted);
-      says = record { state = state_of session; says = all_answered.says };
+      answered = record { steps = all_answered.steps; reached = state_of session; run = all_answered.run; journal = session.journal; are_done = all_answered.are_done };
     }
 
-    module _ (end : Consumes left new []) (ended : IsAtEnd new) where
-      all_taken : (bytes ≡ h.taken) × Takes bytes h.taken [] new
+    module _ (end : Consumes left new_left []) (ended : IsAtEnd new_left) where
+      all_taken : (bytes ≡ h.taken) × Takes bytes h.taken [] new_left
       all_taken =
-          let e = consumed h.rest [] left new h.takes.still end in
-          let none : e.0 ≡ [] = at_end e.0 new e.1 ended in
+          let e = consumed h.rest [] left new_left h.takes.still end in
+          let none : e.0 ≡ [] = at_end e.0 new_left e.1 ended in
           let whole : bytes ≡ h.taken = h.takes.split ∙ ap (λ (r : List ℕ). h.taken ++ r) (e.2 ∙ none) ∙ append-nil h.taken in
           (whole, record { split = whole ∙ sym (append-nil h.taken); still = e.1 ∙ ap Some none })
 
-      pub read_all : (t : State) (now : List ℕ) → AnswersOn session (whole_lines h.taken) (all_lines h.taken) t tells mid now → EndsWhole limit bytes new tells before now
-      read_all t now a =
+      pub read_all : (t : State) (journal : Journal) (new : D) → journal.file ≡ session.journal.file
+          → AnswersOn moment left_since state may_leave (with_steps c all_answered.steps) session (whole_lines h.taken) (all_lines h.taken) t journal mid new
+          → EndsWhole moment left_since state may_leave c s limit bytes new_left start new
+      read_all t journal new file a =
           let whole = all_taken.0 in
-          let says : SaysAll opening 1 (all_lines h.taken) t tells before now = subst (λ (ls : List (List ℕ)). SaysAll opening 1 ls t tells before now) (sym a.split)
-          (says_both opening 1 (whole_lines h.taken) (state_of session) a.lines t tells before mid now all_answered.says
-          (subst (λ (n : ℕ). SaysAll (state_of session) n a.lines t tells mid now) all_answered.number a.says)) in
+          let steps = all_answered.steps ++ a.steps in
+          let run : Run s 1 (all_lines h.taken) steps t = subst (λ (ls : List (List ℕ)). Run s 1 ls steps t) (sym a.split)
+          (Run-append s 1 (whole_lines h.taken) all_answered.steps (state_of session) a.lines a.steps t all_answered.run (subst (λ (n : ℕ). Run (state_of session) n a.lines a.steps t) all_answered.number a.run)) in
           record {
             within = omega (arith, ap length whole, h.counted);
-            takes = subst (λ (bs : List ℕ). Takes bytes bs [] new) (sym whole) all_taken.1;
-            says = record { state = t; says = subst (λ (bs : List ℕ). SaysAll opening 1 (all_lines bs) t tells before now) (sym whole) says };
+            takes = subst (λ (bs : List ℕ). Takes bytes bs [] new_left) (sym whole) all_taken.1;
+            answered = subst (λ (bs : List ℕ). AllAnswered moment left_since state may_leave c s (all_lines bs) start new) (sym whole)
+                (record { steps = steps; reached = t; run = run; journal = journal; are_done = done_both moment left_since state may_leave c all_answered.steps a.steps session.journal journal start mid new file all_answered.are_done a.are_done });
           }
 
-      pub stopped_at_end : (piece : ℕ) (now : List ℕ) → piece ≡ 0 → StopsWithin session (whole_lines h.taken) (all_lines h.taken) tells mid now → EndsShort limit bytes new piece tells before now
-      stopped_at_end piece now zero stop =
+      pub stopped_at_end : (stop : Stop) (piece : ℕ) (new : D) → piece ≡ 0
+          → StopsWithin moment left_since state may_leave (with_steps c all_answered.steps) stop session (whole_lines h.taken) (all_lines h.taken) mid new
+          → EndsShort moment left_since state may_leave c s session.journal.limit limit stop bytes new_left piece start new
+      stopped_at_end stop piece new zero z =
           let same : lines h.taken (has_ended [] piece) ≡ all_lines h.taken = ap (λ n. lines h.taken (n == 0)) zero in
-          short session limit piece bytes h.taken h.taken [] new mid now all_taken.1 (omega (arith, h.counted)) all_answered
+          short stop session limit piece bytes h.taken h.taken [] new_left mid new all_taken.1 (omega (arith, h.counted)) all_answered
           (sym (take_all (length h.taken - piece) h.taken (omega arith)))
-          (subst (λ (ls : List (List ℕ)). StopsWithin session (whole_lines h.taken) ls tells mid now) (sym same) stop)
+          (subst (λ (ls : List (List ℕ)). StopsWithin moment left_since state may_leave (with_steps c all_answered.steps) stop session (whole_lines h.taken) ls mid new) (sym same) z)
 
-    module _ (room : List ℕ) (n kept : ℕ) (fits : n ≤ length room) (most : n ≤ limit - count + 1) (some : kept ≡ min n (limit - count)) (c : Consumes left new (take n room)) where
+    module _ (room : List ℕ) (n kept : ℕ) (fits : n ≤ length room) (most : n ≤ limit - count + 1) (some : kept ≡ min n (limit - count)) (eats : Consumes left new_left (take n room)) where
       piece : List ℕ
       piece = take n room
 
@@ -179,12 +182,12 @@ module _ (tells : Bool) (before : List ℕ) where
       unfolding piece
       length_piece = length-take-le n room fits
 
-      later : (l : List ℕ) × (new ≡ Some l) × (h.rest ≡ piece ++ l)
+      later : (l : List ℕ) × (new_left ≡ Some l) × (h.rest ≡ piece ++ l)
       unfolding piece
-      later = consumed h.rest (take n room) left new h.takes.still c
+      later = consumed h.rest (take n room) left new_left h.takes.still eats
 
-      now_taken : Takes bytes (h.taken ++ piece) later.0 new
-      now_taken = takes_more bytes h.taken h.rest piece later.0 left new h.takes later.1 later.2
+      now_taken : Takes bytes (h.taken ++ piece) later.0 new_left
+      now_taken = takes_more bytes h.taken h.rest piece later.0 left new_left h.takes later.1 later.2
 
       kept_of_piece : take kept room ≡ take (limit - count) piece
       unfolding piece
@@ -200,27 +203,25 @@ module _ (tells : Bool) (before : List ℕ) where
           let whole : limit ≡ length h.taken + (limit - count) = omega (arith, h.counted) in
           ap (λ k. take k (h.taken ++ piece)) whole ∙ take-append-add h.taken piece (limit - count) ∙ ap (λ (bs : List ℕ). h.taken ++ bs) (sym kept_of_piece)
 
-      pub read_on : (next : Session) (now : List ℕ) → GoesOn session next h.taken (take kept room) tells mid now → HasRead next limit (count + n) bytes new tells before now
-      read_on next now go = record {
+      pub read_on : (next : Session) (new : D) → next.journal.file ≡ session.journal.file → GoesOn moment left_since state may_leave (with_steps c all_answered.steps) session next h.taken (take kept room) mid new
+          → HasRead moment left_since state may_leave c s next limit (count + n) bytes new_left start new
+      read_on next new file go = record {
         taken = h.taken ++ piece;
         rest = later.0;
         takes = now_taken;
         counted = length-append h.taken piece ∙ ap (λ k. k + length piece) h.counted ∙ ap (λ k. count + k) length_piece;
-        answered = subst (λ (bs : List ℕ). HasAnswered next bs tells before now) (sym within_limit) (answered_on session next h.taken (take kept room) mid now all_answered go);
+        answered = subst (λ (bs : List ℕ). HasAnswered moment left_since state may_leave c s next bs start new) (sym within_limit) (answered_on session next h.taken (take kept room) mid new file all_answered go);
       }
 
-      not_ended : (l : List ℕ) (k : ℕ) → 0 < k → has_ended l k ≡ false
-      not_ended [] k more = elim (eqb_tells k 0) [ inl same ↦ absurd (omega (arith, same.1)) | inr other ↦ other.0 ]
-      not_ended (b ∷ bs) k more = refl
-
-      pub stopped_in_piece : (count_now : ℕ) (now : List ℕ) → count_now ≡ n → 0 < n
-          → StopsWithin session (whole_lines h.taken) (whole_lines (h.taken ++ take kept room)) tells mid now → EndsShort limit bytes new count_now tells before now
-      stopped_in_piece count_now now is more stop =
+      pub stopped_in_piece : (stop : Stop) (count_now : ℕ) (new : D) → count_now ≡ n → 0 < n
+          → StopsWithin moment left_since state may_leave (with_steps c all_answered.steps) stop session (whole_lines h.taken) (whole_lines (h.taken ++ take kept room)) mid new
+          → EndsShort moment left_since state may_leave c s session.journal.limit limit stop bytes new_left count_now start new
+      stopped_in_piece stop count_now new is more z =
           let taken : List ℕ = h.taken ++ piece in
           let long : length taken ≡ count + n = length-append h.taken piece ∙ ap (λ k. k + length piece) h.counted ∙ ap (λ k. count + k) length_piece in
           let earlier : h.taken ≡ before_piece taken count_now = sym (ap (λ k. take k taken) (omega (arith, long, h.counted)) ∙ take_at h.taken piece (length h.taken) refl) in
           let split : taken ≡ (h.taken ++ take kept room) ++ drop limit taken = sym (ap (λ (bs : List ℕ). bs ++ drop limit taken) (sym within_limit) ∙ take-append-drop limit taken) in
-          let cut = stops_short tells session (whole_lines h.taken) (h.taken ++ take kept room) (drop limit taken) taken mid now split stop in
+          let cut = stops_short moment left_since state may_leave (with_steps c all_answered.steps) stop session (whole_lines h.taken) (h.taken ++ take kept room) (drop limit taken) taken mid new split z in
           let open_end : lines taken (has_ended later.0 count_now) ≡ whole_lines taken = ap (lines taken) (not_ended later.0 count_now (omega arith)) in
-          short session limit count_now bytes h.taken taken later.0 new mid now now_taken (omega (arith, long)) all_answered earlier
-          (subst (λ (ls : List (List ℕ)). StopsWithin session (whole_lines h.taken) ls tells mid now) (sym open_end) cut)
+          short stop session limit count_now bytes h.taken taken later.0 new_left mid new now_taken (omega (arith, long)) all_answered earlier
+          (subst (λ (ls : List (List ℕ)). StopsWithin moment left_since state may_leave (with_steps c all_answered.steps) stop session (whole_lines h.taken) ls mid new) (sym open_end) cut)

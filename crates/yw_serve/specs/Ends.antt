@@ -1,16 +1,18 @@
--- How a run over an input ends: what was taken of it, and what was said.
--- The source had `bytes`, has `left` now, and its last read gave `piece` bytes. At most `limit` bytes are answered.
-use Rattle.std.specs.Prelude.{◌≡◌, ◌⊎◌, ◌==◌, ◌+◌, ◌-◌, ◌<◌, ◌≤◌, ℕ, List, [], ◌∷◌, ◌++◌, length, take, drop, Bool, true, false, Option, Some}
+-- How a run over an input ends: what was taken of it, which lines are answered, and what a crash at each moment leaves.
+-- The source had `bytes`, has `left` now, and its last read gave `piece` bytes. At most `limit` bytes are answered. The desk was `old` when
+-- the files had been opened with content c and state s, and is `new`.
+use Rattle.std.specs.Prelude.{◌≡◌, ◌==◌, ◌+◌, ◌-◌, ◌<◌, ◌≤◌, ℕ, List, [], ◌∷◌, ◌++◌, length, take, drop, Bool, true, false, Option, Some}
+use Rattle.yw_outside.specs.Moments.{LeavesOnly}
+use Rattle.yw_outside.specs.declared.image.Image.{Image}
+use Rattle.yw_journal.specs.Files.{Content}
+use Rattle.yw_journal.specs.declared.journal.Journal.{Journal}
 use Rattle.yw_model.specs.Lines.{whole_lines, lines}
-use Rattle.yw_model.specs.State.{State, opening}
-use Rattle.yw_serve.specs.Session.{SaysAll, SaysFront}
-use Rattle.yw_serve.specs.declared.top.Status.{Status}
-use Rattle.yw_serve.specs.declared.top.Status.TheVariants.{Ok, Findings, Usage, Disk, Memory, Read, Write, Damaged, Full, InputLimit}
-
--- The output grew by that of a run over these lines, from the opening state on.
-pub record SaysRun (lines : List (List ℕ)) (tells : Bool) (before now : List ℕ) : Type 0 where
-  pub state : State
-  pub says : SaysAll opening 1 lines state tells before now
+use Rattle.yw_model.specs.State.{State}
+use Rattle.yw_model.specs.Run.{Step, Run}
+use Rattle.yw_serve.specs.Session.{with_steps, OfSteps, AreDone, Why}
+use Rattle.yw_serve.specs.declared.run.Ending.{Ending}
+use Rattle.yw_serve.specs.declared.run.Ending.TheVariants.{Whole, Unread, Past, Stopped}
+use Rattle.yw_serve.specs.declared.session.Stop.{Stop}
 
 -- These bytes were taken of all, and the rest is left.
 pub record Takes (bytes taken rest : List ℕ) (left : Option (List ℕ)) : Type 0 where
@@ -26,66 +28,71 @@ has_ended (b ∷ bs) piece = false
 abbrev pub before_piece : List ℕ → ℕ → List ℕ
 before_piece taken piece = take (length taken - piece) taken
 
+-- The lines are answered by a run from state s on, and the files hold its entries.
+pub record AllAnswered {D : Type 0} (moment : D → ℕ) (left_since : D → ℕ → Image → Type 0) (state : D → Image) (may_leave : D → Image → Type 0)
+    (c : Content) (s : State) (lines : List (List ℕ)) (old new : D) : Type 0 where
+  pub steps : List Step
+  pub reached : State
+  pub run : Run s 1 lines steps reached
+  pub journal : Journal
+  pub are_done : AreDone moment left_since state may_leave c steps journal old new
+
+-- Of the lines at least the sure ones are answered, and the run stopped at the next.
+pub record SomeAnswered {D : Type 0} (moment : D → ℕ) (left_since : D → ℕ → Image → Type 0) (state : D → Image) (may_leave : D → Image → Type 0)
+    (c : Content) (s : State) (limit : ℕ) (stop : Stop) (sure all : List (List ℕ)) (old new : D) : Type 0 where
+  pub extra : List (List ℕ)
+  pub more : List (List ℕ)
+  pub split : all ≡ (sure ++ extra) ++ more
+  pub steps : List Step
+  pub reached : State
+  pub run : Run s 1 (sure ++ extra) steps reached
+  pub mid : D
+  pub journal : Journal
+  pub are_done : AreDone moment left_since state may_leave c steps journal old mid
+  -- what may come of the line at which it stopped, and of the further lines
+  pub work : List Step
+  pub after : State
+  pub run_on : Run reached (1 + length (sure ++ extra)) more work after
+  pub moments : LeavesOnly moment left_since mid new (OfSteps journal.file (with_steps c steps) work (state mid))
+  pub why : Why stop journal work mid new
+  pub limited : journal.limit ≡ limit
+
 -- All is taken and answered.
-pub record EndsWhole (limit : ℕ) (bytes : List ℕ) (left : Option (List ℕ)) (tells : Bool) (before now : List ℕ) : Type 0 where
+pub record EndsWhole {D : Type 0} (moment : D → ℕ) (left_since : D → ℕ → Image → Type 0) (state : D → Image) (may_leave : D → Image → Type 0)
+    (c : Content) (s : State) (limit : ℕ) (bytes : List ℕ) (left : Option (List ℕ)) (old new : D) : Type 0 where
   pub within : length bytes ≤ limit
   pub takes : Takes bytes bytes [] left
-  pub says : SaysRun (lines bytes true) tells before now
+  pub answered : AllAnswered moment left_since state may_leave c s (lines bytes true) old new
 
 -- The lines that ended within the bytes taken are answered.
-pub record EndsBetween (limit : ℕ) (bytes : List ℕ) (left : Option (List ℕ)) (tells : Bool) (before now : List ℕ) : Type 0 where
+pub record EndsBetween {D : Type 0} (moment : D → ℕ) (left_since : D → ℕ → Image → Type 0) (state : D → Image) (may_leave : D → Image → Type 0)
+    (c : Content) (s : State) (limit : ℕ) (bytes : List ℕ) (left : Option (List ℕ)) (old new : D) : Type 0 where
   pub taken : List ℕ
   pub rest : List ℕ
   pub takes : Takes bytes taken rest left
   pub within : length taken ≤ limit
-  pub says : SaysRun (lines taken false) tells before now
+  pub answered : AllAnswered moment left_since state may_leave c s (lines taken false) old new
 
 -- One byte more came than the limit allows, and the lines that ended within it are answered.
-pub record EndsPast (limit : ℕ) (bytes : List ℕ) (left : Option (List ℕ)) (tells : Bool) (before now : List ℕ) : Type 0 where
+pub record EndsPast {D : Type 0} (moment : D → ℕ) (left_since : D → ℕ → Image → Type 0) (state : D → Image) (may_leave : D → Image → Type 0)
+    (c : Content) (s : State) (limit : ℕ) (bytes : List ℕ) (left : Option (List ℕ)) (old new : D) : Type 0 where
   pub past : limit < length bytes
   pub takes : Takes bytes (take (limit + 1) bytes) (drop (limit + 1) bytes) left
-  pub says : SaysRun (lines (take limit bytes) false) tells before now
+  pub answered : AllAnswered moment left_since state may_leave c s (lines (take limit bytes) false) old new
 
--- The lines that ended before the last piece are answered, and a front of the answers to the further lines of the bytes taken is said.
-pub record EndsShort (limit : ℕ) (bytes : List ℕ) (left : Option (List ℕ)) (piece : ℕ) (tells : Bool) (before now : List ℕ) : Type 0 where
+-- The lines that ended before the last piece are answered, and of the further lines of the bytes taken some.
+pub record EndsShort {D : Type 0} (moment : D → ℕ) (left_since : D → ℕ → Image → Type 0) (state : D → Image) (may_leave : D → Image → Type 0)
+    (c : Content) (s : State) (full_at : ℕ) (limit : ℕ) (stop : Stop) (bytes : List ℕ) (left : Option (List ℕ)) (piece : ℕ) (old new : D) : Type 0 where
   pub taken : List ℕ
   pub rest : List ℕ
   pub takes : Takes bytes taken rest left
   pub within : length taken ≤ limit + 1
-  -- the state and the output when the last piece came
-  pub state : State
-  pub middle : List ℕ
-  pub earlier : SaysAll opening 1 (whole_lines (before_piece taken piece)) state tells before middle
-  pub further : List (List ℕ)
-  pub split : lines taken (has_ended rest piece) ≡ whole_lines (before_piece taken piece) ++ further
-  pub later : SaysFront state (1 + length (whole_lines (before_piece taken piece))) further tells middle now
+  pub answered : SomeAnswered moment left_since state may_leave c s full_at stop (whole_lines (before_piece taken piece)) (lines taken (has_ended rest piece)) old new
 
--- What each status says. The others don't come of a run.
-abbrev pub Ends : Status → ℕ → List ℕ → Option (List ℕ) → ℕ → Bool → List ℕ → List ℕ → Type 0
-Ends Ok limit bytes left piece = EndsWhole limit bytes left
-Ends Read limit bytes left piece = EndsBetween limit bytes left
-Ends InputLimit limit bytes left piece = EndsPast limit bytes left
-Ends Write limit bytes left piece = EndsShort limit bytes left piece
-Ends Memory limit bytes left piece = EndsShort limit bytes left piece
-Ends Findings limit bytes left piece = λ tells before now. ⊥
-Ends Usage limit bytes left piece = λ tells before now. ⊥
-Ends Disk limit bytes left piece = λ tells before now. ⊥
-Ends Damaged limit bytes left piece = λ tells before now. ⊥
-Ends Full limit bytes left piece = λ tells before now. ⊥
-
--- the statuses of a run
-abbrev pub IsOfRun : Status → Type 0
-IsOfRun Ok = Unit {0}
-IsOfRun Memory = Unit {0}
-IsOfRun Read = Unit {0}
-IsOfRun Write = Unit {0}
-IsOfRun InputLimit = Unit {0}
-IsOfRun Findings = ⊥
-IsOfRun Usage = ⊥
-IsOfRun Disk = ⊥
-IsOfRun Damaged = ⊥
-IsOfRun Full = ⊥
-
--- the statuses that come
-abbrev pub IsAnswered : Status → Type 0
-IsAnswered status = (status ≡ Usage) ⊎ IsOfRun status
+-- what each ending says
+abbrev pub EndsAs : {D : Type 0} → (D → ℕ) → (D → ℕ → Image → Type 0) → (D → Image) → (D → Image → Type 0)
+    → Ending → Content → State → ℕ → ℕ → List ℕ → Option (List ℕ) → ℕ → D → D → Type 0
+EndsAs moment left_since state may_leave Whole c s full_at limit bytes left piece = EndsWhole moment left_since state may_leave c s limit bytes left
+EndsAs moment left_since state may_leave Unread c s full_at limit bytes left piece = EndsBetween moment left_since state may_leave c s limit bytes left
+EndsAs moment left_since state may_leave Past c s full_at limit bytes left piece = EndsPast moment left_since state may_leave c s limit bytes left
+EndsAs moment left_since state may_leave (Stopped stop) c s full_at limit bytes left piece = EndsShort moment left_since state may_leave c s full_at limit stop bytes left piece

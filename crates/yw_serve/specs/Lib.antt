@@ -1,6 +1,13 @@
 pub mod Persons
 pub mod Kept
+pub mod Desks
 pub mod Session
+pub mod Plans
 pub mod Ends
 pub mod Reading
 pub mod Words
+pub mod Damage
+pub mod Opening
+pub mod Notices
+pub mod Served
+pub mod Headline

@@ -1,21 +1,28 @@
 -- How far the reading of an input has come.
-use Rattle.std.specs.Prelude.{◌≡◌, ◌+◌, ℕ, List, length, take, Bool, Option}
-use Rattle.yw_serve.specs.declared.session.Session.{Session}
-use Rattle.yw_model.specs.State.{opening}
+use Rattle.std.specs.Prelude.{◌≡◌, ◌+◌, ℕ, List, length, take, Option}
+use Rattle.yw_outside.specs.declared.image.Image.{Image}
+use Rattle.yw_journal.specs.Files.{Content}
 use Rattle.yw_model.specs.Lines.{whole_lines}
-use Rattle.yw_serve.specs.Session.{SaysAll, IsAt, state_of}
+use Rattle.yw_model.specs.Run.{Step, Run}
+use Rattle.yw_model.specs.State.{State}
+use Rattle.yw_serve.specs.declared.session.Session.{Session}
+use Rattle.yw_serve.specs.Session.{state_of, IsAtByte, AreDone}
 use Rattle.yw_serve.specs.Ends.{Takes}
 
 -- The lines that ended within these bytes are answered, and what they have of the next is kept.
-pub record HasAnswered (session : Session) (taken : List ℕ) (tells : Bool) (before now : List ℕ) : Type 0 where
-  pub says : SaysAll opening 1 (whole_lines taken) (state_of session) tells before now
-  pub at : IsAt session taken
+pub record HasAnswered {D : Type 0} (moment : D → ℕ) (left_since : D → ℕ → Image → Type 0) (state : D → Image) (may_leave : D → Image → Type 0)
+    (c : Content) (s : State) (session : Session) (taken : List ℕ) (old new : D) : Type 0 where
+  pub steps : List Step
+  pub run : Run s 1 (whole_lines taken) steps (state_of session)
+  pub are_done : AreDone moment left_since state may_leave c steps session.journal old new
+  pub at : IsAtByte session taken
   pub number : session.number ≡ 1 + length (whole_lines taken)
 
 -- Of all bytes so many were taken, and those within the limit are answered.
-pub record HasRead (session : Session) (limit count : ℕ) (bytes : List ℕ) (left : Option (List ℕ)) (tells : Bool) (before now : List ℕ) : Type 0 where
+pub record HasRead {D : Type 0} (moment : D → ℕ) (left_since : D → ℕ → Image → Type 0) (state : D → Image) (may_leave : D → Image → Type 0)
+    (c : Content) (s : State) (session : Session) (limit count : ℕ) (bytes : List ℕ) (left : Option (List ℕ)) (old new : D) : Type 0 where
   pub taken : List ℕ
   pub rest : List ℕ
   pub takes : Takes bytes taken rest left
   pub counted : length taken ≡ count
-  pub answered : HasAnswered session (take limit taken) tells before now
+  pub answered : HasAnswered moment left_since state may_leave c s session (take limit taken) old new

@@ -1,66 +1,132 @@
--- How far a session has come: which lines are answered, and what is kept of the next.
--- `tells` is whether the desk tells its output, which was `before` and is `now`.
-use Rattle.std.specs.Prelude.{◌≡◌, ℕ, ◌+◌, List, [], ◌++◌, length, Bool, IsTrue}
+-- How far a session has come: which lines are answered, what the files hold of them at each moment, and what is kept of the next line.
+use Rattle.std.specs.Prelude.{◌≡◌, ◌⊎◌, ℕ, ◌+◌, ◌<◌, List, [], ◌∷◌, ◌++◌, length, map}
+use Rattle.yw_outside.specs.Image.{SaysPart, other_in}
+use Rattle.yw_outside.specs.Moments.{IsSettled, LeavesOnly}
+use Rattle.yw_outside.specs.declared.desk.File.{File}
+use Rattle.yw_outside.specs.declared.image.Image.{Image}
+use Rattle.yw_journal.specs.Files.{Content, Holds}
+use Rattle.yw_journal.specs.Journal.{IsCurrent}
+use Rattle.yw_journal.specs.declared.journal.Journal.{Journal}
+use Rattle.yw_codec.specs.Entries.{entry_bytes, framed}
 use Rattle.yw_model.specs.Lines.{whole_lines, last_part}
 use Rattle.yw_model.specs.State.{State}
-use Rattle.yw_model.specs.Run.{Entry, Answers, Run}
-use Rattle.yw_outside.specs.Desk.{SaysPart}
+use Rattle.yw_model.specs.Run.{Entry, Step, Answers, Run, taken_by, said_by}
 use Rattle.yw_serve.specs.Kept.{kept_of}
 use Rattle.yw_serve.specs.declared.session.Session.{Session}
+use Rattle.yw_serve.specs.declared.session.Stop.{Stop}
+use Rattle.yw_serve.specs.declared.session.Stop.TheVariants.{Disk, Write, Memory, Full}
 
 abbrev pub state_of : Session → State
 state_of session = record { persons = session.persons }
 
--- The output grew by the answers to these lines, numbered from n, and the state went from s to t.
-pub record SaysAll (s : State) (n : ℕ) (lines : List (List ℕ)) (t : State) (tells : Bool) (before now : List ℕ) : Type 0 where
-  pub entries : List Entry
-  pub out : List ℕ
-  pub run : Run s n lines entries out t
-  pub said : IsTrue tells → now ≡ before ++ out
+-- a content with these entries behind its own
+abbrev pub with_entries : Content → List Entry → Content
+with_entries c entries = record { generation = c.generation; count = c.count; snapshot = c.snapshot; records = c.records ++ map entry_bytes entries }
 
--- The output grew by a front of the answers to these lines.
-pub record SaysFront (s : State) (n : ℕ) (lines : List (List ℕ)) (tells : Bool) (before now : List ℕ) : Type 0 where
-  pub entries : List Entry
-  pub out : List ℕ
-  pub state : State
-  pub run : Run s n lines entries out state
-  pub said : IsTrue tells → SaysPart before out now
+-- with those that these steps take
+abbrev pub with_steps : Content → List Step → Content
+with_steps c steps = with_entries c (taken_by steps)
 
--- Of all lines those that come after the done ones are answered, and the state is then t.
-pub record AnswersOn (session : Session) (done all : List (List ℕ)) (t : State) (tells : Bool) (before now : List ℕ) : Type 0 where
+-- this file is the live one of higher generation, with this content
+abbrev pub IsIn : File → Content → Image → Type 0
+IsIn f c i = (end : ℕ) × Holds f c end i
+
+-- These steps are done, and none is at work.
+pub record IsBetween (f : File) (c : Content) (done : List Step) (old i : Image) : Type 0 where
+  pub file : IsIn f (with_steps c done) i
+  pub said : i.said ≡ old.said ++ said_by done
+
+-- Of the steps behind those done the first is at work: its entry stands whole, and a front of its reply is said.
+pub record IsAtWork (f : File) (c : Content) (done rest : List Step) (old i : Image) : Type 0 where
+  pub step : Step
+  pub later : List Step
+  pub first : rest ≡ step ∷ later
+  pub file : IsIn f (with_steps c (done ++ step ∷ [])) i
+  pub said : SaysPart (old.said ++ said_by done) step.reply i.said
+
+-- Of these steps the first ones are done, and the next may be at work. No entry is torn, and nothing is said of a reply whose entry isn't held.
+pub record OfSteps (f : File) (c : Content) (steps : List Step) (old i : Image) : Type 0 where
+  pub done : List Step
+  pub rest : List Step
+  pub split : steps ≡ done ++ rest
+  pub here : IsBetween f c done old i ⊎ IsAtWork f c done rest old i
+  pub other : other_in f i ≡ other_in f old
+
+-- These steps are done between two states of a desk: their entries are held, their replies said, nothing is pending, and a crash at any
+-- moment of it leaves some of them.
+pub record AreDone {D : Type 0} (moment : D → ℕ) (left_since : D → ℕ → Image → Type 0) (state : D → Image) (may_leave : D → Image → Type 0)
+    (c : Content) (steps : List Step) (journal : Journal) (old new : D) : Type 0 where
+  pub file : IsCurrent journal (with_steps c steps) (state new)
+  pub other : other_in journal.file (state new) ≡ other_in journal.file (state old)
+  pub said : (state new).said ≡ (state old).said ++ said_by steps
+  pub settled : IsSettled (state new) (may_leave new)
+  pub moments : LeavesOnly moment left_since old new (OfSteps journal.file c steps (state old))
+
+-- Of all lines those behind the done ones are answered, the state is then t and the journal is this.
+pub record AnswersOn {D : Type 0} (moment : D → ℕ) (left_since : D → ℕ → Image → Type 0) (state : D → Image) (may_leave : D → Image → Type 0)
+    (c : Content) (session : Session) (done all : List (List ℕ)) (t : State) (journal : Journal) (old new : D) : Type 0 where
   pub lines : List (List ℕ)
   pub split : all ≡ done ++ lines
-  pub says : SaysAll (state_of session) session.number lines t tells before now
+  pub steps : List Step
+  pub run : Run (state_of session) session.number lines steps t
+  pub are_done : AreDone moment left_since state may_leave c steps journal old new
 
--- Of the answers to those a front is said.
-pub record StopsWithin (session : Session) (done all : List (List ℕ)) (tells : Bool) (before now : List ℕ) : Type 0 where
+-- Why a session ended at a line, of which this may come: for want of memory or of room, before anything was done for it, or within the
+-- calls of the desk.
+abbrev pub Why : {D : Type 0} → Stop → Journal → List Step → D → D → Type 0
+Why Memory journal work old new = new ≡ old
+Why (Full n) journal work old new =
+    (new ≡ old) × (entry : Entry) × (step : Step) × (later : List Step) × (work ≡ step ∷ later) × (step.taken ≡ entry ∷ [])
+    × (n ≡ journal.end + length (framed entry)) × (journal.limit < n)
+Why Disk journal work old new = Unit {0}
+Why Write journal work old new = Unit {0}
+
+-- Of the lines behind the done ones some are answered, and the session stopped at the next.
+pub record StopsWithin {D : Type 0} (moment : D → ℕ) (left_since : D → ℕ → Image → Type 0) (state : D → Image) (may_leave : D → Image → Type 0)
+    (c : Content) (stop : Stop) (session : Session) (done all : List (List ℕ)) (old new : D) : Type 0 where
   pub lines : List (List ℕ)
-  pub split : all ≡ done ++ lines
-  pub says : SaysFront (state_of session) session.number lines tells before now
+  pub more : List (List ℕ)
+  pub split : all ≡ done ++ (lines ++ more)
+  pub steps : List Step
+  pub reached : State
+  pub run : Run (state_of session) session.number lines steps reached
+  pub mid : D
+  pub journal : Journal
+  pub are_done : AreDone moment left_since state may_leave c steps journal old mid
+  -- what may come of the line at which it stopped, and of the further lines
+  pub work : List Step
+  pub after : State
+  pub run_on : Run reached (session.number + length lines) more work after
+  pub moments : LeavesOnly moment left_since mid new (OfSteps journal.file (with_steps c steps) work (state mid))
+  pub why : Why stop journal work mid new
+  pub limit : journal.limit ≡ session.journal.limit
+  pub file : journal.file ≡ session.journal.file
 
 -- What has come of the next line is kept.
-abbrev pub IsAt : Session → List ℕ → Type 0
-IsAt session taken = session.front.items ≡ kept_of (last_part taken)
+abbrev pub IsAtByte : Session → List ℕ → Type 0
+IsAtByte session taken = session.front.items ≡ kept_of (last_part taken)
 
 -- With this piece behind the bytes taken, the lines that it ends are answered, and what it has of the next is kept.
-pub record GoesOn (old new : Session) (taken piece : List ℕ) (tells : Bool) (before now : List ℕ) : Type 0 where
-  pub answers : AnswersOn old (whole_lines taken) (whole_lines (taken ++ piece)) (state_of new) tells before now
-  pub at : IsAt new (taken ++ piece)
-  pub number : new.number ≡ old.number + length answers.lines
+pub record GoesOn {D : Type 0} (moment : D → ℕ) (left_since : D → ℕ → Image → Type 0) (state : D → Image) (may_leave : D → Image → Type 0)
+    (c : Content) (before now : Session) (taken piece : List ℕ) (old new : D) : Type 0 where
+  pub answers : AnswersOn moment left_since state may_leave c before (whole_lines taken) (whole_lines (taken ++ piece)) (state_of now) now.journal old new
+  pub at : IsAtByte now (taken ++ piece)
+  pub number : now.number ≡ before.number + length answers.lines
 
 -- The line that is kept is answered, and the next begins.
-pub record EndsLine (old new : Session) (tells : Bool) (before now : List ℕ) : Type 0 where
-  pub entries : List Entry
-  pub reply : List ℕ
-  pub answers : Answers (state_of old) old.number old.front.items entries reply (state_of new)
-  pub front : new.front.items ≡ []
-  pub number : new.number ≡ old.number + 1
-  pub said : IsTrue tells → now ≡ before ++ reply
+pub record EndsLine {D : Type 0} (moment : D → ℕ) (left_since : D → ℕ → Image → Type 0) (state : D → Image) (may_leave : D → Image → Type 0)
+    (c : Content) (before now : Session) (old new : D) : Type 0 where
+  pub step : Step
+  pub answers : Answers (state_of before) before.number before.front.items step (state_of now)
+  pub are_done : AreDone moment left_since state may_leave c (step ∷ []) now.journal old new
+  pub front : now.front.items ≡ []
+  pub number : now.number ≡ before.number + 1
 
--- Of the answer to the line that is kept a front is said.
-pub record CutsLine (old : Session) (tells : Bool) (before now : List ℕ) : Type 0 where
-  pub entries : List Entry
-  pub reply : List ℕ
-  pub state : State
-  pub answers : Answers (state_of old) old.number old.front.items entries reply state
-  pub said : IsTrue tells → SaysPart before reply now
+-- The session stopped at the line that is kept.
+pub record CutsLine {D : Type 0} (moment : D → ℕ) (left_since : D → ℕ → Image → Type 0) (state : D → Image) (may_leave : D → Image → Type 0)
+    (c : Content) (stop : Stop) (before : Session) (old new : D) : Type 0 where
+  pub step : Step
+  pub after : State
+  pub answers : Answers (state_of before) before.number before.front.items step after
+  pub moments : LeavesOnly moment left_since old new (OfSteps before.journal.file c (step ∷ []) (state old))
+  pub why : Why stop before.journal (step ∷ []) old new

@@ -1,7 +1,28 @@
 -- The forms that the program's words have.
-use Rattle.std.specs.Prelude.{◌≡◌, List, [], ◌∷◌, map, codes, String, string_bytes}
+use Rattle.std.specs.Prelude.{◌≡◌, ◌⊎◌, ◌≤◌, ◌^◌, ℕ, List, [], ◌∷◌, map, length, codes, slice_index, String, string_bytes}
+use Rattle.std.specs.Str.Parse.{IsNumeral, digits_value}
 use Rattle.std.specs.declared.alloc.Global.{Global}
 
--- `run` alone
-abbrev pub IsRun : List (String Global) → Type 0
-IsRun words = map string_bytes words ≡ codes "run" ∷ []
+-- a number in decimal digits, without a leading zero
+pub record Spells (text : List ℕ) (n : ℕ) : Type 0 where
+  pub numeral : IsNumeral 10 text
+  pub plain : slice_index text 0 ≡ 48 → length text ≡ 1
+  pub value : digits_value 10 text ≡ n
+
+abbrev pub least_limit : ℕ
+least_limit = 64
+
+abbrev pub greatest_limit : ℕ
+greatest_limit = 2 ^ 30
+
+-- a file's limit that the words may give
+pub record IsLimit (text : List ℕ) (limit : ℕ) : Type 0 where
+  pub spelled : Spells text limit
+  pub least : least_limit ≤ limit
+  pub greatest : limit ≤ greatest_limit
+
+-- `run`, with the greatest limit, or `run --limit N` with that one
+abbrev pub IsRun : List (String Global) → ℕ → Type 0
+IsRun words limit =
+    ((map string_bytes words ≡ codes "run" ∷ []) × (limit ≡ greatest_limit))
+    ⊎ ((text : List ℕ) × (map string_bytes words ≡ codes "run" ∷ codes "--limit" ∷ text ∷ []) × IsLimit text limit)

@@ -1,82 +1,35 @@
 // The answer to each line when it has ended.
-ghost use Rattle.std.specs.Prelude.{◌≡◌, ◌+◌, ◌<◌, ◌≤◌, ◌^◌, ◌∷◌, ◌++◌, List, [], ℕ, length, IfOk, IfErr, Err, OnOk, OnErr, IsTrue, Bool, None, string_bytes};
-ghost use Rattle.yw_model.specs.Run.{Entry, placeless, Answers, CommandAnswers};
-ghost use Rattle.yw_model.specs.Replies.{refused};
+ghost use Rattle.std.specs.Prelude.{◌≡◌, ◌+◌, ◌<◌, ◌≤◌, ◌^◌, ◌∷◌, ◌++◌, List, [], ℕ, length, IfErr, Err, OnOk, OnErr, IsTrue};
 ghost use Rattle.yw_model.specs.Lines.{newline, HasNoNewline, whole_lines, all_lines};
-ghost use Rattle.yw_model.specs.State.{State, after, broken, IsProper, IsAsked, IsAllowed};
+ghost use Rattle.yw_model.specs.Run.{Step};
 ghost use Rattle.yw_outside.specs.Causes.{Rose};
-ghost use Rattle.yw_outside.specs.Desk.{Says};
-ghost use Rattle.yw_serve.specs.Session.{state_of, IsAt, GoesOn, AnswersOn, StopsWithin, EndsLine, CutsLine};
+ghost use Rattle.yw_outside.specs.Image.{SaysPart, Speaks};
+ghost use Rattle.yw_outside.specs.Moments.{After, IsSettled, LeavesOnly};
+ghost use Rattle.yw_journal.specs.Files.{Content};
+ghost use Rattle.yw_journal.specs.Journal.{IsCurrent};
+ghost use Rattle.yw_serve.specs.Kept.{kept_of};
+ghost use Rattle.yw_serve.specs.Desks.{Stands, KeepsCounts};
+ghost use Rattle.yw_serve.specs.Plans.{Does, CanBeAppended};
+ghost use Rattle.yw_serve.specs.Session.{state_of, IsAtByte, GoesOn, AnswersOn, StopsWithin, EndsLine, CutsLine, AreDone, OfSteps, Why};
 
-use crate::meaning::meaning_of;
-use crate::persons::Persons;
 use crate::pieces::{keep, split_line};
-use crate::reply::{done_line, refused_line};
+use crate::plan::{Plan, plan_line};
 use crate::session::{Session, Stop};
 use std::alloc::{AllocError, Global};
-use std::slice;
-use yw_base::Text;
-use yw_model::{Command, Event, Meaning, Refusal, Rule};
+use yw_journal::{AppendFault, Journal};
 use yw_outside::{Desk, Failed};
 
-fn apply(persons: &mut Persons, event: Event) -> Result<(), AllocError>
-    ensures { OnOk result (record { persons = persons.new } ≡ after (record { persons = persons.old }) event) }
-{
-    match event {
-        Event::Person { name, roles } => persons.put(name, roles),
-    }
-}
-
-/// The event that a command asks for. A person's command breaks no rule in any state.
-fn event_of(command: Command) -> Event
-    requires { IsProper command }
-    ensures unbroken { (s : State) → broken s command ≡ None }
-    ensures asked { (s : State) → IsAsked s command result }
-    ensures allowed { (s : State) → IsAllowed s result }
-{
-    match command {
-        Command::Person { name, roles } => Event::Person { name, roles },
-    }
-}
-
-fn accept(
-    alloc: Global,
-    persons: &mut Persons,
-    n: u64,
-    command: Command,
-) -> Result<String, AllocError>
-    requires { IsProper command }
-    ensures { IfOk result (λ reply. (entries : List Entry)
-        × CommandAnswers (broken (record { persons = persons.old }) command) command (record { persons = persons.old }) n entries (string_bytes reply) (record { persons = persons.new })) }
-{
-    let event = event_of(command);
-    let reply = done_line(alloc, n, slice::from_ref(&event), true)?;
-    apply(persons, event)?;
-    Ok(reply)
-}
-
-fn refuse(alloc: Global, n: u64, rule: Rule) -> Result<String, AllocError>
-    ensures { IfOk result (λ reply. string_bytes reply ≡ refused n (placeless rule)) }
-{
-    let at = Text::new(alloc);
-    refused_line(alloc, n, &Refusal { rule, at })
-}
-
-/// The reply to a line, and what it does to the persons. An `Err` says that no memory was left.
-fn reply_to(alloc: Global, persons: &mut Persons, n: u64, line: &[u8]) -> Result<String, AllocError>
-    ensures { IfOk result (λ reply. (entries : List Entry)
-        × Answers (record { persons = persons.old }) n line.now entries (string_bytes reply) (record { persons = persons.new })) }
-{
-    match meaning_of(alloc, line)? {
-        Meaning::Bad(rule) => refuse(alloc, n, rule),
-        Meaning::Asks(command) => accept(alloc, persons, n, command),
-    }
-}
-
-fn say<D: Desk>(desk: &mut D, text: &str) -> Result<(), Stop>
-    ensures tells { D.tells desk.new ≡ D.tells desk.old }
-    ensures said { IsTrue (D.tells desk.old) → Says (D.said desk.old) text.now result (D.said desk.new) }
-    ensures later { D.say_faults desk.old ≤ D.say_faults desk.new }
+/// Says a text. At `Write` a front of it may have been said.
+pub fn tell<D: Desk>(desk: &mut D, text: &str) -> Result<(), Stop>
+    ensures said { OnOk result (IsTrue (D.tells desk.old) → (D.state desk.new).said ≡ (D.state desk.old).said ++ text.now) }
+    ensures a { (D.state desk.new).a ≡ (D.state desk.old).a }
+    ensures b { (D.state desk.new).b ≡ (D.state desk.old).b }
+    ensures settled { IsTrue (D.tells desk.old) → IsSettled (D.state desk.old) (D.may_leave desk.old) → IsSettled (D.state desk.new) (D.may_leave desk.new) }
+    ensures any_moment { IsTrue (D.tells desk.old) → IsSettled (D.state desk.old) (D.may_leave desk.old)
+        → LeavesOnly D.moment D.left_since desk.old desk.new (Speaks text.now (D.state desk.old)) }
+    ensures part { IsTrue (D.tells desk.old) → SaysPart (D.state desk.old).said text.now (D.state desk.new).said }
+    ensures passes { IsTrue (D.tells desk.old) → LeavesOnly D.moment D.left_since desk.old desk.new (After (Speaks text.now) (D.may_leave desk.old)) }
+    ensures counts { KeepsCounts D.tells D.disk_faults D.say_faults desk.old desk.new }
     ensures write { IfErr result (λ stop. (stop ≡ Stop.Write) × Rose (D.say_faults desk.old) (D.say_faults desk.new)) }
 {
     match desk.say(text.as_bytes()) {
@@ -85,23 +38,58 @@ fn say<D: Desk>(desk: &mut D, text: &str) -> Result<(), Stop>
     }
 }
 
-/// Answers the line that is kept, and begins the next.
-fn end_line<D: Desk>(alloc: Global, session: &mut Session, desk: &mut D) -> Result<(), Stop>
-    requires { session.old.number + 1 < 2 ^ 64 }
-    ensures ok { OnOk result (EndsLine session.old session.new (D.tells desk.old) (D.said desk.old) (D.said desk.new)) }
-    ensures err { OnErr result (CutsLine session.old (D.tells desk.old) (D.said desk.old) (D.said desk.new)) }
-    ensures number { session.new.number ≤ session.old.number + 1 }
-    ensures tells { D.tells desk.new ≡ D.tells desk.old }
-    ensures later { D.say_faults desk.old ≤ D.say_faults desk.new }
+/// Does what is planned: what is appended is on the disk before its reply is said.
+fn carry_out<D: Desk>(journal: &mut Journal, plan: &Plan, desk: &mut D) -> Result<(), Stop>
+    requires framed { CanBeAppended plan.now }
+    requires stands { Stands D.tells D.state D.may_leave journal.old desk.old }
+
+    ensures ok { OnOk result (IsTrue (D.tells desk.old) → (c : Content) (step : Step) → IsCurrent journal.old c (D.state desk.old) → Does plan.now step
+        → AreDone D.moment D.left_since D.state D.may_leave c (step ∷ []) journal.new desk.old desk.new) }
+    ensures moments { OnErr result (IsTrue (D.tells desk.old) → (c : Content) (step : Step) → IsCurrent journal.old c (D.state desk.old) → Does plan.now step
+        → LeavesOnly D.moment D.left_since desk.old desk.new (OfSteps journal.old.file c (step ∷ []) (D.state desk.old))) }
+    ensures why { IfErr result (λ stop. IsTrue (D.tells desk.old) → (step : Step) → Does plan.now step → Why stop journal.old (step ∷ []) desk.old desk.new) }
+
+    ensures stands { OnOk result (Stands D.tells D.state D.may_leave journal.new desk.new) }
+    ensures file { journal.new.file ≡ journal.old.file }
+    ensures limit { journal.new.limit ≡ journal.old.limit }
+    ensures counts { KeepsCounts D.tells D.disk_faults D.say_faults desk.old desk.new }
+    ensures disk { result ≡ Err Stop.Disk → Rose (D.disk_faults desk.old) (D.disk_faults desk.new) }
     ensures write { result ≡ Err Stop.Write → Rose (D.say_faults desk.old) (D.say_faults desk.new) }
 {
-    let reply = match reply_to(alloc, &mut session.persons, session.number, &session.front) {
-        Ok(reply) => reply,
+    match plan {
+        Plan::Refuse(reply) => tell(desk, reply.as_str()),
+        Plan::Accept(entry, reply) => match journal.append(desk, entry) {
+            Ok(()) => tell(desk, reply.as_str()),
+            Err(AppendFault::Disk) => Err(Stop::Disk),
+            Err(AppendFault::Full(end)) => Err(Stop::Full(end)),
+        },
+    }
+}
+
+/// Answers the line that is kept, and begins the next.
+fn end_line<D: Desk>(alloc: Global, session: &mut Session, desk: &mut D) -> Result<(), Stop>
+    requires number { session.old.number + 1 < 2 ^ 64 }
+    requires stands { Stands D.tells D.state D.may_leave session.old.journal desk.old }
+
+    ensures ok { OnOk result (IsTrue (D.tells desk.old) → (c : Content) → IsCurrent session.old.journal c (D.state desk.old)
+        → EndsLine D.moment D.left_since D.state D.may_leave c session.old session.new desk.old desk.new) }
+    ensures err { IfErr result (λ stop. IsTrue (D.tells desk.old) → (c : Content) → IsCurrent session.old.journal c (D.state desk.old)
+        → CutsLine D.moment D.left_since D.state D.may_leave c stop session.old desk.old desk.new) }
+    ensures number { session.new.number ≤ session.old.number + 1 }
+    ensures stands { OnOk result (Stands D.tells D.state D.may_leave session.new.journal desk.new) }
+    ensures file { session.new.journal.file ≡ session.old.journal.file }
+    ensures limit { session.new.journal.limit ≡ session.old.journal.limit }
+    ensures counts { KeepsCounts D.tells D.disk_faults D.say_faults desk.old desk.new }
+    ensures disk { result ≡ Err Stop.Disk → Rose (D.disk_faults desk.old) (D.disk_faults desk.new) }
+    ensures write { result ≡ Err Stop.Write → Rose (D.say_faults desk.old) (D.say_faults desk.new) }
+{
+    let plan = match plan_line(alloc, &mut session.persons, session.number, &session.front) {
+        Ok(plan) => plan,
         Err(AllocError) => return Err(Stop::Memory),
     };
     session.front.clear();
     session.number += 1;
-    say(desk, reply.as_str())
+    carry_out(&mut session.journal, &plan, desk)
 }
 
 /// Takes the rest of a line and its newline, and answers it.
@@ -113,13 +101,18 @@ fn take_line<D: Desk>(
 ) -> Result<(), Stop>
     requires number { session.old.number + 1 < 2 ^ 64 }
     requires part { HasNoNewline part.now }
-    ensures ok { OnOk result ((taken : List ℕ) → IsAt session.old taken
-        → GoesOn session.old session.new taken (part.now ++ newline ∷ []) (D.tells desk.old) (D.said desk.old) (D.said desk.new)) }
-    ensures err { OnErr result ((taken : List ℕ) → IsAt session.old taken
-        → StopsWithin session.old (whole_lines taken) (whole_lines (taken ++ (part.now ++ newline ∷ []))) (D.tells desk.old) (D.said desk.old) (D.said desk.new)) }
+    requires stands { Stands D.tells D.state D.may_leave session.old.journal desk.old }
+
+    ensures ok { OnOk result (IsTrue (D.tells desk.old) → (c : Content) (taken : List ℕ) → IsCurrent session.old.journal c (D.state desk.old) → IsAtByte session.old taken
+        → GoesOn D.moment D.left_since D.state D.may_leave c session.old session.new taken (part.now ++ newline ∷ []) desk.old desk.new) }
+    ensures err { IfErr result (λ stop. IsTrue (D.tells desk.old) → (c : Content) (taken : List ℕ) → IsCurrent session.old.journal c (D.state desk.old) → IsAtByte session.old taken
+        → StopsWithin D.moment D.left_since D.state D.may_leave c stop session.old (whole_lines taken) (whole_lines (taken ++ (part.now ++ newline ∷ []))) desk.old desk.new) }
     ensures count { session.new.number ≤ session.old.number + 1 }
-    ensures tells { D.tells desk.new ≡ D.tells desk.old }
-    ensures later { D.say_faults desk.old ≤ D.say_faults desk.new }
+    ensures stands { OnOk result (Stands D.tells D.state D.may_leave session.new.journal desk.new) }
+    ensures file { session.new.journal.file ≡ session.old.journal.file }
+    ensures limit { session.new.journal.limit ≡ session.old.journal.limit }
+    ensures counts { KeepsCounts D.tells D.disk_faults D.say_faults desk.old desk.new }
+    ensures disk { result ≡ Err Stop.Disk → Rose (D.disk_faults desk.old) (D.disk_faults desk.new) }
     ensures write { result ≡ Err Stop.Write → Rose (D.say_faults desk.old) (D.say_faults desk.new) }
 {
     match keep(&mut session.front, part) {
@@ -131,9 +124,10 @@ fn take_line<D: Desk>(
 /// Takes bytes that end no line.
 fn take_part(session: &mut Session, part: &[u8]) -> Result<(), Stop>
     requires { HasNoNewline part.now }
-    ensures ok { OnOk result ((taken : List ℕ) (tells : Bool) (said : List ℕ) → IsAt session.old taken
-        → GoesOn session.old session.new taken part.now tells said said) }
+    ensures ok { OnOk result (session.new.front.items ≡ kept_of (session.old.front.items ++ part.now)) }
+    ensures state { state_of session.new ≡ state_of session.old }
     ensures number { session.new.number ≡ session.old.number }
+    ensures journal { session.new.journal ≡ session.old.journal }
     ensures memory { IfErr result (λ stop. stop ≡ Stop.Memory) }
 {
     match keep(&mut session.front, part) {
@@ -149,14 +143,19 @@ pub fn feed<D: Desk>(
     desk: &mut D,
     piece: &[u8],
 ) -> Result<(), Stop>
-    requires { session.old.number + length piece.now < 2 ^ 64 }
-    ensures ok { OnOk result ((taken : List ℕ) → IsAt session.old taken
-        → GoesOn session.old session.new taken piece.now (D.tells desk.old) (D.said desk.old) (D.said desk.new)) }
-    ensures err { OnErr result ((taken : List ℕ) → IsAt session.old taken
-        → StopsWithin session.old (whole_lines taken) (whole_lines (taken ++ piece.now)) (D.tells desk.old) (D.said desk.old) (D.said desk.new)) }
+    requires number { session.old.number + length piece.now < 2 ^ 64 }
+    requires stands { Stands D.tells D.state D.may_leave session.old.journal desk.old }
+
+    ensures ok { OnOk result (IsTrue (D.tells desk.old) → (c : Content) (taken : List ℕ) → IsCurrent session.old.journal c (D.state desk.old) → IsAtByte session.old taken
+        → GoesOn D.moment D.left_since D.state D.may_leave c session.old session.new taken piece.now desk.old desk.new) }
+    ensures err { IfErr result (λ stop. IsTrue (D.tells desk.old) → (c : Content) (taken : List ℕ) → IsCurrent session.old.journal c (D.state desk.old) → IsAtByte session.old taken
+        → StopsWithin D.moment D.left_since D.state D.may_leave c stop session.old (whole_lines taken) (whole_lines (taken ++ piece.now)) desk.old desk.new) }
     ensures number { session.new.number ≤ session.old.number + length piece.now }
-    ensures tells { D.tells desk.new ≡ D.tells desk.old }
-    ensures later { D.say_faults desk.old ≤ D.say_faults desk.new }
+    ensures stands { OnOk result (Stands D.tells D.state D.may_leave session.new.journal desk.new) }
+    ensures file { session.new.journal.file ≡ session.old.journal.file }
+    ensures limit { session.new.journal.limit ≡ session.old.journal.limit }
+    ensures counts { KeepsCounts D.tells D.disk_faults D.say_faults desk.old desk.new }
+    ensures disk { result ≡ Err Stop.Disk → Rose (D.disk_faults desk.old) (D.disk_faults desk.new) }
     ensures write { result ≡ Err Stop.Write → Rose (D.say_faults desk.old) (D.say_faults desk.new) }
 {
     let mut rest = piece;
@@ -169,13 +168,18 @@ pub fn feed<D: Desk>(
 
 /// Answers the last line, where bytes follow the last newline.
 pub fn finish<D: Desk>(alloc: Global, session: &mut Session, desk: &mut D) -> Result<(), Stop>
-    requires { session.old.number + 1 < 2 ^ 64 }
-    ensures ok { OnOk result ((taken : List ℕ) → IsAt session.old taken
-        → AnswersOn session.old (whole_lines taken) (all_lines taken) (state_of session.new) (D.tells desk.old) (D.said desk.old) (D.said desk.new)) }
-    ensures err { OnErr result ((taken : List ℕ) → IsAt session.old taken
-        → StopsWithin session.old (whole_lines taken) (all_lines taken) (D.tells desk.old) (D.said desk.old) (D.said desk.new)) }
-    ensures tells { D.tells desk.new ≡ D.tells desk.old }
-    ensures later { D.say_faults desk.old ≤ D.say_faults desk.new }
+    requires number { session.old.number + 1 < 2 ^ 64 }
+    requires stands { Stands D.tells D.state D.may_leave session.old.journal desk.old }
+
+    ensures ok { OnOk result (IsTrue (D.tells desk.old) → (c : Content) (taken : List ℕ) → IsCurrent session.old.journal c (D.state desk.old) → IsAtByte session.old taken
+        → AnswersOn D.moment D.left_since D.state D.may_leave c session.old (whole_lines taken) (all_lines taken) (state_of session.new) session.new.journal desk.old desk.new) }
+    ensures err { IfErr result (λ stop. IsTrue (D.tells desk.old) → (c : Content) (taken : List ℕ) → IsCurrent session.old.journal c (D.state desk.old) → IsAtByte session.old taken
+        → StopsWithin D.moment D.left_since D.state D.may_leave c stop session.old (whole_lines taken) (all_lines taken) desk.old desk.new) }
+    ensures stands { OnOk result (Stands D.tells D.state D.may_leave session.new.journal desk.new) }
+    ensures file { session.new.journal.file ≡ session.old.journal.file }
+    ensures limit { session.new.journal.limit ≡ session.old.journal.limit }
+    ensures counts { KeepsCounts D.tells D.disk_faults D.say_faults desk.old desk.new }
+    ensures disk { result ≡ Err Stop.Disk → Rose (D.disk_faults desk.old) (D.disk_faults desk.new) }
     ensures write { result ≡ Err Stop.Write → Rose (D.say_faults desk.old) (D.say_faults desk.new) }
 {
     if session.front.is_empty() {

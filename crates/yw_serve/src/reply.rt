@@ -9,8 +9,8 @@ use serde_json::{Value, json};
 use std::alloc::{AllocError, Global};
 use yw_model::{Event, Refusal};
 
-// A value without floats as a line.
-fn value_line(alloc: Global, value: &Value) -> Result<String, AllocError>
+/// A value without floats as a line. An `Err` says that no memory was left.
+pub fn value_line(alloc: Global, value: &Value) -> Result<String, AllocError>
     ensures { has_float (view value.now) ≡ false → IfOk result (λ line. string_bytes line ≡ line_of (view value.now)) }
 {
     let mut line = value.to_string(alloc)?;

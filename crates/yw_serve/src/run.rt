@@ -1,15 +1,32 @@
 // The loop over the input.
-ghost use Rattle.std.specs.Prelude.{◌≡◌, ◌+◌, ◌<◌, ◌≤◌, ◌^◌, List, ℕ, take, length, Some, IfOk, IfSome, IsTrue, MatchResult, MatchOption, IsNone, vec_len};
+ghost use Rattle.std.specs.Prelude.{◌≡◌, ◌+◌, ◌<◌, ◌≤◌, ◌^◌, List, [], ℕ, take, length, Some, IfOk, IsTrue, MatchResult, MatchOption, IsNone, vec_len};
 ghost use Rattle.std.specs.Io.KnownBytes.{Consumes, Keeps, IsAtEnd};
 ghost use Rattle.yw_outside.specs.Causes.{Rose, HasCause};
-ghost use Rattle.yw_serve.specs.Ends.{Ends, IsOfRun};
+ghost use Rattle.yw_journal.specs.Files.{Content};
+ghost use Rattle.yw_journal.specs.Journal.{IsCurrent};
+ghost use Rattle.yw_model.specs.State.{State};
+ghost use Rattle.yw_serve.specs.Desks.{Stands, KeepsCounts};
+ghost use Rattle.yw_serve.specs.Ends.{EndsAs};
 ghost use Rattle.yw_serve.specs.Reading.{HasRead};
+ghost use Rattle.yw_serve.specs.Session.{state_of};
 
 use crate::answer::{feed, finish};
 use crate::session::{Session, Stop};
-use crate::top::Status;
 use std::alloc::{AllocError, Global};
 use yw_outside::{Desk, Failed, Source};
+
+/// How the answering of an input ends.
+#[derive(Clone, Copy, Debug, PartialEq, Eq)]
+pub enum Ending {
+    /// The input was read to its end, and every line answered.
+    Whole,
+    /// The input couldn't be read further.
+    Unread,
+    /// More bytes came than an input may have.
+    Past,
+    /// A line couldn't be answered.
+    Stopped(Stop),
+}
 
 const PIECE: usize = 65536;
 
@@ -28,13 +45,13 @@ fn read_piece<S: Source>(source: &mut S, piece: &mut [u8], most: usize) -> Resul
 }
 
 // Room for a piece.
-fn new_piece(alloc: Global) -> Result<Vec<u8>, AllocError>
+pub fn new_piece(alloc: Global) -> Result<Vec<u8>, AllocError>
     ensures { IfOk result (λ piece. vec_len piece ≡ 65536) }
 {
     vec![in alloc; 0u8; PIECE]
 }
 
-/// Reads once and answers the lines that end in the piece. It answers a status where that was the last turn.
+/// Reads once and answers the lines that end in the piece. It answers an ending where that was the last turn.
 fn turn<S: Source, D: Desk>(
     alloc: Global,
     limit: usize,
@@ -43,69 +60,72 @@ fn turn<S: Source, D: Desk>(
     piece: &mut [u8],
     source: &mut S,
     desk: &mut D,
-) -> Option<Status>
+) -> Option<Ending>
     requires limit { limit ≤ 4294967296 }
     requires within { taken.old ≤ limit }
     requires room { 0 < length piece.old }
     requires number { session.old.number ≤ taken.old + 1 }
-    ensures ends { (bytes before : List ℕ) → HasRead session.old limit taken.old bytes (S.left source.old) (D.tells desk.old) before (D.said desk.old)
-        → MatchOption result (HasRead session.new limit taken.new bytes (S.left source.new) (D.tells desk.old) before (D.said desk.new))
-        (λ status. Ends status limit bytes (S.left source.new) (S.piece source.new) (D.tells desk.old) before (D.said desk.new)) }
-    ensures told { IfSome result IsOfRun }
+    requires stands { Stands D.tells D.state D.may_leave session.old.journal desk.old }
+
+    ensures ends { IsTrue (D.tells desk.old) → (c : Content) (s : State) (bytes : List ℕ) (start : D)
+        → HasRead D.moment D.left_since D.state D.may_leave c s session.old limit taken.old bytes (S.left source.old) start desk.old
+        → MatchOption result (HasRead D.moment D.left_since D.state D.may_leave c s session.new limit taken.new bytes (S.left source.new) start desk.new)
+        (λ ending. EndsAs D.moment D.left_since D.state D.may_leave ending c s session.old.journal.limit limit bytes (S.left source.new) (S.piece source.new) start desk.new) }
     ensures progress { IsNone result → (taken.old < taken.new) × (taken.new ≤ limit + 1) × (session.new.number ≤ taken.new + 1) }
-    ensures tells { D.tells desk.new ≡ D.tells desk.old }
+    ensures stands { IsNone result → (Stands D.tells D.state D.may_leave session.new.journal desk.new) }
+    ensures file { session.new.journal.file ≡ session.old.journal.file }
+    ensures limited { session.new.journal.limit ≡ session.old.journal.limit }
+    ensures counts { KeepsCounts D.tells D.disk_faults D.say_faults desk.old desk.new }
     ensures source_later { S.faults source.old ≤ S.faults source.new }
-    ensures desk_later { D.say_faults desk.old ≤ D.say_faults desk.new }
-    ensures read { result ≡ Some Status.Read → Rose (S.faults source.old) (S.faults source.new) }
-    ensures write { result ≡ Some Status.Write → Rose (D.say_faults desk.old) (D.say_faults desk.new) }
+    ensures read { result ≡ Some Ending.Unread → Rose (S.faults source.old) (S.faults source.new) }
+    ensures disk { result ≡ Some (Ending.Stopped Stop.Disk) → Rose (D.disk_faults desk.old) (D.disk_faults desk.new) }
+    ensures write { result ≡ Some (Ending.Stopped Stop.Write) → Rose (D.say_faults desk.old) (D.say_faults desk.new) }
 {
     let count = match read_piece(source, piece, limit - *taken + 1) {
         Ok(count) => count,
-        Err(Failed) => return Some(Status::Read),
+        Err(Failed) => return Some(Ending::Unread),
     };
     if count == 0 {
         return match finish(alloc, session, desk) {
-            Ok(()) => Some(Status::Ok),
-            Err(Stop::Write) => Some(Status::Write),
-            Err(Stop::Memory) => Some(Status::Memory),
+            Ok(()) => Some(Ending::Whole),
+            Err(stop) => Some(Ending::Stopped(stop)),
         };
     }
     let kept = count.min(limit - *taken);
     *taken += count;
     match feed(alloc, session, desk, &piece[..kept]) {
         Ok(()) => None,
-        Err(Stop::Write) => Some(Status::Write),
-        Err(Stop::Memory) => Some(Status::Memory),
+        Err(stop) => Some(Ending::Stopped(stop)),
     }
 }
 
 /// Answers each line of the input, as far as the limit goes.
-pub fn run<S: Source, D: Desk>(alloc: Global, limit: usize, source: &mut S, desk: &mut D) -> Status
-    requires { limit ≤ 4294967296 }
-    ensures ends { (bytes : List ℕ) → S.left source.old ≡ Some bytes
-        → Ends result limit bytes (S.left source.new) (S.piece source.new) (D.tells desk.old) (D.said desk.old) (D.said desk.new) }
-    ensures told { IsOfRun result }
-    ensures tells { D.tells desk.new ≡ D.tells desk.old }
-    ensures read { result ≡ Status.Read → Rose (S.faults source.old) (S.faults source.new) }
-    ensures write { result ≡ Status.Write → Rose (D.say_faults desk.old) (D.say_faults desk.new) }
+pub fn run<S: Source, D: Desk>(
+    alloc: Global,
+    limit: usize,
+    session: &mut Session,
+    piece: &mut [u8],
+    source: &mut S,
+    desk: &mut D,
+) -> Ending
+    requires limit { limit ≤ 4294967296 }
+    requires room { 0 < length piece.old }
+    requires number { session.old.number ≡ 1 }
+    requires front { session.old.front.items ≡ [] }
+    requires stands { Stands D.tells D.state D.may_leave session.old.journal desk.old }
+
+    ensures ends { IsTrue (D.tells desk.old) → (c : Content) (bytes : List ℕ) → IsCurrent session.old.journal c (D.state desk.old) → S.left source.old ≡ Some bytes
+        → EndsAs D.moment D.left_since D.state D.may_leave result c (state_of session.old) session.old.journal.limit limit bytes (S.left source.new) (S.piece source.new) desk.old desk.new }
+    ensures counts { KeepsCounts D.tells D.disk_faults D.say_faults desk.old desk.new }
+    ensures read { result ≡ Ending.Unread → Rose (S.faults source.old) (S.faults source.new) }
+    ensures disk { result ≡ Ending.Stopped Stop.Disk → Rose (D.disk_faults desk.old) (D.disk_faults desk.new) }
+    ensures write { result ≡ Ending.Stopped Stop.Write → Rose (D.say_faults desk.old) (D.say_faults desk.new) }
 {
-    let Ok(mut piece) = new_piece(alloc) else {
-        return Status::Memory;
-    };
-    let mut session = Session::new(alloc);
     let mut taken: usize = 0;
     while taken <= limit {
-        if let Some(status) = turn(
-            alloc,
-            limit,
-            &mut taken,
-            &mut session,
-            &mut piece,
-            source,
-            desk,
-        ) {
-            return status;
+        if let Some(ending) = turn(alloc, limit, &mut taken, session, piece, source, desk) {
+            return ending;
         }
     }
-    Status::InputLimit
+    Ending::Past
 }

@@ -3,17 +3,22 @@ ghost use Rattle.std.specs.Prelude.{◌≡◌, ◌≤◌, [], vec_len};
 
 use crate::persons::Persons;
 use std::alloc::Global;
+use yw_journal::Journal;
 
 /// Why a session ends before its input does.
 #[derive(Clone, Copy, Debug, PartialEq, Eq)]
 pub enum Stop {
+    /// An entry couldn't be written, or not be synced.
+    Disk,
     /// A reply couldn't be said whole.
     Write,
     /// No memory was left.
     Memory,
+    /// The file with the entry would be this long, which is more than its limit.
+    Full(u64),
 }
 
-/// The state, and where the session stands in its input.
+/// The state, where it is kept, and where the session stands in its input.
 #[derive(Drop)]
 pub struct Session {
     /// What has come of the next line. Of one that is too long, one byte more than a line may have.
@@ -22,23 +27,26 @@ pub struct Session {
     pub number: u64,
     /// The roles of each person.
     pub persons: Persons,
+    /// Where entries are appended.
+    pub journal: Journal,
     ghost bounded: { vec_len front ≤ 1048577 },
 }
 
 impl Session {
-    ghost use Rattle.yw_model.specs.State.{opening};
     ghost use Rattle.yw_serve.specs.Session.{state_of};
 
-    /// A session in the opening state, before its first line. It takes no memory.
-    pub fn new(alloc: Global) -> Session
+    /// A session before its first line, with the state that the files hold. It takes no memory.
+    pub fn new(alloc: Global, persons: Persons, journal: Journal) -> Session
         ensures front { result.front.items ≡ [] }
         ensures number { result.number ≡ 1 }
-        ensures state { state_of result ≡ opening }
+        ensures state { state_of result ≡ record { persons = persons } }
+        ensures journal { result.journal ≡ journal }
     {
         Session {
             front: Vec::new(alloc),
             number: 1,
-            persons: Persons::new(alloc),
+            persons,
+            journal,
         }
     }
 }

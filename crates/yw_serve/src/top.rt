@@ -1,12 +1,29 @@
 // The top call.
-ghost use Rattle.std.specs.Prelude.{◌≡◌, ◌≤◌, ◌↔◌, ◌⊎◌, ℕ, List, length, Some, IsTrue};
+ghost use Rattle.std.specs.Prelude.{◌≡◌, ◌≢◌, ◌≤◌, ◌<◌, ◌^◌, ◌↔◌, ◌⊎◌, ℕ, List, length, true, Some, IsTrue, MatchResult, string_bytes};
+ghost use Rattle.std.specs.declared.option.Option.{Option};
+ghost use Rattle.yw_serve.specs.Ends.{EndsAs, EndsShort};
+ghost use Rattle.yw_serve.specs.Opening.{LeftByOpening, opened_state};
 ghost use Rattle.yw_outside.specs.Causes.{Rose};
-ghost use Rattle.yw_serve.specs.Ends.{EndsWhole, EndsBetween, EndsPast, EndsShort, IsAnswered};
+ghost use Rattle.yw_outside.specs.declared.image.Image.{Image};
+ghost use Rattle.yw_journal.specs.Files.{Content};
+ghost use Rattle.yw_journal.specs.Journal.{IsCurrent};
+ghost use Rattle.yw_model.specs.Lines.{lines};
+ghost use Rattle.yw_model.specs.State.{State};
+ghost use Rattle.yw_serve.specs.Damage.{HoldNow};
+ghost use Rattle.yw_serve.specs.Desks.{Stands, KeepsCounts};
+ghost use Rattle.yw_serve.specs.Headline.{Serves, HoldsFront};
+ghost use Rattle.yw_serve.specs.Notices.{damage_line, full_line};
+ghost use Rattle.yw_serve.specs.Served.{RunEnds, RunsFrom, OpeningEnds, IsTold, IsOfRun, IsAnswered};
 ghost use Rattle.yw_serve.specs.Words.{IsRun};
 
-use crate::run::run;
-use std::alloc::Global;
-use yw_outside::{Desk, Source};
+use crate::answer::tell;
+use crate::notice::{write_damage, write_full};
+use crate::opening::{OpenFault, Opened, open};
+use crate::run::{Ending, new_piece, run};
+use crate::session::{Session, Stop};
+use crate::words::file_limit;
+use std::alloc::{AllocError, Global};
+use yw_outside::{Desk, File, Source};
 
 /// How the program ends. The program's exit status is the number, from 0.
 #[derive(Clone, Copy, Debug, PartialEq, Eq)]
@@ -15,19 +32,19 @@ pub enum Status {
     Ok,
     /// A text was looked at and found wanting. No words built so far look at one.
     Findings,
-    /// The words have none of the forms. Nothing was read or said.
+    /// The words have none of the forms. Nothing was read, said or written.
     Usage,
-    /// A file couldn't be read or written. No words built so far touch one.
+    /// A file couldn't be read, written or synced.
     Disk,
     /// No memory was left.
     Memory,
     /// The input couldn't be read.
     Read,
-    /// A reply couldn't be said whole.
+    /// A line couldn't be said whole.
     Write,
-    /// The files hold no state. No words built so far read one.
+    /// The files hold no state.
     Damaged,
-    /// A file would be longer than its limit. No words built so far write one.
+    /// A file would be longer than its limit.
     Full,
     /// More bytes came than an input may have.
     InputLimit,
@@ -36,60 +53,186 @@ pub enum Status {
 /// The most bytes of an input.
 pub const INPUT_LIMIT: usize = 4_294_967_296;
 
-fn is_run(words: &[String]) -> bool
-    ensures { IsTrue result ↔ IsRun words.now }
+/// Says a line beside the replies, and answers this status where that could be done.
+fn tell_notice<D: Desk>(line: Result<String, AllocError>, status: Status, desk: &mut D) -> Status
+    ensures told { IsTrue (D.tells desk.old) → MatchResult line
+        (λ text. IsTold D.moment D.left_since D.state D.may_leave result status (string_bytes text) desk.old desk.new)
+        (λ _. (result ≡ Status.Memory) × (desk.new ≡ desk.old)) }
+    ensures statuses { (result ≡ status) ⊎ (result ≡ Status.Write) ⊎ (result ≡ Status.Memory) }
+    ensures counts { KeepsCounts D.tells D.disk_faults D.say_faults desk.old desk.new }
+    ensures write { result ≡ Status.Write → (status ≡ Status.Write) ⊎ Rose (D.say_faults desk.old) (D.say_faults desk.new) }
 {
-    match words {
-        [word] => word.as_str() == "run",
-        _ => false,
+    match line {
+        Ok(line) => match tell(desk, line.as_str()) {
+            Ok(()) => status,
+            Err(_) => Status::Write,
+        },
+        Err(AllocError) => Status::Memory,
     }
 }
 
-/// All that the program does. The words are `run` alone: each line of the source is answered by one line said
-/// on the desk, in order, when its newline or the end of the input has come. The answers are a run over the
-/// lines, from the opening state on, as `yw_model` defines it.
+/// Says that a file has no room.
+fn tell_full<D: Desk>(alloc: Global, length: u64, desk: &mut D) -> Status
+    ensures told { IsTrue (D.tells desk.old) → IsTold D.moment D.left_since D.state D.may_leave result Status.Full (full_line length) desk.old desk.new }
+    ensures statuses { (result ≡ Status.Full) ⊎ (result ≡ Status.Write) ⊎ (result ≡ Status.Memory) }
+    ensures counts { KeepsCounts D.tells D.disk_faults D.say_faults desk.old desk.new }
+    ensures write { result ≡ Status.Write → Rose (D.say_faults desk.old) (D.say_faults desk.new) }
+{
+    tell_notice(write_full(alloc, length), Status::Full, desk)
+}
+
+/// Says that the files are damaged.
+fn tell_damage<D: Desk>(alloc: Global, file: File, place: u64, desk: &mut D) -> Status
+    ensures told { IsTrue (D.tells desk.old) → IsTold D.moment D.left_since D.state D.may_leave result Status.Damaged (damage_line file place) desk.old desk.new }
+    ensures statuses { (result ≡ Status.Damaged) ⊎ (result ≡ Status.Write) ⊎ (result ≡ Status.Memory) }
+    ensures counts { KeepsCounts D.tells D.disk_faults D.say_faults desk.old desk.new }
+    ensures write { result ≡ Status.Write → Rose (D.say_faults desk.old) (D.say_faults desk.new) }
+{
+    tell_notice(write_damage(alloc, file, place), Status::Damaged, desk)
+}
+
+/// The status of a run that stopped. Where a line had no room, it is said first.
+fn status_of_stop<D: Desk>(alloc: Global, stop: Stop, desk: &mut D) -> Status
+    ensures ends { IsTrue (D.tells desk.old) → (c : Content) (s : State) (full_at limit piece : ℕ) (bytes : List ℕ) (left : Option (List ℕ)) (start : D)
+        → EndsShort D.moment D.left_since D.state D.may_leave c s full_at limit stop bytes left piece start desk.old
+        → RunEnds D.moment D.left_since D.state D.may_leave result c s full_at limit bytes left piece start desk.new }
+    ensures told { IsOfRun result }
+    ensures counts { KeepsCounts D.tells D.disk_faults D.say_faults desk.old desk.new }
+    ensures read { result ≢ Status.Read }
+    ensures disk { result ≡ Status.Disk → stop ≡ Stop.Disk }
+    ensures write { result ≡ Status.Write → (stop ≡ Stop.Write) ⊎ Rose (D.say_faults desk.old) (D.say_faults desk.new) }
+{
+    match stop {
+        Stop::Disk => Status::Disk,
+        Stop::Write => Status::Write,
+        Stop::Memory => Status::Memory,
+        Stop::Full(length) => tell_full(alloc, length, desk),
+    }
+}
+
+/// The status of a run's ending.
+fn status_of<D: Desk>(alloc: Global, ending: Ending, desk: &mut D) -> Status
+    ensures ends { IsTrue (D.tells desk.old) → (c : Content) (s : State) (full_at limit piece : ℕ) (bytes : List ℕ) (left : Option (List ℕ)) (start : D)
+        → EndsAs D.moment D.left_since D.state D.may_leave ending c s full_at limit bytes left piece start desk.old
+        → RunEnds D.moment D.left_since D.state D.may_leave result c s full_at limit bytes left piece start desk.new }
+    ensures told { IsOfRun result }
+    ensures counts { KeepsCounts D.tells D.disk_faults D.say_faults desk.old desk.new }
+    ensures read { result ≡ Status.Read → ending ≡ Ending.Unread }
+    ensures disk { result ≡ Status.Disk → ending ≡ Ending.Stopped Stop.Disk }
+    ensures write { result ≡ Status.Write → (ending ≡ Ending.Stopped Stop.Write) ⊎ Rose (D.say_faults desk.old) (D.say_faults desk.new) }
+{
+    match ending {
+        Ending::Whole => Status::Ok,
+        Ending::Unread => Status::Read,
+        Ending::Past => Status::InputLimit,
+        Ending::Stopped(stop) => status_of_stop(alloc, stop, desk),
+    }
+}
+
+/// Answers the lines of the input over files that were opened.
+fn serve_lines<S: Source, D: Desk>(
+    alloc: Global,
+    opened: Opened,
+    piece: &mut [u8],
+    source: &mut S,
+    desk: &mut D,
+) -> Status
+    requires room { 0 < length piece.old }
+    requires stands { Stands D.tells D.state D.may_leave opened.journal desk.old }
+
+    ensures ends { IsTrue (D.tells desk.old) → (c : Content) (bytes : List ℕ) → IsCurrent opened.journal c (D.state desk.old) → S.left source.old ≡ Some bytes
+        → RunEnds D.moment D.left_since D.state D.may_leave result c (opened_state opened) opened.journal.limit INPUT_LIMIT bytes (S.left source.new) (S.piece source.new) desk.old desk.new }
+    ensures told { IsOfRun result }
+    ensures counts { KeepsCounts D.tells D.disk_faults D.say_faults desk.old desk.new }
+    ensures read { result ≡ Status.Read → Rose (S.faults source.old) (S.faults source.new) }
+    ensures disk { result ≡ Status.Disk → Rose (D.disk_faults desk.old) (D.disk_faults desk.new) }
+    ensures write { result ≡ Status.Write → Rose (D.say_faults desk.old) (D.say_faults desk.new) }
+{
+    let Opened { journal, persons } = opened;
+    let mut session = Session::new(alloc, persons, journal);
+    let ending = run(alloc, INPUT_LIMIT, &mut session, piece, source, desk);
+    status_of(alloc, ending, desk)
+}
+
+/// Opens the files, and answers the lines of the input over them.
+fn serve_files<S: Source, D: Desk>(
+    alloc: Global,
+    limit: u64,
+    source: &mut S,
+    desk: &mut D,
+) -> Status
+    requires some { 64 ≤ limit }
+    requires limit { limit ≤ 2 ^ 30 }
+
+    ensures ends { IsTrue (D.tells desk.old) → (bytes : List ℕ) → S.left source.old ≡ Some bytes
+        → OpeningEnds D.moment D.left_since D.state D.may_leave result desk.old desk.new
+        ⊎ RunsFrom D.moment D.left_since D.state D.may_leave (λ c s opened. RunEnds D.moment D.left_since D.state D.may_leave result c s limit INPUT_LIMIT bytes (S.left source.new) (S.piece source.new) opened desk.new) desk.old }
+    ensures told { IsOfRun result }
+    ensures read { result ≡ Status.Read → Rose (S.faults source.old) (S.faults source.new) }
+    ensures disk { result ≡ Status.Disk → Rose (D.disk_faults desk.old) (D.disk_faults desk.new) }
+    ensures write { result ≡ Status.Write → Rose (D.say_faults desk.old) (D.say_faults desk.new) }
+{
+    let Ok(mut piece) = new_piece(alloc) else {
+        return Status::Memory;
+    };
+    match open(alloc, limit, desk) {
+        Ok(opened) => serve_lines(alloc, opened, &mut piece, source, desk),
+        Err(OpenFault::Disk) => Status::Disk,
+        Err(OpenFault::Memory) => Status::Memory,
+        Err(OpenFault::Damaged(file, place)) => tell_damage(alloc, file, place, desk),
+    }
+}
+
+/// All that the program does. The words are `run`, or `run --limit N` with 64 to 2^30 for N, which is the length
+/// that no file may pass; without it, it is 2^30. The files are opened, and each line of the source is answered by
+/// one line said on the desk, in order, when its newline or the end of the input has come. What a line does is on
+/// the disk before its reply is said. The answers and the files' entries are a run over the lines, as `yw_model`
+/// defines it, from the state on that the files held.
 ///
-/// It answers `Usage` exactly where the words are others, and then calls neither source nor desk; `Read` only
-/// where a read of the source failed; `Write` only where a say of the desk failed; `InputLimit` exactly where
-/// more than `INPUT_LIMIT` bytes came; `Memory` where no memory was left; and no other status but `Ok`.
+/// It answers `Usage` exactly where the words are others, and then calls neither source nor desk; `Disk` only
+/// where a call of the files failed, `Read` only where one of the source did, `Write` only where a say did;
+/// `Damaged` exactly where the synced files hold no state; `Full` exactly where an entry would end past N;
+/// `InputLimit` exactly where more than `INPUT_LIMIT` bytes came; `Memory` where no memory was left; and no other
+/// status but `Ok`.
 pub fn serve<S: Source, D: Desk>(
     alloc: Global,
     words: &[String],
     source: &mut S,
     desk: &mut D,
 ) -> Status
-    // The whole input is answered.
-    ensures ok { result ≡ Status.Ok → (bytes : List ℕ) → S.left source.old ≡ Some bytes
-        → EndsWhole INPUT_LIMIT bytes (S.left source.new) (D.tells desk.old) (D.said desk.old) (D.said desk.new) }
-
-    // The lines that ended within the bytes taken are answered.
-    ensures read { result ≡ Status.Read → (bytes : List ℕ) → S.left source.old ≡ Some bytes
-        → EndsBetween INPUT_LIMIT bytes (S.left source.new) (D.tells desk.old) (D.said desk.old) (D.said desk.new) }
-
-    // Those that ended within the limit are.
-    ensures input_limit { result ≡ Status.InputLimit → (bytes : List ℕ) → S.left source.old ≡ Some bytes
-        → EndsPast INPUT_LIMIT bytes (S.left source.new) (D.tells desk.old) (D.said desk.old) (D.said desk.new) }
-
-    // Those that ended before the last piece are, and a front of the further answers is said.
-    ensures write { result ≡ Status.Write → (bytes : List ℕ) → S.left source.old ≡ Some bytes
-        → EndsShort INPUT_LIMIT bytes (S.left source.new) (S.piece source.new) (D.tells desk.old) (D.said desk.old) (D.said desk.new) }
-    ensures memory { result ≡ Status.Memory → (bytes : List ℕ) → S.left source.old ≡ Some bytes
-        → EndsShort INPUT_LIMIT bytes (S.left source.new) (S.piece source.new) (D.tells desk.old) (D.said desk.old) (D.said desk.new) }
+    // What each status says of the input, the files and the output, at every moment since the call began.
+    ensures ends { IsTrue (D.tells desk.old) → (limit : ℕ) (bytes : List ℕ) → IsRun words.now limit → S.left source.old ≡ Some bytes
+        → OpeningEnds D.moment D.left_since D.state D.may_leave result desk.old desk.new
+        ⊎ RunsFrom D.moment D.left_since D.state D.may_leave (λ c s opened. RunEnds D.moment D.left_since D.state D.may_leave result c s limit INPUT_LIMIT bytes (S.left source.new) (S.piece source.new) opened desk.new) desk.old }
 
     // Each answer has its cause.
     ensures answered { IsAnswered result }
-    ensures usage { (result ≡ Status.Usage) ↔ ¬ (IsRun words.now) }
+    ensures usage { (result ≡ Status.Usage) ↔ ((limit : ℕ) → ¬ (IsRun words.now limit)) }
     ensures usage_calls_nothing { result ≡ Status.Usage → (source.new ≡ source.old) × (desk.new ≡ desk.old) }
+    ensures disk_cause { result ≡ Status.Disk → Rose (D.disk_faults desk.old) (D.disk_faults desk.new) }
     ensures read_cause { result ≡ Status.Read → Rose (S.faults source.old) (S.faults source.new) }
     ensures write_cause { result ≡ Status.Write → Rose (D.say_faults desk.old) (D.say_faults desk.new) }
 
-    // Where nothing failed and the input is within the limit, it is Ok, or no memory was left.
-    ensures complete { (bytes : List ℕ) → S.left source.old ≡ Some bytes → IsRun words.now → length bytes ≤ INPUT_LIMIT
-        → ¬ (Rose (S.faults source.old) (S.faults source.new)) → ¬ (Rose (D.say_faults desk.old) (D.say_faults desk.new))
-        → (result ≡ Status.Ok) ⊎ (result ≡ Status.Memory) }
+    // Where the files hold a state, nothing failed and the input is within its limit, all is answered, or a record had
+    // no room, or no memory was left.
+    ensures complete { IsTrue (D.tells desk.old) → (limit : ℕ) (bytes : List ℕ) (c : Content) (s : State) → IsRun words.now limit → S.left source.old ≡ Some bytes
+        → HoldNow c s (D.state desk.old) → length bytes ≤ INPUT_LIMIT
+        → ¬ (Rose (S.faults source.old) (S.faults source.new)) → ¬ (Rose (D.disk_faults desk.old) (D.disk_faults desk.new)) → ¬ (Rose (D.say_faults desk.old) (D.say_faults desk.new))
+        → (result ≡ Status.Ok) ⊎ (result ≡ Status.Memory) ⊎ (result ≡ Status.Full) }
+
+    // Where all is answered, the files hold the state that the lines lead to from the one that they held, now and after a crash, and all
+    // replies are said.
+    ensures served { IsTrue (D.tells desk.old) → result ≡ Status.Ok → (limit : ℕ) (bytes : List ℕ) → IsRun words.now limit → S.left source.old ≡ Some bytes
+        → Serves D.state D.may_leave (lines bytes true) desk.old desk.new }
+
+    // Where the files held a state, a crash at any moment since the call began leaves what the opening left, or the state that a front of
+    // the lines leads to from it, with all that was answered.
+    ensures crash { IsTrue (D.tells desk.old) → (limit : ℕ) (bytes : List ℕ) (c : Content) (s : State) → IsRun words.now limit → S.left source.old ≡ Some bytes
+        → HoldNow c s (D.state desk.old) → (k : Image) → D.left_since desk.new (D.moment desk.old) k
+        → LeftByOpening (D.may_leave desk.old) (D.state desk.old) k ⊎ HoldsFront s (lines bytes true) (D.state desk.old).said k }
 {
-    if !is_run(words) {
-        return Status::Usage;
+    match file_limit(words) {
+        Some(limit) => serve_files(alloc, limit, source, desk),
+        None => Status::Usage,
     }
-    run(alloc, INPUT_LIMIT, source, desk)
 }

@@ -1,33 +1,55 @@
-use Rattle.std.proofs.Common.{ℕ, List, [], Bool, IsTrue, Result, Ok, Err, OnErr, refl, sym}
-use Rattle.std.proofs.lemmas.List.{append-nil}
+use Rattle.std.proofs.Common.{◌∷◌, [], ℕ, List, Result, Ok, Err, refl, subst}
+use Rattle.std.specs.Prelude.{OnErr, IfErr}
+use Rattle.std.proofs.lemmas.Result.{IfOk-weaker}
 use Rattle.yw_model.specs.State.{State}
-use Rattle.yw_model.specs.Run.{Entry, Answers}
+use Rattle.yw_model.specs.Run.{Answers}
 use Rattle.yw_model.proofs.MeaningLemmas.{answered}
-use Rattle.yw_outside.specs.Desk.{Says}
-use Rattle.yw_serve.specs.declared.session.Session.{Session}
-use Rattle.yw_serve.specs.Session.{state_of, CutsLine}
+use Rattle.yw_serve.specs.Session.{state_of, OfSteps}
+use Rattle.yw_serve.proofs.Doing.{leaves_nothing}
+use Rattle.yw_serve.proofs.Telling.{not_begun}
 use Rattle.yw_serve.proofs.answer.end_line.Goals as goal
 
--- nothing is said
-unsaid : (session : Session) (tells : Bool) (before : List ℕ) → CutsLine session tells before before
-unsaid session tells before =
-    let a = answered (state_of session) session.number session.front.items in
-    record { entries = a.0; reply = a.1; state = a.2; answers = a.3; said = λ h. ([], a.1, refl, sym (append-nil before)) }
-
--- a say that failed
-say_failed : {T E : Type 0} (session : Session) (tells : Bool) (before now text : List ℕ) (r : Result T E) (entries : List Entry) (state : State)
-    → Answers (state_of session) session.number session.front.items entries text state → (IsTrue tells → Says before text r now)
-    → OnErr r (CutsLine session tells before now)
-say_failed session tells before now text (Ok x) entries state a s = tt
-say_failed session tells before now text (Err e) entries state a s = record { entries = entries; reply = text; state = state; answers = a; said = s }
+both_err : {T E : Type 0} (r : Result T E) (P : Type 0) (Q R : E → Type 0) → OnErr r P → IfErr r Q → ((e : E) → P → Q e → R e) → IfErr r R
+both_err (Ok x) P Q R p q f = tt
+both_err (Err e) P Q R p q f = f e p q
 
 pub returns-in-Err-clause-err : goal.returns-in-Err-clause-err
-returns-in-Err-clause-err g c = unsaid c.args.session.now _ _
+returns-in-Err-clause-err g c = λ tells content current.
+    let D = g.D.Desk in
+    let session = c.args.session.now in
+    let desk = c.args.desk.now in
+    let a = answered (state_of session) session.number session.front.items in
+    record {
+      step = a.0;
+      after = a.1;
+      answers = a.2;
+      moments = leaves_nothing D.moment D.left_since D.state D.may_leave desk (OfSteps session.journal.file content (a.0 ∷ []) (D.state desk)) (c.requires.stands.settled tells) (g.met.D.Desk.said_by_now desk) (g.met.D.Desk.only_now desk)
+          (not_begun session.journal.file content a.0 (D.state desk) (D.state desk) (session.journal.end, current.holds) refl refl);
+      why = refl;
+    }
+
+pub returns-clause-ok : goal.returns-clause-ok
+returns-clause-ok g c = IfOk-weaker c.carry_out.result _ _ (λ x done tells content current.
+    let session = c.args.session.now in
+    let plan = c.in-Ok.ensures.plan in
+    let t : State = record { persons = c.plan_line.new.persons } in
+    record {
+      step = plan.step;
+      answers = subst (λ (l : List ℕ). Answers (state_of session) session.number l plan.step t) c.deref.ensures.value plan.answers;
+      are_done = done tells content plan.step current plan.does;
+      front = c.clear.ensures.items;
+      number = refl;
+    }) c.carry_out.ensures.ok
 
 pub returns-clause-err : goal.returns-clause-err
-returns-clause-err g c =
+returns-clause-err g c = both_err c.carry_out.result _ _ _ c.carry_out.ensures.moments c.carry_out.ensures.why (λ stop moments why tells content current.
     let session = c.args.session.now in
-    let t : State = record { persons = c.reply_to.new.persons } in
-    let here : Answers (state_of session) session.number session.front.items c.in-Ok.ensures.0 c.as_str.result.now t =
-    rw (c.as_str.ensures.value, ← c.deref.ensures.value) c.in-Ok.ensures.1 in
-    say_failed session (g.D.Desk.tells c.args.desk.now) (g.D.Desk.said c.args.desk.now) (g.D.Desk.said c.say.new.desk) c.as_str.result.now c.say.result c.in-Ok.ensures.0 t here c.say.ensures.said
+    let plan = c.in-Ok.ensures.plan in
+    let t : State = record { persons = c.plan_line.new.persons } in
+    record {
+      step = plan.step;
+      after = t;
+      answers = subst (λ (l : List ℕ). Answers (state_of session) session.number l plan.step t) c.deref.ensures.value plan.answers;
+      moments = moments tells content plan.step current plan.does;
+      why = why tells plan.step plan.does;
+    })

@@ -1,41 +1,59 @@
-use Rattle.std.proofs.Common.{◌≡◌, ◌+◌, ℕ, List, [], ◌∷◌, ◌++◌, length, Bool, Result, Ok, Err, OnErr, refl, sym, ap, ◌∙◌, subst, append_assoc, arith, length-append}
-use Rattle.std.proofs.lemmas.Result.{IfOk-weaker}
+use Rattle.std.proofs.Common.{◌≡◌, ◌+◌, ℕ, List, [], ◌∷◌, ◌++◌, length, Result, Ok, Err, refl, sym, ap, ◌∙◌, subst, append_assoc, arith, length-append}
+use Rattle.std.specs.Prelude.{IfErr, IsErrAnd}
+use Rattle.std.proofs.lemmas.List.{append-nil}
+use Rattle.std.proofs.lemmas.Result.{IfOk-weaker, IfErr-weaker}
 use Rattle.yw_model.specs.Lines.{newline, whole_lines}
 use Rattle.yw_model.proofs.LinesLemmas.{whole_lines-part}
-use Rattle.yw_serve.specs.Session.{GoesOn}
-use Rattle.yw_serve.proofs.Going.{goes_nowhere, goes_further, stops_further, stops_short, stops_at_once}
+use Rattle.yw_serve.specs.declared.session.Stop.{Stop}
+use Rattle.yw_serve.specs.declared.session.Stop.TheVariants.{Memory}
+use Rattle.yw_journal.specs.Journal.{IsCurrent}
+use Rattle.yw_journal.specs.declared.journal.Journal.{Journal}
+use Rattle.yw_serve.specs.Session.{GoesOn, StopsWithin, with_steps}
+use Rattle.yw_serve.proofs.Going.{goes_nowhere, goes_by_part, goes_further, stops_further, stops_short, stops_before}
 use Rattle.yw_serve.proofs.answer.feed.Goals as goal
-
-on_err : {T E P : Type 0} (r : Result T E) → P → OnErr r P
-on_err (Ok x) p = tt
-on_err (Err e) p = p
 
 -- a piece as what is taken of it, a line and what is behind it
 regrouped : (taken front rest piece part behind : List ℕ) → piece ≡ front ++ rest → rest ≡ part ++ newline ∷ behind → taken ++ piece ≡ ((taken ++ front) ++ (part ++ newline ∷ [])) ++ behind
 regrouped taken front rest piece part behind e f =
     ap (λ (p : List ℕ). taken ++ p) (e ∙ ap (λ (r : List ℕ). front ++ r) f) ∙ sym (simp append_assoc)
 
+err_as : {T E : Type 0} (r : Result T E) (e : E) (P : E → Type 0) → IsErrAnd r (λ x. x ≡ e) → P e → IfErr r P
+err_as (Ok x) e P is p = tt
+err_as (Err y) e P is p = subst P (sym is) p
+
 pub loop-part-init : goal.loop-part-init
-loop-part-init g c = record {
-  tells = refl;
-  later = omega arith;
-  count = omega arith;
-  went = ([], refl, λ taken at. goes_nowhere _ c.args.session.now taken _ at);
-}
+loop-part-init g c =
+    let D = g.D.Desk in
+    let desk = c.args.desk.now in
+    record {
+      stands = c.requires.stands;
+      counts = record { telling = refl; disk = omega arith; say = omega arith };
+      file = refl;
+      limit = refl;
+      count = omega arith;
+      went = (
+        [],
+        refl,
+        λ tells content taken current at. goes_nowhere D.moment D.left_since D.state D.may_leave content c.args.session.now taken desk
+            (record { settled = c.requires.stands.settled tells; said = g.met.D.Desk.said_by_now desk; only = g.met.D.Desk.only_now desk; current = current }) at,
+      );
+    }
 
 pub returns-in_err-take_line-clause-err : goal.returns-in_err-take_line-clause-err
-returns-in_err-take_line-clause-err g c = on_err c.from_residual.result (λ taken at.
-    let tells : Bool = g.D.Desk.tells c.args.desk.now in
-    let went = c.loop-part.invariant.went in
-    let first = went.2 taken at in
-    let cut = rw c.loop-part.invariant.tells at (c.in_err-take_line.ensures.err (taken ++ went.0) first.at) in
+returns-in_err-take_line-clause-err g c = err_as c.from_residual.result c.in_err-take_line.field-0.0 _ c.from_residual.ensures.1 (λ tells content taken current at.
+    let D = g.D.Desk in
+    let inv = c.loop-part.invariant in
+    let went = inv.went in
+    let stop = c.in_err-take_line.field-0.0 in
+    let first = went.2 tells content taken current at in
+    let cut = c.in_err-take_line.ensures.err (inv.counts.telling ∙ tells) (with_steps content first.answers.steps) (taken ++ went.0) first.answers.are_done.file first.at in
     let e = regrouped taken went.0 c.loop-part.rest.now c.args.piece.now c.in-Some.part.now c.in-Some.behind.now went.1 c.in-Some.ensures.1 in
-    stops_short tells c.args.session.now (whole_lines taken) _ c.in-Some.behind.now (taken ++ c.args.piece.now) _ _ e
-    (stops_further tells c.args.session.now c.loop-part.session taken went.0 _ _ _ first _ cut))
+    stops_short D.moment D.left_since D.state D.may_leave content stop c.args.session.now (whole_lines taken) _ c.in-Some.behind.now (taken ++ c.args.piece.now) c.args.desk.now c.take_line.new.desk e
+    (stops_further D.moment D.left_since D.state D.may_leave content c.args.session.now c.loop-part.session taken went.0 c.args.desk.now c.loop-part.desk c.take_line.new.desk inv.file inv.limit first stop _ cut))
 
 pub loop-part-preserved : goal.loop-part-preserved
 loop-part-preserved g c =
-    let tells : Bool = g.D.Desk.tells c.args.desk.now in
+    let D = g.D.Desk in
     let inv = c.loop-part.invariant in
     let went = inv.went in
     let line : List ℕ = c.in-Some.part.now ++ newline ∷ [] in
@@ -43,34 +61,50 @@ loop-part-preserved g c =
     let shorter : length c.loop-part.rest.now ≡ length c.in-Some.part.now + (length c.in-Some.behind.now + 1) =
     ap length c.in-Some.ensures.1 ∙ length-append c.in-Some.part.now (newline ∷ c.in-Some.behind.now) ∙ omega arith in
     record {
-      tells = made.tells ∙ inv.tells;
-      later = omega (arith, inv.later, made.later);
+      stands = made.stands;
+      counts = record { telling = made.counts.telling ∙ inv.counts.telling; disk = omega (arith, inv.counts.disk, made.counts.disk); say = omega (arith, inv.counts.say, made.counts.say) };
+      file = made.file ∙ inv.file;
+      limit = made.limit ∙ inv.limit;
       count = omega (arith, inv.count, made.count, shorter);
       went = (
         went.0 ++ line,
         went.1 ∙ ap (λ (r : List ℕ). went.0 ++ r) c.in-Some.ensures.1 ∙ sym (simp append_assoc),
-        λ taken at.
-            let first = went.2 taken at in
-            goes_further tells c.args.session.now c.loop-part.session taken went.0 _ _ _ first c.take_line.new.session line (rw inv.tells at (made.ok (taken ++ went.0) first.at)),
+        λ tells content taken current at.
+            let first = went.2 tells content taken current at in
+            goes_further D.moment D.left_since D.state D.may_leave content c.args.session.now c.loop-part.session taken went.0 c.args.desk.now c.loop-part.desk c.take_line.new.desk inv.file inv.limit first
+            c.take_line.new.session line made.file (made.ok (inv.counts.telling ∙ tells) (with_steps content first.answers.steps) (taken ++ went.0) first.answers.are_done.file first.at),
       );
     }
 
 pub returns-clause-ok : goal.returns-clause-ok
 returns-clause-ok g c =
-    let tells : Bool = g.D.Desk.tells c.args.desk.now in
-    let went = c.loop-part.invariant.went in
-    IfOk-weaker c.take_part.result _ _ (λ x made taken at.
-    let first = went.2 taken at in
-    subst (λ (p : List ℕ). GoesOn c.args.session.now c.take_part.new.session taken p tells (g.D.Desk.said c.args.desk.now) (g.D.Desk.said c.loop-part.desk)) (sym went.1)
-    (goes_further tells c.args.session.now c.loop-part.session taken went.0 _ _ _ first c.take_part.new.session c.loop-part.rest.now (made (taken ++ went.0) tells _ first.at)))
+    let D = g.D.Desk in
+    let inv = c.loop-part.invariant in
+    let went = inv.went in
+    let desk = c.loop-part.desk in
+    IfOk-weaker c.take_part.result _ _ (λ x made tells content taken current at.
+    let first = went.2 tells content taken current at in
+    let there = inv.counts.telling ∙ tells in
+    let next = goes_by_part D.moment D.left_since D.state D.may_leave (with_steps content first.answers.steps) c.loop-part.session c.take_part.new.session (taken ++ went.0) c.loop-part.rest.now first.at c.in_default.ensures made
+    c.take_part.ensures.state c.take_part.ensures.number c.take_part.ensures.journal desk desk
+    (record { settled = inv.stands.settled there; said = g.met.D.Desk.said_by_now desk; only = g.met.D.Desk.only_now desk; current = subst (λ (j : Journal). IsCurrent j (with_steps content first.answers.steps) (D.state desk)) (sym c.take_part.ensures.journal) first.answers.are_done.file }) in
+    subst (λ (p : List ℕ). GoesOn D.moment D.left_since D.state D.may_leave content c.args.session.now c.take_part.new.session taken p c.args.desk.now desk) (sym went.1)
+    (goes_further D.moment D.left_since D.state D.may_leave content c.args.session.now c.loop-part.session taken went.0 c.args.desk.now desk desk inv.file inv.limit first c.take_part.new.session c.loop-part.rest.now (ap (λ j. j.file) c.take_part.ensures.journal) next))
     c.take_part.ensures.ok
 
 pub returns-clause-err : goal.returns-clause-err
-returns-clause-err g c = on_err c.take_part.result (λ taken at.
-    let tells : Bool = g.D.Desk.tells c.args.desk.now in
-    let went = c.loop-part.invariant.went in
-    let first = went.2 taken at in
+returns-clause-err g c =
+    let D = g.D.Desk in
+    let inv = c.loop-part.invariant in
+    let went = inv.went in
+    let desk = c.loop-part.desk in
+    IfErr-weaker c.take_part.result _ _ (λ stop is tells content taken current at.
+    let first = went.2 tells content taken current at in
     let same : whole_lines (taken ++ c.args.piece.now) ≡ whole_lines (taken ++ went.0) =
     ap (λ (p : List ℕ). whole_lines (taken ++ p)) went.1 ∙ ap whole_lines (sym (append_assoc taken went.0 c.loop-part.rest.now)) ∙ whole_lines-part (taken ++ went.0) c.loop-part.rest.now c.in_default.ensures in
-    stops_further tells c.args.session.now c.loop-part.session taken went.0 _ _ _ first (whole_lines (taken ++ c.args.piece.now))
-    (stops_at_once tells c.loop-part.session (whole_lines (taken ++ went.0)) _ _ same))
+    subst (λ (s : Stop). StopsWithin D.moment D.left_since D.state D.may_leave content s c.args.session.now (whole_lines taken) (whole_lines (taken ++ c.args.piece.now)) c.args.desk.now desk) (sym is)
+    (stops_further D.moment D.left_since D.state D.may_leave content c.args.session.now c.loop-part.session taken went.0 c.args.desk.now desk desk inv.file inv.limit first Memory (whole_lines (taken ++ c.args.piece.now))
+    (stops_before D.moment D.left_since D.state D.may_leave (with_steps content first.answers.steps) c.loop-part.session (whole_lines (taken ++ went.0)) _ [] desk
+    (record { settled = inv.stands.settled (inv.counts.telling ∙ tells); said = g.met.D.Desk.said_by_now desk; only = g.met.D.Desk.only_now desk; current = first.answers.are_done.file })
+    (same ∙ sym (append-nil (whole_lines (taken ++ went.0)))))))
+    c.take_part.ensures.memory

@@ -1,5 +1,9 @@
 use Rattle.std.proofs.Common.{◌≡◌, ◌≤◌, ◌+◌, ◌++◌, ℕ, List, length}
-use Rattle.yw_serve.specs.Session.{IsAt, GoesOn}
+use Rattle.std.specs.Prelude.{IsTrue}
+use Rattle.yw_journal.specs.Files.{Content}
+use Rattle.yw_journal.specs.Journal.{IsCurrent}
+use Rattle.yw_serve.specs.Desks.{Stands, KeepsCounts}
+use Rattle.yw_serve.specs.Session.{IsAtByte, GoesOn}
 use Rattle.yw_serve.proofs.answer.feed.Given as goal
 
 -- of the piece a front is taken, and the rest is left
@@ -7,11 +11,14 @@ abbrev pub invariant-loop-part : goal.invariant-loop-part
 invariant-loop-part g l =
     let D = g.D.Desk in
     record {
-      tells : D.tells l.desk ≡ D.tells l.fn.desk;
-      later : D.say_faults l.fn.desk ≤ D.say_faults l.desk;
+      stands : Stands D.tells D.state D.may_leave l.session.journal l.desk;
+      counts : KeepsCounts D.tells D.disk_faults D.say_faults l.fn.desk l.desk;
+      file : l.session.journal.file ≡ l.fn.session.journal.file;
+      limit : l.session.journal.limit ≡ l.fn.session.journal.limit;
       count : l.session.number + length l.rest ≤ l.fn.session.number + length l.piece;
-      went : (front : List ℕ) × (l.piece ≡ front ++ l.rest) × ((taken : List ℕ) → IsAt l.fn.session taken
-          → GoesOn l.fn.session l.session taken front (D.tells l.fn.desk) (D.said l.fn.desk) (D.said l.desk));
+      went : (front : List ℕ) × (l.piece ≡ front ++ l.rest) × (IsTrue (D.tells l.fn.desk) → (c : Content) (taken : List ℕ)
+          → IsCurrent l.fn.session.journal c (D.state l.fn.desk) → IsAtByte l.fn.session taken
+          → GoesOn D.moment D.left_since D.state D.may_leave c l.fn.session l.session taken front l.fn.desk l.desk);
     }
 
 abbrev pub decreases-loop-part : goal.decreases-loop-part

@@ -1,24 +1,48 @@
-use Rattle.std.proofs.Common.{refl, arith}
-use Rattle.yw_serve.proofs.Reading.{short_at_once, read_nothing, read_past}
+use Rattle.std.proofs.Common.{ℕ, refl, ◌∙◌, subst, arith}
+use Rattle.yw_serve.specs.Ends.{EndsAs}
+use Rattle.yw_serve.specs.Session.{state_of}
+use Rattle.yw_serve.proofs.Reading.{read_nothing, read_past}
 use Rattle.yw_serve.proofs.run.run.Goals as goal
-
-pub returns-in_default-clause-ends : goal.returns-in_default-clause-ends
-returns-in_default-clause-ends g c = λ bytes e. short_at_once _ _ _ _ bytes _ e
 
 pub loop-taken-init : goal.loop-taken-init
 loop-taken-init g c =
-    let made = c.new-session.ensures in
+    let D = g.D.Desk in
+    let desk = c.args.desk.now in
     record {
       small = omega arith;
-      room = c.in-Ok.ensures;
-      number = omega (arith, made.number);
-      tells = refl;
+      number = omega (arith, c.requires.number);
+      stands = c.requires.stands;
+      counts = record { telling = refl; disk = omega arith; say = omega arith };
       source_later = omega arith;
-      desk_later = omega arith;
-      went = λ bytes e. read_nothing _ _ c.new-session.result c.args.limit bytes _ e made.front made.number made.state;
+      limited = refl;
+      went = λ tells content bytes current e. read_nothing D.moment D.left_since D.state D.may_leave content _ desk c.args.session.now c.args.limit bytes _ e c.requires.front c.requires.number refl
+          (record { settled = c.requires.stands.settled tells; said = g.met.D.Desk.said_by_now desk; only = g.met.D.Desk.only_now desk; current = current });
+    }
+
+pub returns-in-Some-clause-ends : goal.returns-in-Some-clause-ends
+returns-in-Some-clause-ends g c = λ tells content bytes current e.
+    let D = g.D.Desk in
+    let inv = c.loop-taken.invariant in
+    subst (λ (n : ℕ). EndsAs D.moment D.left_since D.state D.may_leave c.in-Some.ending content (state_of c.args.session.now) n c.args.limit bytes (g.S.Source.left c.turn.new.source) (g.S.Source.piece c.turn.new.source) c.args.desk.now c.turn.new.desk)
+    inv.limited (c.in-Some.ensures.ends (inv.counts.telling ∙ tells) content (state_of c.args.session.now) bytes c.args.desk.now (inv.went tells content bytes current e))
+
+pub loop-taken-preserved : goal.loop-taken-preserved
+loop-taken-preserved g c =
+    let inv = c.loop-taken.invariant in
+    let made = c.in_default.ensures in
+    let on = made.progress refl in
+    record {
+      small = on.1;
+      number = on.2;
+      stands = made.stands refl;
+      counts = record { telling = made.counts.telling ∙ inv.counts.telling; disk = omega (arith, inv.counts.disk, made.counts.disk); say = omega (arith, inv.counts.say, made.counts.say) };
+      source_later = omega (arith, inv.source_later, made.source_later);
+      limited = made.limited ∙ inv.limited;
+      went = λ tells content bytes current e. made.ends (inv.counts.telling ∙ tells) content (state_of c.args.session.now) bytes c.args.desk.now (inv.went tells content bytes current e);
     }
 
 pub returns-clause-ends : goal.returns-clause-ends
-returns-clause-ends g c = λ bytes e.
+returns-clause-ends g c = λ tells content bytes current e.
+    let D = g.D.Desk in
     let inv = c.loop-taken.invariant in
-    read_past _ _ c.loop-taken.session _ _ bytes _ _ (inv.went bytes e) c.loop-taken-test.false inv.small
+    read_past D.moment D.left_since D.state D.may_leave content (state_of c.args.session.now) c.args.desk.now c.loop-taken.session _ _ bytes _ c.loop-taken.desk (inv.went tells content bytes current e) c.loop-taken-test.false inv.small

@@ -1,5 +1,10 @@
-use Rattle.std.proofs.Common.{◌≡◌, ◌≤◌, ◌+◌, ◌-◌, List, ℕ, Some, vec_len}
+use Rattle.std.proofs.Common.{◌≡◌, ◌≤◌, ◌+◌, ◌-◌, List, ℕ, Some}
+use Rattle.std.specs.Prelude.{IsTrue}
+use Rattle.yw_journal.specs.Files.{Content}
+use Rattle.yw_journal.specs.Journal.{IsCurrent}
+use Rattle.yw_serve.specs.Desks.{Stands, KeepsCounts}
 use Rattle.yw_serve.specs.Reading.{HasRead}
+use Rattle.yw_serve.specs.Session.{state_of}
 use Rattle.yw_serve.proofs.run.run.Given as goal
 
 abbrev pub invariant-loop-taken : goal.invariant-loop-taken
@@ -8,12 +13,13 @@ invariant-loop-taken g l =
     let D = g.D.Desk in
     record {
       small : l.taken ≤ l.limit + 1;
-      room : vec_len l.piece ≡ 65536;
       number : l.session.number ≤ l.taken + 1;
-      tells : D.tells l.desk ≡ D.tells l.fn.desk;
+      stands : Stands D.tells D.state D.may_leave l.session.journal l.desk;
+      counts : KeepsCounts D.tells D.disk_faults D.say_faults l.fn.desk l.desk;
       source_later : S.faults l.fn.source ≤ S.faults l.source;
-      desk_later : D.say_faults l.fn.desk ≤ D.say_faults l.desk;
-      went : (bytes : List ℕ) → S.left l.fn.source ≡ Some bytes → HasRead l.session l.limit l.taken bytes (S.left l.source) (D.tells l.fn.desk) (D.said l.fn.desk) (D.said l.desk);
+      limited : l.session.journal.limit ≡ l.fn.session.journal.limit;
+      went : IsTrue (D.tells l.fn.desk) → (c : Content) (bytes : List ℕ) → IsCurrent l.fn.session.journal c (D.state l.fn.desk) → S.left l.fn.source ≡ Some bytes
+          → HasRead D.moment D.left_since D.state D.may_leave c (state_of l.fn.session) l.session l.limit l.taken bytes (S.left l.source) l.fn.desk l.desk;
     }
 
 abbrev pub decreases-loop-taken : goal.decreases-loop-taken

@@ -1,5 +1,6 @@
 use Rattle.std.proofs.Common.{◌≡◌, ◌<◌, ℕ, List, [], take, Option, ap, ◌∙◌, subst, arith}
 use Rattle.std.specs.Io.KnownBytes.{Consumes}
+use Rattle.yw_serve.specs.Session.{with_steps}
 use Rattle.yw_serve.proofs.Reading.{all_answered, read_failed, read_all, stopped_at_end, read_on, stopped_in_piece}
 use Rattle.yw_serve.proofs.run.turn.Goals as goal
 
@@ -8,45 +9,49 @@ consumes_none : (old new : Option (List ℕ)) (room : List ℕ) (n : ℕ) → n 
 consumes_none old new room n zero c = subst (λ (bs : List ℕ). Consumes old new bs) (ap (λ k. take k room) zero) c
 
 pub returns-in-Err-clause-ends : goal.returns-in-Err-clause-ends
-returns-in-Err-clause-ends g c = λ bytes before h. read_failed _ before c.args.session.now _ _ bytes _ _ _ h c.requires.within c.in-Err.ensures.bytes
+returns-in-Err-clause-ends g c = λ tells content s bytes start h.
+    let D = g.D.Desk in
+    read_failed D.moment D.left_since D.state D.may_leave content s start c.args.session.now _ _ bytes _ _ c.args.desk.now h c.requires.within c.in-Err.ensures.bytes
 
 pub returns-in-Ok-finish-clause-ends : goal.returns-in-Ok-finish-clause-ends
-returns-in-Ok-finish-clause-ends g c = λ bytes before h.
+returns-in-Ok-finish-clause-ends g c = λ tells content s bytes start h.
+    let D = g.D.Desk in
+    let desk = c.args.desk.now in
     let zero = c.if-count-eq0.true in
+    let left = g.S.Source.left c.read_piece.new.source in
     let none = consumes_none _ _ c.read_piece.new.piece c.in-Ok.count zero c.in-Ok.ensures.bytes.0 in
-    let at = (all_answered _ before c.args.session.now _ _ bytes _ (g.S.Source.left c.read_piece.new.source) _ h c.requires.within).at in
-    read_all _ before c.args.session.now _ _ bytes _ _ _ h c.requires.within none (c.in-Ok.ensures.bytes.1 zero) _ _ (c.in-Ok-finish.ensures.ok h.taken at)
+    let a = all_answered D.moment D.left_since D.state D.may_leave content s start c.args.session.now _ _ bytes _ left desk h c.requires.within in
+    read_all D.moment D.left_since D.state D.may_leave content s start c.args.session.now _ _ bytes _ _ desk h c.requires.within none (c.in-Ok.ensures.bytes.1 zero) _ _ c.finish.new.desk c.in-Ok-finish.ensures.file
+    (c.in-Ok-finish.ensures.ok tells (with_steps content a.steps) h.taken a.are_done.file a.at)
 
-pub returns-in-Err-Write-clause-ends : goal.returns-in-Err-Write-clause-ends
-returns-in-Err-Write-clause-ends g c = λ bytes before h.
+pub returns-in-Err-finish-clause-ends : goal.returns-in-Err-finish-clause-ends
+returns-in-Err-finish-clause-ends g c = λ tells content s bytes start h.
+    let D = g.D.Desk in
+    let desk = c.args.desk.now in
     let zero = c.if-count-eq0.true in
+    let left = g.S.Source.left c.read_piece.new.source in
     let none = consumes_none _ _ c.read_piece.new.piece c.in-Ok.count zero c.in-Ok.ensures.bytes.0 in
-    let at = (all_answered _ before c.args.session.now _ _ bytes _ (g.S.Source.left c.read_piece.new.source) _ h c.requires.within).at in
-    stopped_at_end _ before c.args.session.now _ _ bytes _ _ _ h c.requires.within none (c.in-Ok.ensures.bytes.1 zero) _ _ (c.in-Ok.ensures.piece ∙ zero) (c.in-Err-Write.ensures.err h.taken at)
-
-pub returns-in-Err-Memory-clause-ends : goal.returns-in-Err-Memory-clause-ends
-returns-in-Err-Memory-clause-ends g c = λ bytes before h.
-    let zero = c.if-count-eq0.true in
-    let none = consumes_none _ _ c.read_piece.new.piece c.in-Ok.count zero c.in-Ok.ensures.bytes.0 in
-    let at = (all_answered _ before c.args.session.now _ _ bytes _ (g.S.Source.left c.read_piece.new.source) _ h c.requires.within).at in
-    stopped_at_end _ before c.args.session.now _ _ bytes _ _ _ h c.requires.within none (c.in-Ok.ensures.bytes.1 zero) _ _ (c.in-Ok.ensures.piece ∙ zero) (c.in-Err-Memory.ensures.err h.taken at)
+    let a = all_answered D.moment D.left_since D.state D.may_leave content s start c.args.session.now _ _ bytes _ left desk h c.requires.within in
+    stopped_at_end D.moment D.left_since D.state D.may_leave content s start c.args.session.now _ _ bytes _ _ desk h c.requires.within none (c.in-Ok.ensures.bytes.1 zero) c.in-Err-finish.stop _ c.finish.new.desk (c.in-Ok.ensures.piece ∙ zero)
+    (c.in-Err-finish.ensures.err tells (with_steps content a.steps) h.taken a.are_done.file a.at)
 
 pub returns-in-Ok-feed-clause-ends : goal.returns-in-Ok-feed-clause-ends
-returns-in-Ok-feed-clause-ends g c = λ bytes before h.
-    let at = (all_answered _ before c.args.session.now _ _ bytes _ (g.S.Source.left c.read_piece.new.source) _ h c.requires.within).at in
-    read_on _ before c.args.session.now _ _ bytes _ _ _ h c.requires.within c.read_piece.new.piece c.in-Ok.count c.min-kept.result
-    c.in-Ok.ensures.count.1 c.in-Ok.ensures.count.0 c.min-kept.ensures c.in-Ok.ensures.bytes.0 _ _ (c.in-Ok-feed.ensures.ok h.taken at)
+returns-in-Ok-feed-clause-ends g c = λ tells content s bytes start h.
+    let D = g.D.Desk in
+    let desk = c.args.desk.now in
+    let left = g.S.Source.left c.read_piece.new.source in
+    let a = all_answered D.moment D.left_since D.state D.may_leave content s start c.args.session.now _ _ bytes _ left desk h c.requires.within in
+    read_on D.moment D.left_since D.state D.may_leave content s start c.args.session.now _ _ bytes _ _ desk h c.requires.within c.read_piece.new.piece c.in-Ok.count c.min-kept.result
+    c.in-Ok.ensures.count.1 c.in-Ok.ensures.count.0 c.min-kept.ensures c.in-Ok.ensures.bytes.0 c.feed.new.session c.feed.new.desk c.in-Ok-feed.ensures.file
+    (c.in-Ok-feed.ensures.ok tells (with_steps content a.steps) h.taken a.are_done.file a.at)
 
-pub returns-in-Err-Write-feed-clause-ends : goal.returns-in-Err-Write-feed-clause-ends
-returns-in-Err-Write-feed-clause-ends g c = λ bytes before h.
-    let at = (all_answered _ before c.args.session.now _ _ bytes _ (g.S.Source.left c.read_piece.new.source) _ h c.requires.within).at in
+pub returns-in-Err-feed-clause-ends : goal.returns-in-Err-feed-clause-ends
+returns-in-Err-feed-clause-ends g c = λ tells content s bytes start h.
+    let D = g.D.Desk in
+    let desk = c.args.desk.now in
+    let left = g.S.Source.left c.read_piece.new.source in
     let some : 0 < c.in-Ok.count = omega arith in
-    stopped_in_piece _ before c.args.session.now _ _ bytes _ _ _ h c.requires.within c.read_piece.new.piece c.in-Ok.count c.min-kept.result
-    c.in-Ok.ensures.count.1 c.in-Ok.ensures.count.0 c.min-kept.ensures c.in-Ok.ensures.bytes.0 _ _ c.in-Ok.ensures.piece some (c.in-Err-Write-feed.ensures.err h.taken at)
-
-pub returns-in-Err-Memory-feed-clause-ends : goal.returns-in-Err-Memory-feed-clause-ends
-returns-in-Err-Memory-feed-clause-ends g c = λ bytes before h.
-    let at = (all_answered _ before c.args.session.now _ _ bytes _ (g.S.Source.left c.read_piece.new.source) _ h c.requires.within).at in
-    let some : 0 < c.in-Ok.count = omega arith in
-    stopped_in_piece _ before c.args.session.now _ _ bytes _ _ _ h c.requires.within c.read_piece.new.piece c.in-Ok.count c.min-kept.result
-    c.in-Ok.ensures.count.1 c.in-Ok.ensures.count.0 c.min-kept.ensures c.in-Ok.ensures.bytes.0 _ _ c.in-Ok.ensures.piece some (c.in-Err-Memory-feed.ensures.err h.taken at)
+    let a = all_answered D.moment D.left_since D.state D.may_leave content s start c.args.session.now _ _ bytes _ left desk h c.requires.within in
+    stopped_in_piece D.moment D.left_since D.state D.may_leave content s start c.args.session.now _ _ bytes _ _ desk h c.requires.within c.read_piece.new.piece c.in-Ok.count c.min-kept.result
+    c.in-Ok.ensures.count.1 c.in-Ok.ensures.count.0 c.min-kept.ensures c.in-Ok.ensures.bytes.0 c.in-Err-feed.stop _ c.feed.new.desk c.in-Ok.ensures.piece some
+    (c.in-Err-feed.ensures.err tells (with_steps content a.steps) h.taken a.are_done.file a.at)

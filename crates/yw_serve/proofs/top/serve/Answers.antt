@@ -1,41 +1,70 @@
-use Rattle.std.proofs.Common.{◌≡◌, ◌≤◌, ◌⊎◌, ℕ, List, length, Bool, Option, inl, inr, refl, subst, arith}
-use Rattle.yw_serve.specs.Ends.{Ends}
+use Rattle.std.proofs.Common.{◌⊎◌, ℕ, inl, inr, refl, subst}
+use Rattle.yw_outside.specs.Causes.{Rose}
+use Rattle.yw_serve.proofs.HeadlineLemmas.{crash_left, served}
+use Rattle.yw_serve.proofs.OpenLaws.{held_or_damaged}
+use Rattle.yw_serve.proofs.ServedLemmas.{completed, completed_opening}
+use Rattle.yw_serve.proofs.WordsLemmas.{one_limit}
+use Rattle.yw_serve.specs.Served.{IsOfRun, OpeningEnds, RunEnds, RunsFrom}
 use Rattle.yw_serve.specs.declared.top.Status.{Status}
-use Rattle.yw_serve.specs.declared.top.Status.TheVariants.{Ok, Findings, Usage, Disk, Memory, Read, Write, Damaged, Full, InputLimit}
+use Rattle.yw_serve.specs.declared.top.TheConstants.{INPUT_LIMIT}
 use Rattle.yw_serve.proofs.top.serve.Goals as goal
 
-ends_as : (r s : Status) (limit : ℕ) (bytes : List ℕ) (left : Option (List ℕ)) (piece : ℕ) (tells : Bool) (before now : List ℕ) → r ≡ s → Ends r limit bytes left piece tells before now → Ends s limit bytes left piece tells before now
-ends_as r s limit bytes left piece tells before now e h = subst (λ (x : Status). Ends x limit bytes left piece tells before now) e h
+pub returns-in-Some-clause-ends : goal.returns-in-Some-clause-ends
+returns-in-Some-clause-ends g c = λ tells limit bytes run left.
+    let D = g.D.Desk in
+    let new = c.serve_files.new.desk in
+    let still = g.S.Source.left c.serve_files.new.source in
+    let piece = g.S.Source.piece c.serve_files.new.source in
+    let Ends : ℕ → Type 0 = λ n. OpeningEnds D.moment D.left_since D.state D.may_leave c.serve_files.result c.args.desk.now new
+    ⊎ RunsFrom D.moment D.left_since D.state D.may_leave (λ k s opened. RunEnds D.moment D.left_since D.state D.may_leave c.serve_files.result k s n INPUT_LIMIT bytes still piece opened new) c.args.desk.now in
+    subst Ends (one_limit c.args.words.now c.in-Some.limit limit c.in-Some.ensures.some run) (c.serve_files.ensures.ends tells bytes left)
 
--- of the statuses that a run ends with, those whose cause isn't there don't come
-completed : (r : Status) (limit : ℕ) (bytes : List ℕ) (left : Option (List ℕ)) (piece : ℕ) (tells : Bool) (before now : List ℕ) (ReadRose WriteRose : Type 0) → Ends r limit bytes left piece tells before now
-    → length bytes ≤ limit → (r ≡ Read → ReadRose) → (r ≡ Write → WriteRose) → (ReadRose → ⊥) → (WriteRose → ⊥) → (r ≡ Ok) ⊎ (r ≡ Memory)
-completed Ok limit bytes left piece tells before now R W e small read write no_read no_write = inl refl
-completed Memory limit bytes left piece tells before now R W e small read write no_read no_write = inr refl
-completed Read limit bytes left piece tells before now R W e small read write no_read no_write = absurd (no_read (read refl))
-completed Write limit bytes left piece tells before now R W e small read write no_read no_write = absurd (no_write (write refl))
-completed InputLimit limit bytes left piece tells before now R W e small read write no_read no_write = absurd (omega (arith, e.past))
-completed Findings limit bytes left piece tells before now R W e small read write no_read no_write = absurd e
-completed Usage limit bytes left piece tells before now R W e small read write no_read no_write = absurd e
-completed Disk limit bytes left piece tells before now R W e small read write no_read no_write = absurd e
-completed Damaged limit bytes left piece tells before now R W e small read write no_read no_write = absurd e
-completed Full limit bytes left piece tells before now R W e small read write no_read no_write = absurd e
+pub returns-in-Some-clause-usage : goal.returns-in-Some-clause-usage
+returns-in-Some-clause-usage g c =
+    (λ e. absurd (subst (λ (r : Status). IsOfRun r) e c.serve_files.ensures.told), λ none. absurd (none c.in-Some.limit c.in-Some.ensures.some))
 
-pub returns-clause-ok : goal.returns-clause-ok
-returns-clause-ok g c = λ e bytes left. ends_as c.run.result Ok _ bytes _ _ _ _ _ e (c.run.ensures.ends bytes left)
+pub returns-in-Some-clause-complete : goal.returns-in-Some-clause-complete
+returns-in-Some-clause-complete g c = λ tells limit bytes content s run left hold small no_read no_disk no_say.
+    let D = g.D.Desk in
+    let old = c.args.desk.now in
+    let new = c.serve_files.new.desk in
+    let e = c.serve_files.ensures in
+    let status = c.serve_files.result in
+    let still = g.S.Source.left c.serve_files.new.source in
+    let piece = g.S.Source.piece c.serve_files.new.source in
+    let Disk = Rose (D.disk_faults old) (D.disk_faults new) in
+    let Say = Rose (D.say_faults old) (D.say_faults new) in
+    elim (e.ends tells bytes left) [
+      | inl opening ↦ completed_opening D.moment D.left_since D.state D.may_leave status old new Disk Say opening (λ f place. held_or_damaged (D.state old) content s f place hold) e.disk e.write no_disk no_say
+      | inr from ↦ completed D.moment D.left_since D.state D.may_leave from.c from.s c.in-Some.limit INPUT_LIMIT bytes still piece from.opened status new
+          Disk (Rose (g.S.Source.faults c.args.source.now) (g.S.Source.faults c.serve_files.new.source)) Say from.ends small e.disk e.read e.write no_disk no_read no_say
+    ]
 
-pub returns-clause-read : goal.returns-clause-read
-returns-clause-read g c = λ e bytes left. ends_as c.run.result Read _ bytes _ _ _ _ _ e (c.run.ensures.ends bytes left)
+pub returns-in-Some-clause-served : goal.returns-in-Some-clause-served
+returns-in-Some-clause-served g c = λ tells ok limit bytes run left.
+    let D = g.D.Desk in
+    let new = c.serve_files.new.desk in
+    let still = g.S.Source.left c.serve_files.new.source in
+    let piece = g.S.Source.piece c.serve_files.new.source in
+    served D.moment D.left_since D.state D.may_leave c.serve_files.result c.args.desk.now new c.in-Some.limit INPUT_LIMIT bytes still piece ok (c.serve_files.ensures.ends tells bytes left)
 
-pub returns-clause-input_limit : goal.returns-clause-input_limit
-returns-clause-input_limit g c = λ e bytes left. ends_as c.run.result InputLimit _ bytes _ _ _ _ _ e (c.run.ensures.ends bytes left)
+pub returns-in-Some-clause-crash : goal.returns-in-Some-clause-crash
+returns-in-Some-clause-crash g c = λ tells limit bytes content s run left hold.
+    let D = g.D.Desk in
+    let new = c.serve_files.new.desk in
+    let still = g.S.Source.left c.serve_files.new.source in
+    let piece = g.S.Source.piece c.serve_files.new.source in
+    let leaves = crash_left D.moment D.left_since D.state D.may_leave g.met.D.Desk.said_by_now content s c.args.desk.now hold bytes c.serve_files.result new c.in-Some.limit INPUT_LIMIT still piece (c.serve_files.ensures.ends tells bytes left) in
+    leaves.each
 
-pub returns-clause-write : goal.returns-clause-write
-returns-clause-write g c = λ e bytes left. ends_as c.run.result Write _ bytes _ _ _ _ _ e (c.run.ensures.ends bytes left)
+pub returns-in-None-clause-ends : goal.returns-in-None-clause-ends
+returns-in-None-clause-ends g c = λ tells limit bytes run left. absurd (c.in-None.ensures.none refl limit run)
 
-pub returns-clause-memory : goal.returns-clause-memory
-returns-clause-memory g c = λ e bytes left. ends_as c.run.result Memory _ bytes _ _ _ _ _ e (c.run.ensures.ends bytes left)
+pub returns-in-None-clause-usage : goal.returns-in-None-clause-usage
+returns-in-None-clause-usage g c = (λ e. c.in-None.ensures.none refl, λ none. refl)
 
-pub returns-clause-complete : goal.returns-clause-complete
-returns-clause-complete g c = λ bytes left words small no_read no_write.
-    completed c.run.result _ bytes _ _ _ _ _ _ _ (c.run.ensures.ends bytes left) small c.run.ensures.read c.run.ensures.write no_read no_write
+pub returns-in-None-clause-complete : goal.returns-in-None-clause-complete
+returns-in-None-clause-complete g c = λ tells limit bytes content s run left hold small no_read no_disk no_say. absurd (c.in-None.ensures.none refl limit run)
+
+pub returns-in-None-clause-crash : goal.returns-in-None-clause-crash
+returns-in-None-clause-crash g c = λ tells limit bytes content s run left hold k might. absurd (c.in-None.ensures.none refl limit run)

@@ -1,0 +1,11 @@
+-- What a source over a reader counts.
+use Rattle.std.specs.Prelude.{ℕ}
+use Rattle.yw_adapt.specs.declared.std_source.StdSource.{StdSource}
+
+-- how many bytes the last read with Ok gave
+abbrev pub piece_of : {R : Type 0} → StdSource R → ℕ
+piece_of s = s.piece
+
+-- how often it has failed
+abbrev pub faults_of : {R : Type 0} → StdSource R → ℕ
+faults_of s = s.faults

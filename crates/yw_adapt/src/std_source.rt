@@ -1,0 +1,77 @@
+// Standard input as a source.
+ghost use Rattle.std.specs.Prelude.{◌≡◌};
+ghost use Rattle.std.specs.Io.{ReadsAtMost};
+
+#[cfg(test)]
+mod tests;
+
+use crate::faults::{counted, is_interrupted};
+use std::io::Read;
+use yw_outside::{Failed, Source};
+
+/// Standard input, or another reader. It doesn't tell what is still to come.
+#[derive(Drop)]
+pub struct StdSource<R> {
+    inner: R,
+    piece: usize,
+    faults: u64,
+}
+
+impl<R> StdSource<R> {
+    ghost use Rattle.yw_adapt.specs.StdSource.{piece_of, faults_of};
+
+    /// A source over a reader. It takes no memory.
+    pub fn new(inner: R) -> StdSource<R>
+        ensures piece { piece_of result ≡ 0 }
+        ensures faults { faults_of result ≡ 0 }
+    {
+        StdSource {
+            inner,
+            piece: 0,
+            faults: 0,
+        }
+    }
+}
+
+/// One read that isn't interrupted.
+fn read_some<R: Read>(inner: &mut R, buf: &mut [u8]) -> Result<usize, Failed>
+    ensures bound { ReadsAtMost result buf.new }
+{
+    for _ in 0..u64::MAX {
+        match inner.read(buf) {
+            Ok(count) => return Ok(count),
+            Err(e) if is_interrupted(&e) => {}
+            Err(_) => return Err(Failed),
+        }
+    }
+    Err(Failed)
+}
+
+impl<R: Read> Source for StdSource<R> {
+    ghost use Rattle.std.specs.Prelude.{◌≡◌, None, IfOk, OnErr};
+    ghost use Rattle.std.specs.Io.{ReadsAtMost};
+    ghost use Rattle.std.specs.Io.KnownBytes.{ReadConsumes};
+    ghost use Rattle.yw_outside.specs.Causes.{HasCause};
+    ghost use Rattle.yw_adapt.specs.Counted.{Counted};
+    ghost use Rattle.yw_adapt.specs.StdSource.{piece_of, faults_of};
+
+    ghost left = { λ _. None };
+
+    ghost piece = { piece_of };
+
+    ghost faults = { faults_of };
+
+    /// Fails where the reader does. Each failure is counted, and nothing else is.
+    fn read(&mut self, buf: &mut [u8]) -> Result<usize, Failed>
+        ensures bound { ReadsAtMost result buf.new }
+        ensures bytes { ReadConsumes None None result buf.new }
+        ensures piece { IfOk result (λ n. piece_of self.new ≡ n) }
+        ensures piece_err { OnErr result (piece_of self.new ≡ piece_of self.old) }
+        ensures counts { Counted (faults_of self.old) (faults_of self.new) result }
+        ensures cause { HasCause (faults_of self.old) (faults_of self.new) result }
+    {
+        let count = counted(read_some(&mut self.inner, buf), &mut self.faults)?;
+        self.piece = count;
+        Ok(count)
+    }
+}

@@ -1,0 +1,130 @@
+-- An event's bytes tell where they end.
+use Rattle.std.proofs.Common.{◌≡◌, ◌&&◌, Bool, ℕ, ◌+◌, ◌<◌, ◌≤◌, true, List, [], ◌∷◌, ◌++◌, length, take, drop, get_or, nat_lt, refl, sym, ap, ◌∙◌, arith, append_assoc, length-append, length-take, length-drop}
+use Rattle.std.specs.List.{list_all, flat_map}
+use Rattle.std.proofs.lemmas.List.{drop_more, drop-drop, append-nil, take-append-drop}
+use Rattle.std.proofs.lemmas.List.Folds.{list_all-append}
+use Rattle.yw_base.specs.Spelling.{is_name}
+use Rattle.yw_model.specs.declared.speech.Event.{Event}
+use Rattle.yw_model.specs.declared.speech.Event.TheVariants.{Person}
+use Rattle.yw_codec.specs.Entries.{name_bytes, event_bytes, is_event}
+use Rattle.yw_codec.proofs.Names.{and_left, and_right, same_name, same_names}
+
+-- behind the tag
+after_tag : (m : List ℕ) (rs : List (List ℕ)) (rest bytes : List ℕ) → bytes ≡ event_bytes (Person m rs) ++ rest → drop 1 bytes ≡ name_bytes m ++ (length rs ∷ (flat_map name_bytes rs ++ rest))
+after_tag m rs rest bytes e = ap (drop 1) e ∙ append_assoc (name_bytes m) (length rs ∷ flat_map name_bytes rs) rest
+
+-- an event's bytes begin, behind the tag, with a name
+pub name_of : (event : Event) (rest bytes : List ℕ) → is_event event ≡ true → bytes ≡ event_bytes event ++ rest → (m : List ℕ) × (behind : List ℕ) × (is_name m ≡ true) × (drop 1 bytes ≡ name_bytes m ++ behind)
+name_of (Person m rs) rest bytes is e = (
+  m,
+  length rs ∷ (flat_map name_bytes rs ++ rest),
+  and_left (is_name m) (list_all is_name rs) (and_left (is_name m && list_all is_name rs) (nat_lt (length rs) 256) is),
+  after_tag m rs rest bytes e,
+)
+
+-- and behind that name with the roles
+pub roles_of : (event : Event) (rest bytes n behind : List ℕ) → is_event event ≡ true → bytes ≡ event_bytes event ++ rest → drop 1 bytes ≡ name_bytes n ++ behind
+    → (rs : List (List ℕ)) × (list_all is_name rs ≡ true) × (behind ≡ length rs ∷ (flat_map name_bytes rs ++ rest))
+roles_of (Person m rs) rest bytes n behind is e split = (
+  rs,
+  and_right (is_name m) (list_all is_name rs) (and_left (is_name m && list_all is_name rs) (nat_lt (length rs) 256) is),
+  (same_name n m behind (length rs ∷ (flat_map name_bytes rs ++ rest)) (sym split ∙ after_tag m rs rest bytes e)).1,
+)
+
+-- what stands behind the name
+pub behind_name : (bytes n : List ℕ) → drop (1 + length n) (drop 1 bytes) ≡ drop (2 + length n) bytes
+behind_name bytes n = drop-drop (1 + length n) 1 bytes ∙ ap (λ (k : ℕ). drop k bytes) (omega arith)
+
+-- too short for the roles' count
+pub no_count : (event : Event) (rest bytes n : List ℕ) → is_event event ≡ true → bytes ≡ event_bytes event ++ rest → drop 1 bytes ≡ name_bytes n ++ drop (1 + length n) (drop 1 bytes) → length bytes ≤ 2 + length n → ⊥
+no_count event rest bytes n is e split short =
+    let r = roles_of event rest bytes n (drop (1 + length n) (drop 1 bytes)) is e split in
+    omega (arith, ap length (sym (behind_name bytes n) ∙ r.2), length-drop (2 + length n) bytes)
+
+-- the roles behind their count
+pub counted_roles : (event : Event) (rest bytes n : List ℕ) (at : ℕ) → is_event event ≡ true → bytes ≡ event_bytes event ++ rest → drop 1 bytes ≡ name_bytes n ++ drop (1 + length n) (drop 1 bytes) → at ≡ 2 + length n → at < length bytes
+    → (rs : List (List ℕ)) × (length rs ≡ get_or bytes at 0) × (list_all is_name rs ≡ true) × (drop (at + 1) bytes ≡ flat_map name_bytes rs ++ rest)
+counted_roles event rest bytes n at is e split place within =
+    let r = roles_of event rest bytes n (drop (1 + length n) (drop 1 bytes)) is e split in
+    let whole : get_or bytes at 0 ∷ drop (at + 1) bytes ≡ length r.0 ∷ (flat_map name_bytes r.0 ++ rest) =
+    sym (drop_more bytes at 0 within) ∙ ap (λ (k : ℕ). drop k bytes) place ∙ sym (behind_name bytes n) ∙ r.2 in
+    (r.0, sym (ap (λ (l : List ℕ). get_or l 0 0) whole), r.1, ap (drop 1) whole)
+
+-- the parts that were read are an event's bytes
+pub person_split : (bytes n : List ℕ) (roles : List (List ℕ)) (at size : ℕ) → 1 ≤ length bytes → get_or bytes 0 0 ≡ 1 → drop 1 bytes ≡ name_bytes n ++ drop (1 + length n) (drop 1 bytes) → at ≡ 2 + length n → at < length bytes
+    → length roles ≡ get_or bytes at 0 → drop (at + 1) bytes ≡ flat_map name_bytes roles ++ drop size (drop (at + 1) bytes) → bytes ≡ event_bytes (Person n roles) ++ drop (at + 1 + size) bytes
+person_split bytes n roles at size some tag split place within count is =
+    drop_more bytes 0 0 (omega arith)
+    ∙ ap (λ (g : ℕ). g ∷ drop 1 bytes) tag
+    ∙ ap (λ (l : List ℕ). 1 ∷ l) (split ∙ ap (λ (l : List ℕ). name_bytes n ++ l) rest ∙ sym (append_assoc (name_bytes n) (length roles ∷ flat_map name_bytes roles) (drop (at + 1 + size) bytes)))
+  where
+    rest : drop (1 + length n) (drop 1 bytes) ≡ length roles ∷ (flat_map name_bytes roles ++ drop (at + 1 + size) bytes)
+    rest = behind_name bytes n ∙ ap (λ (k : ℕ). drop k bytes) (sym place) ∙ drop_more bytes at 0 within
+        ∙ ap (λ (g : ℕ). g ∷ drop (at + 1) bytes) (sym count)
+        ∙ ap (λ (l : List ℕ). length roles ∷ l) (is ∙ ap (λ (l : List ℕ). flat_map name_bytes roles ++ l) (drop-drop size (at + 1) bytes))
+
+-- two events at one front are one
+pub same_event : (e f : Event) (x y : List ℕ) → event_bytes e ++ x ≡ event_bytes f ++ y → (e ≡ f) × (x ≡ y)
+same_event (Person m rs) (Person n ss) x y eq =
+    let first = same_name m n (length rs ∷ (flat_map name_bytes rs ++ x)) (length ss ∷ (flat_map name_bytes ss ++ y))
+    (sym (append_assoc (name_bytes m) (length rs ∷ flat_map name_bytes rs) x) ∙ ap (drop 1) eq ∙ append_assoc (name_bytes n) (length ss ∷ flat_map name_bytes ss) y) in
+    let others = same_names rs ss x y (ap (λ (l : List ℕ). get_or l 0 0) first.1) (ap (drop 1) first.1) in
+    (ap (λ (l : List ℕ). Person l rs) first.0 ∙ ap (λ (l : List (List ℕ)). Person n l) others.0, others.1)
+
+-- the bytes begin with these events, and what follows them stands from this offset on
+pub record BeginsWith (bytes : List ℕ) (events : List Event) (at count : ℕ) : Type 0 where
+  pub split : bytes ≡ flat_map event_bytes events ++ drop at bytes
+  pub within : at ≤ length bytes
+  pub counted : length events ≡ count
+  pub each : list_all is_event events ≡ true
+
+flat_map-append : (xs ys : List Event) → flat_map event_bytes (xs ++ ys) ≡ flat_map event_bytes xs ++ flat_map event_bytes ys
+flat_map-append [] ys = refl
+flat_map-append (x ∷ xs) ys = ap (λ (l : List ℕ). event_bytes x ++ l) (flat_map-append xs ys) ∙ sym (append_assoc (event_bytes x) (flat_map event_bytes xs) (flat_map event_bytes ys))
+
+pub one_event_more : (bytes : List ℕ) (events : List Event) (at count : ℕ) (event : Event) (size : ℕ) → BeginsWith bytes events at count → is_event event ≡ true
+    → drop at bytes ≡ event_bytes event ++ drop size (drop at bytes) → size ≤ length (drop at bytes) → BeginsWith bytes (events ++ event ∷ []) (at + size) (count + 1)
+one_event_more bytes events at count event size b is split within = record {
+  split = b.split ∙ ap (λ (l : List ℕ). flat_map event_bytes events ++ l) (split ∙ ap (λ (l : List ℕ). event_bytes event ++ l) (drop-drop size at bytes))
+      ∙ sym (append_assoc (flat_map event_bytes events) (event_bytes event) (drop (at + size) bytes))
+      ∙ ap (λ (l : List ℕ). l ++ drop (at + size) bytes) (sym (flat_map-append events (event ∷ []) ∙ ap (λ (l : List ℕ). flat_map event_bytes events ++ l) (append-nil (event_bytes event))));
+  within = omega (arith, length-drop at bytes, b.within);
+  counted = omega (arith, length-append events (event ∷ []), b.counted);
+  each = list_all-append is_event events (event ∷ []) ∙ both_true (list_all is_event events) (is_event event) b.each is;
+}
+  where
+    both_true : (p q : Bool) → p ≡ true → q ≡ true → (p && (q && true)) ≡ true
+    both_true p q e f = cc
+
+-- as many events as others at one front are the same
+pub same_events : (es fs : List Event) (x y : List ℕ) → length es ≡ length fs → flat_map event_bytes es ++ x ≡ flat_map event_bytes fs ++ y → (es ≡ fs) × (x ≡ y)
+same_events [] [] x y size eq = (refl, eq)
+same_events [] (f ∷ fs) x y size eq = absurd (omega arith)
+same_events (e ∷ es) [] x y size eq = absurd (omega arith)
+same_events (e ∷ es) (f ∷ fs) x y size eq =
+    let first = same_event e f (flat_map event_bytes es ++ x) (flat_map event_bytes fs ++ y)
+    (sym (append_assoc (event_bytes e) (flat_map event_bytes es) x) ∙ eq ∙ append_assoc (event_bytes f) (flat_map event_bytes fs) y) in
+    let others = same_events es fs x y (omega arith) first.1 in
+    (ap (λ (e : Event). e ∷ es) first.0 ∙ ap (λ (l : List Event). f ∷ l) others.0, others.1)
+
+-- where more events stand than were read, an event stands behind these
+pub next_event : (bytes : List ℕ) (events es : List Event) (rest : List ℕ) (at count : ℕ) → BeginsWith bytes events at count → count < length es → list_all is_event es ≡ true
+    → bytes ≡ flat_map event_bytes es ++ rest → (event : Event) × (behind : List ℕ) × (is_event event ≡ true) × (drop at bytes ≡ event_bytes event ++ behind)
+next_event bytes events es rest at count b less each is = found (drop count es) refl
+  where
+    behind : drop at bytes ≡ flat_map event_bytes (drop count es) ++ rest
+    behind = (same_events events (take count es) (drop at bytes) (flat_map event_bytes (drop count es) ++ rest) (omega (arith, b.counted, length-take count es))
+        (sym b.split ∙ is ∙ ap (λ (l : List ℕ). l ++ rest) (ap (flat_map event_bytes) (sym (take-append-drop count es)) ∙ flat_map-append (take count es) (drop count es))
+        ∙ append_assoc (flat_map event_bytes (take count es)) (flat_map event_bytes (drop count es)) rest)).1
+
+    found : (left : List Event) → left ≡ drop count es → (event : Event) × (behind : List ℕ) × (is_event event ≡ true) × (drop at bytes ≡ event_bytes event ++ behind)
+    found [] e = absurd (omega (arith, ap length e, length-drop count es))
+    found (n ∷ more) e = (
+      n,
+      flat_map event_bytes more ++ rest,
+      and_left (is_event n) (list_all is_event more) (ap (list_all is_event) e ∙ all_behind),
+      behind ∙ ap (λ (l : List Event). flat_map event_bytes l ++ rest) (sym e) ∙ append_assoc (event_bytes n) (flat_map event_bytes more) rest,
+    )
+      where
+        all_behind : list_all is_event (drop count es) ≡ true
+        all_behind = and_right (list_all is_event (take count es)) (list_all is_event (drop count es)) (sym (list_all-append is_event (take count es) (drop count es)) ∙ ap (list_all is_event) (take-append-drop count es) ∙ each)

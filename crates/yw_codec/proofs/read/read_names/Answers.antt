@@ -1,0 +1,13 @@
+use Rattle.std.proofs.Common.{◌∙◌, ◌<◌, length, arith}
+use Rattle.std.proofs.lemmas.List.{take_rest}
+use Rattle.std.proofs.lemmas.Result.{err_from_is_err_and}
+use Rattle.yw_codec.proofs.Names.{next_name}
+use Rattle.yw_codec.proofs.read.read_names.Goals as goal
+
+pub returns-in_err-name-clause-bad : goal.returns-in_err-name-clause-bad
+returns-in_err-name-clause-bad c =
+    let p = err_from_is_err_and c.from_residual.result c.from_residual.ensures.1 in
+    rw (p.1, p.2) (λ bad names rest size each split.
+    let less : c.loop-i._i < length names = omega (arith, size, c.loop-i-test.true) in
+    let n = next_name c.args.bytes.now c.loop-i.names.items names rest c.loop-i.at c.loop-i._i c.loop-i.invariant less each split in
+    c.in_err-name.ensures.bad bad n.0 n.1 n.2 (take_rest c.args.bytes.now c.loop-i.at ∙ n.3))

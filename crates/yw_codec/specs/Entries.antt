@@ -1,0 +1,46 @@
+-- The bytes of an entry. A number of several bytes is a field that spells it, the most significant byte first, as
+-- `byteorder` reads it.
+use Rattle.std.specs.Prelude.{◌≡◌, ◌≤◌, ◌&&◌, ℕ, List, [], ◌∷◌, ◌++◌, length, Bool, true, nat_lt}
+use Rattle.std.specs.List.{flat_map, list_all}
+use Rattle.byteorder.specs.Endian.{big_number, big_bytes}
+use Rattle.yw_base.specs.Spelling.{is_name}
+use Rattle.yw_model.specs.declared.speech.Event.{Event}
+use Rattle.yw_model.specs.declared.speech.Event.TheVariants.{Person}
+
+-- a field of so many bytes that spells this number
+pub record IsField (size value : ℕ) (field : List ℕ) : Type 0 where
+  pub long : length field ≡ size
+  pub spells : big_number size field ≡ value
+
+-- a length and the name
+abbrev pub name_bytes : List ℕ → List ℕ
+name_bytes name = length name ∷ name
+
+-- a tag and the fields
+abbrev pub event_bytes : Event → List ℕ
+event_bytes (Person name roles) = 1 ∷ (name_bytes name ++ (length roles ∷ flat_map name_bytes roles))
+
+-- each name is one, and the number of roles fits its byte
+abbrev pub is_event : Event → Bool
+is_event (Person name roles) = is_name name && list_all is_name roles && nat_lt (length roles) 256
+
+-- a count of two bytes and so many events, of which there are 1 to 4,097
+pub record IsEntry (events : List Event) (bytes : List ℕ) : Type 0 where
+  pub field : List ℕ
+  pub split : bytes ≡ field ++ flat_map event_bytes events
+  pub count : IsField 2 (length events) field
+  pub some : 1 ≤ length events
+  pub few : length events ≤ 4097
+  pub each : list_all is_event events ≡ true
+
+-- an event that can be written has at most 64 roles
+abbrev pub is_writable : Event → Bool
+is_writable (Person name roles) = nat_lt (length roles) 65
+
+-- the bytes of an entry: a count, and the events
+unfoldable pub entry_bytes : List Event → List ℕ
+entry_bytes events = big_bytes 2 (length events) ++ flat_map event_bytes events
+
+-- an entry as it is appended: its length, its bytes, and a closed gate
+unfoldable pub framed : List Event → List ℕ
+framed events = (big_bytes 4 (length (entry_bytes events)) ++ entry_bytes events) ++ 0 ∷ []

@@ -1,0 +1,117 @@
+// An entry as it is appended.
+ghost use Rattle.std.specs.Prelude.{◌≡◌, ◌++◌, ◌∷◌, ◌≤◌, [], List, ℕ, true, IfOk, OnOk, length};
+ghost use Rattle.std.specs.List.{flat_map, list_all};
+ghost use Rattle.byteorder.specs.Endian.{big_bytes};
+ghost use Rattle.yw_base.specs.Spelling.{is_name};
+ghost use Rattle.yw_codec.specs.Entries.{name_bytes, event_bytes, is_event, is_writable, IsEntry, entry_bytes, framed};
+ghost use Rattle.yw_journal.specs.Records.{IsFramed};
+
+use crate::EventList;
+use byteorder::{BigEndian, ByteOrder};
+use std::alloc::{AllocError, Global};
+use yw_base::{Bytes, Name};
+use yw_model::Event;
+
+fn push_u16(out: &mut Vec<u8>, number: u16) -> Result<(), AllocError>
+    ensures { OnOk result (out.new.items ≡ out.old.items ++ big_bytes 2 number) }
+{
+    let mut field = [0; 2];
+    BigEndian::write_u16(&mut field, number);
+    out.extend_from_slice(&field)
+}
+
+fn push_u32(out: &mut Vec<u8>, number: u32) -> Result<(), AllocError>
+    ensures { OnOk result (out.new.items ≡ out.old.items ++ big_bytes 4 number) }
+{
+    let mut field = [0; 4];
+    BigEndian::write_u32(&mut field, number);
+    out.extend_from_slice(&field)
+}
+
+fn push_name(out: &mut Vec<u8>, name: &Name) -> Result<(), AllocError>
+    ensures bytes { OnOk result (out.new.items ≡ out.old.items ++ name_bytes name.now) }
+    ensures name { is_name name.now ≡ true }
+{
+    let text = name.as_str();
+    out.push(text.len() as u8)?;
+    out.extend_from_slice(text.as_bytes())
+}
+
+fn push_names(out: &mut Vec<u8>, names: &[Name]) -> Result<(), AllocError>
+    ensures bytes { OnOk result (out.new.items ≡ out.old.items ++ flat_map name_bytes names.now) }
+    ensures names { OnOk result (list_all is_name names.now ≡ true) }
+{
+    for name in names {
+        push_name(out, name)?;
+    }
+    Ok(())
+}
+
+fn push_event(out: &mut Vec<u8>, event: &Event) -> Result<(), AllocError>
+    requires { is_writable event.now ≡ true }
+    ensures bytes { OnOk result (out.new.items ≡ out.old.items ++ event_bytes event.now) }
+    ensures event { OnOk result (is_event event.now ≡ true) }
+{
+    match event {
+        Event::Person { name, roles } => {
+            out.push(1)?;
+            push_name(out, name)?;
+            out.push(roles.len() as u8)?;
+            push_names(out, roles.as_slice())
+        }
+    }
+}
+
+fn push_events(out: &mut Vec<u8>, events: &[Event]) -> Result<(), AllocError>
+    requires { list_all is_writable events.now ≡ true }
+    ensures bytes { OnOk result (out.new.items ≡ out.old.items ++ flat_map event_bytes events.now) }
+    ensures events { OnOk result (list_all is_event events.now ≡ true) }
+{
+    for event in events {
+        push_event(out, event)?;
+    }
+    Ok(())
+}
+
+// The entry without its length.
+fn entry_of(alloc: Global, events: &[Event]) -> Result<Vec<u8>, AllocError>
+    requires some { 1 ≤ length events.now }
+    requires few { length events.now ≤ 4097 }
+    requires writable { list_all is_writable events.now ≡ true }
+    ensures bytes { IfOk result (λ v. v.items ≡ entry_bytes events.now) }
+    ensures entry { IfOk result (λ v. IsEntry events.now v.items) }
+{
+    let mut entry = Vec::new(alloc);
+    push_u16(&mut entry, events.len() as u16)?;
+    push_events(&mut entry, events)?;
+    Ok(entry)
+}
+
+// A record's length, its bytes, and a closed gate.
+fn frame(alloc: Global, bytes: &[u8]) -> Result<Vec<u8>, AllocError>
+    ensures bytes { IfOk result (λ v. v.items ≡ (big_bytes 4 (length bytes.now) ++ bytes.now) ++ 0 ∷ []) }
+    ensures frame { IfOk result (λ v. IsFramed v.items bytes.now) }
+{
+    let Ok(size) = u32::try_from(bytes.len()) else {
+        return Err(AllocError);
+    };
+    let mut out = Vec::new(alloc);
+    push_u32(&mut out, size)?;
+    out.extend_from_slice(bytes)?;
+    out.push(0)?;
+    Ok(out)
+}
+
+/// The bytes of an entry as they are appended: the entry's length as a u32, the entry, and a closed gate. An
+/// `Err` says that no memory was left, or that the length doesn't fit a u32.
+pub fn write_entry(alloc: Global, events: &EventList) -> Result<Bytes, AllocError>
+    requires some { 1 ≤ length events.now }
+    requires few { length events.now ≤ 4097 }
+    requires writable { list_all is_writable events.now ≡ true }
+    ensures bytes { IfOk result (λ b. b ≡ framed events.now) }
+    ensures entry { IfOk result (λ _. IsEntry events.now (entry_bytes events.now)) }
+    ensures frame { IfOk result (λ b. IsFramed b (entry_bytes events.now)) }
+{
+    let entry = entry_of(alloc, events.as_slice())?;
+    Ok(Bytes::from_vec(frame(alloc, &entry)?))
+}

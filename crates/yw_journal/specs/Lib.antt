@@ -1,0 +1,4 @@
+pub mod Records
+pub mod Files
+pub mod Journal
+pub mod FileLaws

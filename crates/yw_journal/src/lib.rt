@@ -1,0 +1,11 @@
+//! Two files that hold a snapshot and records, each whole or not there at every moment.
+#![tactic(auto)]
+
+mod append;
+mod journal;
+mod make;
+mod synced;
+#[cfg(test)]
+mod tests;
+
+pub use journal::{AppendFault, Journal};

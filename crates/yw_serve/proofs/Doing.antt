@@ -1,0 +1,119 @@
+-- How steps that are done join, and what a crash leaves of them.
+use Rattle.std.proofs.Common.{◌≡◌, ℕ, List, [], ◌∷◌, ◌++◌, map, inl, inr, ⊎_elim, refl, sym, ap, ◌∙◌, subst, append_assoc}
+use Rattle.std.proofs.lemmas.List.{append-nil, map-append}
+use Rattle.yw_outside.specs.declared.desk.File.{File}
+use Rattle.yw_outside.specs.declared.image.Image.{Image}
+use Rattle.yw_outside.specs.Image.{SaysPart, other_in}
+use Rattle.yw_outside.specs.Moments.{IsSettled, LeavesOnly}
+use Rattle.yw_journal.specs.Files.{Content}
+use Rattle.yw_journal.specs.Journal.{IsCurrent}
+use Rattle.yw_journal.specs.declared.journal.Journal.{Journal}
+use Rattle.yw_journal.proofs.Passing.{started, and_then, weakened}
+use Rattle.yw_journal.proofs.Images.{settled_is}
+use Rattle.yw_codec.specs.Entries.{entry_bytes}
+use Rattle.yw_model.specs.Run.{Step, taken_by, said_by}
+use Rattle.yw_model.proofs.RunLemmas.{taken_by-append, said_by-append}
+use Rattle.yw_serve.specs.Session.{with_steps, IsIn, IsBetween, IsAtWork, OfSteps, AreDone}
+
+abbrev with_records : Content → List (List ℕ) → Content
+with_records c records = record { generation = c.generation; count = c.count; snapshot = c.snapshot; records = records }
+
+pub with_steps-none : (c : Content) → with_steps c [] ≡ c
+with_steps-none c = ap (with_records c) (append-nil c.records)
+
+pub with_steps-append : (c : Content) (steps more : List Step) → with_steps (with_steps c steps) more ≡ with_steps c (steps ++ more)
+with_steps-append c steps more = ap (with_records c)
+    (append_assoc c.records (map entry_bytes (taken_by steps)) (map entry_bytes (taken_by more))
+    ∙ ap (λ (rs : List (List ℕ)). c.records ++ rs) (sym (map-append entry_bytes (taken_by steps) (taken_by more)) ∙ ap (map entry_bytes) (sym (taken_by-append steps more))))
+
+said_further : (old said : List ℕ) (steps more : List Step) → said ≡ old ++ said_by steps → said ++ said_by more ≡ old ++ said_by (steps ++ more)
+said_further old said steps more e = ap (λ (bs : List ℕ). bs ++ said_by more) e ∙ append_assoc old (said_by steps) (said_by more) ∙ ap (λ (bs : List ℕ). old ++ bs) (sym (said_by-append steps more))
+
+-- what a crash leaves of steps, it leaves of more steps
+pub of_steps_longer : (f : File) (c : Content) (steps more : List Step) (old i : Image) → OfSteps f c steps old i → OfSteps f c (steps ++ more) old i
+of_steps_longer f c steps more old i o = record {
+  done = o.done;
+  rest = o.rest ++ more;
+  split = ap (λ (s : List Step). s ++ more) o.split ∙ append_assoc o.done o.rest more;
+  here = ⊎_elim
+      (λ (b : IsBetween f c o.done old i). inl b)
+      (λ (w : IsAtWork f c o.done o.rest old i). inr (record { step = w.step; later = w.later ++ more; first = ap (λ (s : List Step). s ++ more) w.first; file = w.file; said = w.said }))
+      o.here;
+  other = o.other;
+}
+
+-- and behind other steps that are done
+pub of_steps_behind : (f : File) (c : Content) (first steps : List Step) (old mid i : Image) → other_in f mid ≡ other_in f old → mid.said ≡ old.said ++ said_by first
+    → OfSteps f (with_steps c first) steps mid i → OfSteps f c (first ++ steps) old i
+of_steps_behind f c first steps old mid i other said o =
+    let in_all = λ (done : List Step) (h : IsIn f (with_steps (with_steps c first) done) i). subst (λ (x : Content). IsIn f x i) (with_steps-append c first done) h in
+    record {
+      done = first ++ o.done;
+      rest = o.rest;
+      split = ap (λ (s : List Step). first ++ s) o.split ∙ sym (append_assoc first o.done o.rest);
+      here = ⊎_elim
+          (λ (b : IsBetween f (with_steps c first) o.done mid i). inl (record { file = in_all o.done b.file; said = b.said ∙ said_further old.said mid.said first o.done said }))
+          (λ (w : IsAtWork f (with_steps c first) o.done o.rest mid i). inr (record {
+            step = w.step;
+            later = w.later;
+            first = w.first;
+            file = subst (λ (s : List Step). IsIn f (with_steps c s) i) (sym (append_assoc first o.done (w.step ∷ []))) (in_all (o.done ++ w.step ∷ []) w.file);
+            said = subst (λ (bs : List ℕ). SaysPart bs w.step.reply i.said) (said_further old.said mid.said first o.done said) w.said;
+          }))
+          o.here;
+      other = o.other ∙ other;
+    }
+
+-- no step is done yet
+pub of_no_steps : (f : File) (c : Content) (steps : List Step) (i : Image) → IsIn f c i → OfSteps f c steps i i
+of_no_steps f c steps i h = record {
+  done = [];
+  rest = steps;
+  split = refl;
+  here = inl (record { file = subst (λ (x : Content). IsIn f x i) (sym (with_steps-none c)) h; said = sym (append-nil i.said) });
+  other = refl;
+}
+
+module _ {D : Type 0} (moment : D → ℕ) (left_since : D → ℕ → Image → Type 0) (state : D → Image) (may_leave : D → Image → Type 0) where
+  -- nothing is done where nothing is pending
+  pub leaves_nothing : (d : D) (P : Image → Type 0) → IsSettled (state d) (may_leave d) → ((i : Image) → may_leave d i → i.said ≡ (state d).said) → ((i : Image) → left_since d (moment d) i → may_leave d i)
+      → P (state d) → LeavesOnly moment left_since d d P
+  leaves_nothing d P settled said only here = started moment left_since d P (λ i left. subst P (sym (settled_is (state d) (may_leave d) settled said i (only i left))) here)
+
+  pub nothing_done : (d : D) (c : Content) (journal : Journal) → IsSettled (state d) (may_leave d) → ((i : Image) → may_leave d i → i.said ≡ (state d).said) → ((i : Image) → left_since d (moment d) i → may_leave d i)
+      → IsCurrent journal c (state d) → AreDone moment left_since state may_leave c [] journal d d
+  nothing_done d c journal settled said only current = record {
+    file = subst (λ (x : Content). IsCurrent journal x (state d)) (sym (with_steps-none c)) current;
+    other = refl;
+    said = sym (append-nil (state d).said);
+    settled = settled;
+    moments = leaves_nothing d (OfSteps journal.file c [] (state d)) settled said only (of_no_steps journal.file c [] (state d) (journal.end, current.holds));
+  }
+
+  -- steps and then more
+  pub done_both : (c : Content) (steps more : List Step) (first last : Journal) (old mid new : D) → last.file ≡ first.file
+      → AreDone moment left_since state may_leave c steps first old mid → AreDone moment left_since state may_leave (with_steps c steps) more last mid new
+      → AreDone moment left_since state may_leave c (steps ++ more) last old new
+  done_both c steps more first last old mid new same one two =
+      let other : other_in last.file (state mid) ≡ other_in last.file (state old) = subst (λ (f : File). other_in f (state mid) ≡ other_in f (state old)) (sym same) one.other in
+      record {
+        file = subst (λ (x : Content). IsCurrent last x (state new)) (with_steps-append c steps more) two.file;
+        other = two.other ∙ other;
+        said = two.said ∙ said_further (state old).said (state mid).said steps more one.said;
+        settled = two.settled;
+        moments = and_then moment left_since old mid new (OfSteps last.file c (steps ++ more) (state old)) (OfSteps last.file (with_steps c steps) more (state mid))
+            (weakened moment left_since old mid (OfSteps first.file c steps (state old)) (OfSteps last.file c (steps ++ more) (state old)) one.moments
+            (λ i o. of_steps_longer last.file c steps more (state old) i (subst (λ (f : File). OfSteps f c steps (state old) i) (sym same) o)))
+            two.moments
+            (λ i o. of_steps_behind last.file c steps more (state old) (state mid) i other one.said o);
+      }
+
+  -- steps that are done, and then some at work
+  pub leaves_behind : (c : Content) (steps work : List Step) (journal : Journal) (old mid new : D) → AreDone moment left_since state may_leave c steps journal old mid
+      → LeavesOnly moment left_since mid new (OfSteps journal.file (with_steps c steps) work (state mid)) → LeavesOnly moment left_since old new (OfSteps journal.file c (steps ++ work) (state old))
+  leaves_behind c steps work journal old mid new one two =
+      and_then moment left_since old mid new (OfSteps journal.file c (steps ++ work) (state old)) (OfSteps journal.file (with_steps c steps) work (state mid))
+      (weakened moment left_since old mid (OfSteps journal.file c steps (state old)) (OfSteps journal.file c (steps ++ work) (state old)) one.moments
+      (λ i o. of_steps_longer journal.file c steps work (state old) i o))
+      two
+      (λ i o. of_steps_behind journal.file c steps work (state old) (state mid) i one.other one.said o)

@@ -1,0 +1,134 @@
+-- What telling and appending do to the step at work.
+use Rattle.std.proofs.Common.{◌≡◌, ℕ, List, [], ◌∷◌, ◌++◌, inl, inr, ⊎_elim, refl, sym, ap, ◌∙◌, subst}
+use Rattle.std.proofs.lemmas.List.{append-nil}
+use Rattle.yw_outside.specs.declared.desk.File.{File}
+use Rattle.yw_outside.specs.declared.desk.File.TheVariants.{A, B}
+use Rattle.yw_outside.specs.declared.image.Image.{Image}
+use Rattle.yw_outside.specs.Image.{SaysPart, Speaks, file_in, other_in}
+use Rattle.yw_outside.specs.Moments.{After, Passes, IsSettled, LeavesOnly}
+use Rattle.yw_journal.specs.Files.{Content, Holds, IsLesser, FileHas}
+use Rattle.yw_journal.specs.Journal.{IsCurrent, IsBeforeOrAfter, with_record}
+use Rattle.yw_journal.specs.declared.journal.Journal.{Journal}
+use Rattle.yw_journal.proofs.Passing.{started, goes_on, and_then}
+use Rattle.yw_journal.proofs.Images.{settled_is}
+use Rattle.yw_codec.specs.Entries.{entry_bytes}
+use Rattle.yw_model.specs.Run.{Entry, Step, said_by}
+use Rattle.yw_serve.specs.Session.{with_entries, with_steps, IsIn, OfSteps, AreDone}
+use Rattle.yw_serve.proofs.Doing.{with_steps-none}
+
+nothing_said : (old reply new : List ℕ) → new ≡ old → SaysPart old reply new
+nothing_said old reply new e = ([], reply, refl, e ∙ sym (append-nil old))
+
+speaks_not : (text : List ℕ) (i : Image) → Speaks text i i
+speaks_not text i = record { a = refl; b = refl; said = nothing_said i.said text i.said refl }
+
+pub same_file : (f : File) (old new : Image) → new.a ≡ old.a → new.b ≡ old.b → file_in f new ≡ file_in f old
+same_file A old new a b = a
+same_file B old new a b = b
+
+pub same_other : (f : File) (old new : Image) → new.a ≡ old.a → new.b ≡ old.b → other_in f new ≡ other_in f old
+same_other A old new a b = b
+same_other B old new a b = a
+
+-- where the files are the same, they hold the same
+pub holds_same : (f : File) (c : Content) (end : ℕ) (old new : Image) → new.a ≡ old.a → new.b ≡ old.b → Holds f c end old → Holds f c end new
+holds_same f c end old new a b h = record {
+  file = subst (λ (l : List ℕ). FileHas l c end) (sym (same_file f old new a b)) h.file;
+  other = subst (λ (l : List ℕ). IsLesser c.generation l) (sym (same_other f old new a b)) h.other;
+}
+
+-- the words of a step with one entry or none
+pub with_step : (c : Content) (step : Step) → with_steps c (step ∷ []) ≡ with_entries c step.taken
+with_step c step = ap (with_entries c) (append-nil step.taken)
+
+pub with_one : (c : Content) (step : Step) (entry : Entry) → step.taken ≡ entry ∷ [] → with_steps c (step ∷ []) ≡ with_record c (entry_bytes entry)
+with_one c step entry e = with_step c step ∙ ap (with_entries c) e
+
+pub with_none : (c : Content) (step : Step) → step.taken ≡ [] → with_steps c (step ∷ []) ≡ c
+with_none c step e = with_step c step ∙ ap (with_entries c) e ∙ with_steps-none c
+
+pub said_by-one : (step : Step) → said_by (step ∷ []) ≡ step.reply
+said_by-one step = append-nil step.reply
+
+-- the step isn't begun
+pub not_begun : (f : File) (c : Content) (step : Step) (old i : Image) → IsIn f c i → i.said ≡ old.said → other_in f i ≡ other_in f old → OfSteps f c (step ∷ []) old i
+not_begun f c step old i h said other = record {
+  done = [];
+  rest = step ∷ [];
+  split = refl;
+  here = inl (record { file = subst (λ (x : Content). IsIn f x i) (sym (with_steps-none c)) h; said = said ∙ sym (append-nil old.said) });
+  other = other;
+}
+
+-- its entry is held, and a front of its reply said
+pub at_work : (f : File) (c : Content) (step : Step) (old i : Image) → IsIn f (with_steps c (step ∷ [])) i → SaysPart old.said step.reply i.said → other_in f i ≡ other_in f old → OfSteps f c (step ∷ []) old i
+at_work f c step old i h said other = record {
+  done = [];
+  rest = step ∷ [];
+  split = refl;
+  here = inr (record { step = step; later = []; first = refl; file = h; said = subst (λ (bs : List ℕ). SaysPart bs step.reply i.said) (sym (append-nil old.said)) said });
+  other = other;
+}
+
+-- within an append
+pub of_append : (f : File) (c : Content) (step : Step) (entry : Entry) (old i : Image) → step.taken ≡ entry ∷ [] → IsBeforeOrAfter f c (entry_bytes entry) old i → OfSteps f c (step ∷ []) old i
+of_append f c step entry old i e h = ⊎_elim
+    (λ (before : (end : ℕ) × Holds f c end i). not_begun f c step old i before h.said h.other)
+    (λ (after : (end : ℕ) × Holds f (with_record c (entry_bytes entry)) end i).
+    at_work f c step old i (subst (λ (x : Content). IsIn f x i) (sym (with_one c step entry e)) after) (nothing_said old.said step.reply i.said h.said) h.other)
+    h.holds
+
+-- while a reply is said behind its entry
+pub of_telling : (f : File) (c : Content) (step : Step) (end : ℕ) (old mid i : Image) → Holds f (with_steps c (step ∷ [])) end mid → mid.said ≡ old.said → other_in f mid ≡ other_in f old
+    → Speaks step.reply mid i → OfSteps f c (step ∷ []) old i
+of_telling f c step end old mid i h said other s =
+    at_work f c step old i (end, holds_same f (with_steps c (step ∷ [])) end mid i s.a s.b h) (subst (λ (bs : List ℕ). SaysPart bs step.reply i.said) said s.said) (same_other f mid i s.a s.b ∙ other)
+
+module _ {D : Type 0} (moment : D → ℕ) (left_since : D → ℕ → Image → Type 0) where
+  pub told : (old new : D) (state : Image) (may_old may_new : Image → Type 0) (text : List ℕ) → IsSettled state may_old → ((i : Image) → may_old i → i.said ≡ state.said)
+      → ((i : Image) → left_since old (moment old) i → may_old i) → Passes (Speaks text) (moment old) (moment new) (left_since old) (left_since new) may_old may_new
+      → LeavesOnly moment left_since old new (Speaks text state)
+  told old new state may_old may_new text settled said now time =
+      let only = settled_is state may_old settled said in
+      goes_on moment left_since old old new (Speaks text) may_old may_new (Speaks text state)
+      (started moment left_since old (Speaks text state) (λ i left. subst (λ (d : Image). Speaks text state d) (sym (only i (now i left))) (speaks_not text state)))
+      time (λ i a. subst (λ (d : Image). Speaks text d i) (only a.0 a.1) a.2)
+
+module _ {D : Type 0} (moment : D → ℕ) (left_since : D → ℕ → Image → Type 0) (state : D → Image) (may_leave : D → Image → Type 0)
+    (c : Content) (step : Step) (journal : Journal) (old mid new : D) (text : List ℕ) (reply : text ≡ step.reply)
+    (current : IsCurrent journal (with_steps c (step ∷ [])) (state mid)) (unsaid : (state mid).said ≡ (state old).said) (other : other_in journal.file (state mid) ≡ other_in journal.file (state old))
+    (first : LeavesOnly moment left_since old mid (OfSteps journal.file c (step ∷ []) (state old))) (second : LeavesOnly moment left_since mid new (Speaks text (state mid))) where
+  -- a reply that is said, or a front of it, behind its entry
+  pub leaves_telling : LeavesOnly moment left_since old new (OfSteps journal.file c (step ∷ []) (state old))
+  leaves_telling = and_then moment left_since old mid new (OfSteps journal.file c (step ∷ []) (state old)) (Speaks text (state mid)) first second
+      (λ i s. of_telling journal.file c step journal.end (state old) (state mid) i current.holds unsaid other (subst (λ (t : List ℕ). Speaks t (state mid) i) reply s))
+
+  pub done_by_telling : (state new).a ≡ (state mid).a → (state new).b ≡ (state mid).b → (state new).said ≡ (state mid).said ++ text → IsSettled (state new) (may_leave new)
+      → AreDone moment left_since state may_leave c (step ∷ []) journal old new
+  done_by_telling a b said settled = record {
+    file = record { holds = holds_same journal.file (with_steps c (step ∷ [])) journal.end (state mid) (state new) a b current.holds; generation = current.generation; number = current.number };
+    other = same_other journal.file (state mid) (state new) a b ∙ other;
+    said = said ∙ ap (λ (bs : List ℕ). bs ++ text) unsaid ∙ ap (λ (bs : List ℕ). (state old).said ++ bs) (reply ∙ sym (said_by-one step));
+    settled = settled;
+    moments = leaves_telling;
+  }
+
+-- a text that is said, or a front of it, behind what a crash might have left before
+module _ {D : Type 0} (moment : D → ℕ) (left_since : D → ℕ → Image → Type 0) where
+  pub told_after : (old new : D) (may_old may_new : Image → Type 0) (text : List ℕ) → ((i : Image) → left_since old (moment old) i → may_old i)
+      → Passes (Speaks text) (moment old) (moment new) (left_since old) (left_since new) may_old may_new → LeavesOnly moment left_since old new (After (Speaks text) may_old)
+  told_after old new may_old may_new text now time =
+      goes_on moment left_since old old new (Speaks text) may_old may_new (After (Speaks text) may_old)
+      (started moment left_since old (After (Speaks text) may_old) (λ i left. (i, now i left, speaks_not text i)))
+      time (λ i a. a)
+
+-- before a step that takes nothing
+pub current_none : (journal : Journal) (c : Content) (step : Step) (i : Image) → step.taken ≡ [] → IsCurrent journal c i → IsCurrent journal (with_steps c (step ∷ [])) i
+current_none journal c step i e h = subst (λ (x : Content). IsCurrent journal x i) (sym (with_none c step e)) h
+
+pub current_one : (journal : Journal) (c : Content) (step : Step) (entry : Entry) (i : Image) → step.taken ≡ entry ∷ [] → IsCurrent journal (with_record c (entry_bytes entry)) i → IsCurrent journal (with_steps c (step ∷ [])) i
+current_one journal c step entry i e h = subst (λ (x : Content). IsCurrent journal x i) (sym (with_one c step entry e)) h
+
+-- where the files are the same
+pub current_same : (journal : Journal) (c : Content) (old new : Image) → new.a ≡ old.a → new.b ≡ old.b → IsCurrent journal c old → IsCurrent journal c new
+current_same journal c old new a b h = record { holds = holds_same journal.file c journal.end old new a b h.holds; generation = h.generation; number = h.number }

@@ -1,0 +1,136 @@
+use Rattle.std.proofs.Common.{◌≡◌, ◌∷◌, [], ℕ, List, refl, sym, ap, ◌∙◌, subst}
+use Rattle.std.proofs.lemmas.Result.{IfOk-weaker, IfErr-weaker}
+use Rattle.yw_outside.specs.declared.desk.File.{File}
+use Rattle.yw_outside.specs.Image.{other_in}
+use Rattle.yw_outside.specs.Moments.{LeavesOnly}
+use Rattle.yw_codec.specs.Entries.{entry_bytes, framed}
+use Rattle.yw_journal.specs.Journal.{IsBeforeOrAfter, with_record}
+use Rattle.yw_journal.specs.Records.{IsFramed}
+use Rattle.yw_journal.proofs.Passing.{weakened}
+use Rattle.yw_model.specs.Run.{Step}
+use Rattle.yw_serve.specs.Session.{OfSteps}
+use Rattle.yw_serve.specs.Plans.{Does, CanBeAppended}
+use Rattle.yw_serve.specs.declared.plan.Plan.{Plan}
+use Rattle.yw_serve.specs.declared.plan.Plan.TheVariants.{Refuse, Accept}
+use Rattle.yw_serve.proofs.Doing.{leaves_nothing}
+use Rattle.yw_serve.proofs.Telling.{not_begun, of_append, leaves_telling, done_by_telling, current_none, current_one, current_same}
+use Rattle.yw_serve.proofs.answer.carry_out.Goals as goal
+
+does_as : (p q : Plan) (step : Step) → p ≡ q → Does p step → Does q step
+does_as p q step e d = subst (λ (x : Plan). Does x step) e d
+
+can_append : (p q : Plan) → p ≡ q → CanBeAppended p → CanBeAppended q
+can_append p q e h = subst CanBeAppended e h
+
+framed_as : (items : List ℕ) (bytes : List ℕ) (whole : List ℕ) → items ≡ whole → IsFramed whole bytes → IsFramed items bytes
+framed_as items bytes whole e h = subst (λ (l : List ℕ). IsFramed l bytes) (sym e) h
+
+pub returns-in-Refuse-clause-ok : goal.returns-in-Refuse-clause-ok
+returns-in-Refuse-clause-ok g c = IfOk-weaker c.tell.result _ _ (λ x said tells content step current does.
+    let D = g.D.Desk in
+    let old = c.args.desk.now in
+    let journal = c.args.journal.now in
+    let d = does_as c.args.plan.now (Refuse c.in-Refuse.reply) step c.in-Refuse.is does in
+    let settled = c.requires.stands.settled tells in
+    let told = c.tell.ensures in
+    let first = leaves_nothing D.moment D.left_since D.state D.may_leave old (OfSteps journal.file content (step ∷ []) (D.state old)) settled (g.met.D.Desk.said_by_now old) (g.met.D.Desk.only_now old)
+    (not_begun journal.file content step (D.state old) (D.state old) (journal.end, current.holds) refl refl) in
+    done_by_telling D.moment D.left_since D.state D.may_leave content step journal old old c.tell.new.desk c.as_str.result.now (c.as_str.ensures.value ∙ sym d.1)
+    (current_none journal content step (D.state old) d.0 current) refl refl first (told.any_moment tells settled) told.a told.b (said tells) (told.settled tells settled)) c.tell.ensures.said
+
+pub returns-in-Refuse-clause-moments : goal.returns-in-Refuse-clause-moments
+returns-in-Refuse-clause-moments g c = IfErr-weaker c.tell.result _ _ (λ x write tells content step current does.
+    let D = g.D.Desk in
+    let old = c.args.desk.now in
+    let journal = c.args.journal.now in
+    let d = does_as c.args.plan.now (Refuse c.in-Refuse.reply) step c.in-Refuse.is does in
+    let settled = c.requires.stands.settled tells in
+    let first = leaves_nothing D.moment D.left_since D.state D.may_leave old (OfSteps journal.file content (step ∷ []) (D.state old)) settled (g.met.D.Desk.said_by_now old) (g.met.D.Desk.only_now old)
+    (not_begun journal.file content step (D.state old) (D.state old) (journal.end, current.holds) refl refl) in
+    leaves_telling D.moment D.left_since D.state D.may_leave content step journal old old c.tell.new.desk c.as_str.result.now (c.as_str.ensures.value ∙ sym d.1)
+    (current_none journal content step (D.state old) d.0 current) refl refl first (c.tell.ensures.any_moment tells settled)) c.tell.ensures.write
+
+pub returns-in-Ok-clause-ok : goal.returns-in-Ok-clause-ok
+returns-in-Ok-clause-ok g c = IfOk-weaker c.tell-in-Ok.result _ _ (λ x said tells content step current does.
+    let D = g.D.Desk in
+    let old = c.args.desk.now in
+    let mid = c.append.new.desk in
+    let before = c.args.journal.now in
+    let journal = c.append.new.self in
+    let d = does_as c.args.plan.now (Accept c.in-Accept.entry c.in-Accept.reply) step c.in-Accept.is does in
+    let bytes : List ℕ = entry_bytes d.0 in
+    let whole : IsFramed c.deref.result.now bytes = framed_as c.deref.result.now bytes (framed d.0) (c.deref.ensures.value ∙ d.2) d.3 in
+    let kept = c.in-Ok.ensures in
+    let file : journal.file ≡ before.file = ap (λ j. j.file) kept.journal in
+    let tells_mid = kept.tells ∙ tells in
+    let settled = kept.settled tells in
+    let first = weakened D.moment D.left_since old mid (IsBeforeOrAfter before.file content bytes (D.state old)) (OfSteps journal.file content (step ∷ []) (D.state old)) (kept.any_moment tells content bytes current whole)
+    (λ i h. subst (λ (f : File). OfSteps f content (step ∷ []) (D.state old) i) (sym file) (of_append before.file content step d.0 (D.state old) i d.1 h)) in
+    let other : other_in journal.file (D.state mid) ≡ other_in journal.file (D.state old) = subst (λ (f : File). other_in f (D.state mid) ≡ other_in f (D.state old)) (sym file) (kept.other tells) in
+    let told = c.tell-in-Ok.ensures in
+    done_by_telling D.moment D.left_since D.state D.may_leave content step journal old mid c.tell-in-Ok.new.desk c.as_str-in-Ok.result.now (c.as_str-in-Ok.ensures.value ∙ sym d.4)
+    (current_one journal content step d.0 (D.state mid) d.1 (kept.ok tells content bytes current whole)) (kept.said tells) other first (told.any_moment tells_mid settled) told.a told.b (said tells_mid) (told.settled tells_mid settled))
+    c.tell-in-Ok.ensures.said
+
+pub returns-in-Ok-clause-moments : goal.returns-in-Ok-clause-moments
+returns-in-Ok-clause-moments g c = IfErr-weaker c.tell-in-Ok.result _ _ (λ x write tells content step current does.
+    let D = g.D.Desk in
+    let old = c.args.desk.now in
+    let mid = c.append.new.desk in
+    let before = c.args.journal.now in
+    let journal = c.append.new.self in
+    let d = does_as c.args.plan.now (Accept c.in-Accept.entry c.in-Accept.reply) step c.in-Accept.is does in
+    let bytes : List ℕ = entry_bytes d.0 in
+    let whole : IsFramed c.deref.result.now bytes = framed_as c.deref.result.now bytes (framed d.0) (c.deref.ensures.value ∙ d.2) d.3 in
+    let kept = c.in-Ok.ensures in
+    let file : journal.file ≡ before.file = ap (λ j. j.file) kept.journal in
+    let first = weakened D.moment D.left_since old mid (IsBeforeOrAfter before.file content bytes (D.state old)) (OfSteps journal.file content (step ∷ []) (D.state old)) (kept.any_moment tells content bytes current whole)
+    (λ i h. subst (λ (f : File). OfSteps f content (step ∷ []) (D.state old) i) (sym file) (of_append before.file content step d.0 (D.state old) i d.1 h)) in
+    let other : other_in journal.file (D.state mid) ≡ other_in journal.file (D.state old) = subst (λ (f : File). other_in f (D.state mid) ≡ other_in f (D.state old)) (sym file) (kept.other tells) in
+    subst (λ (f : File). LeavesOnly D.moment D.left_since old c.tell-in-Ok.new.desk (OfSteps f content (step ∷ []) (D.state old))) file
+    (leaves_telling D.moment D.left_since D.state D.may_leave content step journal old mid c.tell-in-Ok.new.desk c.as_str-in-Ok.result.now (c.as_str-in-Ok.ensures.value ∙ sym d.4)
+    (current_one journal content step d.0 (D.state mid) d.1 (kept.ok tells content bytes current whole)) (kept.said tells) other first (c.tell-in-Ok.ensures.any_moment (kept.tells ∙ tells) (kept.settled tells))))
+    c.tell-in-Ok.ensures.write
+
+pub returns-in-Ok-clause-stands : goal.returns-in-Ok-clause-stands
+returns-in-Ok-clause-stands g c = IfOk-weaker c.tell-in-Ok.result _ _ (λ x said.
+    let D = g.D.Desk in
+    let mid = c.append.new.desk in
+    let new = c.tell-in-Ok.new.desk in
+    let kept = c.in-Ok.ensures in
+    let told = c.tell-in-Ok.ensures in
+    let framed = can_append c.args.plan.now (Accept c.in-Accept.entry c.in-Accept.reply) c.in-Accept.is c.requires.framed in
+    let whole : IsFramed c.deref.result.now framed.0 = subst (λ (l : List ℕ). IsFramed l framed.0) (sym c.deref.ensures.value) framed.1 in
+    record {
+      ready = kept.ready;
+      current = λ telling.
+          let tells_mid = sym told.counts.telling ∙ telling in
+          let tells = sym kept.tells ∙ tells_mid in
+          let now = c.requires.stands.current tells in
+          (with_record now.0 framed.0, current_same c.append.new.self (with_record now.0 framed.0) (D.state mid) (D.state new) told.a told.b (kept.ok tells now.0 framed.0 now.1 whole));
+      settled = λ telling.
+          let tells_mid = sym told.counts.telling ∙ telling in
+          told.settled tells_mid (kept.settled (sym kept.tells ∙ tells_mid));
+    }) c.tell-in-Ok.ensures.said
+
+pub returns-in-Err-Disk-clause-moments : goal.returns-in-Err-Disk-clause-moments
+returns-in-Err-Disk-clause-moments g c = λ tells content step current does.
+    let D = g.D.Desk in
+    let old = c.args.desk.now in
+    let before = c.args.journal.now in
+    let d = does_as c.args.plan.now (Accept c.in-Accept.entry c.in-Accept.reply) step c.in-Accept.is does in
+    let bytes : List ℕ = entry_bytes d.0 in
+    let whole : IsFramed c.deref.result.now bytes = framed_as c.deref.result.now bytes (framed d.0) (c.deref.ensures.value ∙ d.2) d.3 in
+    weakened D.moment D.left_since old c.append.new.desk (IsBeforeOrAfter before.file content bytes (D.state old)) (OfSteps before.file content (step ∷ []) (D.state old)) (c.append.ensures.any_moment tells content bytes current whole)
+    (λ i h. of_append before.file content step d.0 (D.state old) i d.1 h)
+
+pub returns-in-Err-Full-clause-moments : goal.returns-in-Err-Full-clause-moments
+returns-in-Err-Full-clause-moments g c = λ tells content step current does.
+    let D = g.D.Desk in
+    let old = c.args.desk.now in
+    let before = c.args.journal.now in
+    let d = does_as c.args.plan.now (Accept c.in-Accept.entry c.in-Accept.reply) step c.in-Accept.is does in
+    let bytes : List ℕ = entry_bytes d.0 in
+    let whole : IsFramed c.deref.result.now bytes = framed_as c.deref.result.now bytes (framed d.0) (c.deref.ensures.value ∙ d.2) d.3 in
+    weakened D.moment D.left_since old c.append.new.desk (IsBeforeOrAfter before.file content bytes (D.state old)) (OfSteps before.file content (step ∷ []) (D.state old)) (c.append.ensures.any_moment tells content bytes current whole)
+    (λ i h. of_append before.file content step d.0 (D.state old) i d.1 h)

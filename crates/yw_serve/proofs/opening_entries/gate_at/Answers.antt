@@ -1,0 +1,12 @@
+use Rattle.std.proofs.Common.{◌≡◌, length, drop, arith, rules, length-drop}
+use Rattle.yw_serve.proofs.OpenGates.{open_gate, cut_by_size}
+use Rattle.yw_serve.proofs.opening_entries.gate_at.Goals as goal
+
+pub returns-then-from-len-clause-stands : goal.returns-then-from-len-clause-stands
+returns-then-from-len-clause-stands g c = λ tells.
+    let file = (g.D.Desk.state c.args.desk.now).a in
+    let rest = drop c.args.at file in
+    let len : c.args.len ≡ length file = c.requires.len tells in
+    let size = length-drop c.args.at file in
+    let e = c.in_ok-read.ensures.bytes tells in
+    cut_by_size c.from_be_bytes-size.result rest (open_gate 5 rest c.read.new.buf (omega arith) (omega arith) e (search rules)) (search rules) (omega arith)

@@ -1,0 +1,65 @@
+use Rattle.std.proofs.Common.{◌≡◌, ℕ, List, [], ◌∷◌, length, get_or, Bool, true, Option, None, Some, map, String, Global, string_bytes, inl, inr, ⊎_elim, refl, sym, ap, ◌∙◌, subst, arith}
+use Rattle.std.specs.Prelude.{IfSome, codes}
+use Rattle.std.specs.Str.{bytes_eq}
+use Rattle.yw_serve.specs.Words.{greatest_limit, IsLimit}
+use Rattle.std.proofs.lemmas.Slice.Eq.{bytes_eq-Decides}
+use Rattle.yw_serve.proofs.words.file_limit.Goals as goal
+
+one_word : (xs : List (String Global)) (w : String Global) → length xs ≡ 1 → w ≡ get_or xs 0 w → xs ≡ w ∷ []
+one_word [] w e h = absurd (omega arith)
+one_word (x ∷ []) w e h = ap (λ y. y ∷ []) (sym h)
+one_word (x ∷ y ∷ xs) w e h = absurd (omega arith)
+
+three_words : (xs : List (String Global)) (u v w : String Global) → length xs ≡ 3 → u ≡ get_or xs 0 u → v ≡ get_or xs 1 v → w ≡ get_or xs 2 w → xs ≡ u ∷ v ∷ w ∷ []
+three_words [] u v w e a b c = absurd (omega arith)
+three_words (x ∷ []) u v w e a b c = absurd (omega arith)
+three_words (x ∷ y ∷ []) u v w e a b c = absurd (omega arith)
+three_words (x ∷ y ∷ z ∷ []) u v w e a b c = ap (λ l. l ∷ y ∷ z ∷ []) (sym a) ∙ ap (λ l. u ∷ l ∷ z ∷ []) (sym b) ∙ ap (λ l. u ∷ v ∷ l ∷ []) (sym c)
+three_words (x ∷ y ∷ z ∷ t ∷ xs) u v w e a b c = absurd (omega arith)
+
+same_text : (b : Bool) (xs ys : List ℕ) → b ≡ bytes_eq xs ys → b ≡ true → xs ≡ ys
+same_text b xs ys e t = (bytes_eq-Decides xs ys).0 (sym e ∙ t)
+
+some_as : (o : Option ℕ) (P Q : ℕ → Type 0) → IfSome o P → ((n : ℕ) → P n → Q n) → IfSome o Q
+some_as None P Q h f = tt
+some_as (Some n) P Q h f = f n h
+
+third : (x y z a b c : List ℕ) → x ∷ y ∷ z ∷ [] ≡ a ∷ b ∷ c ∷ [] → z ≡ c
+third x y z a b c e = cc
+
+not_one : (x y z a : List ℕ) → x ∷ y ∷ z ∷ [] ≡ a ∷ [] → ⊥
+not_one x y z a e = cc
+
+pub returns-then-eq-clause-some : goal.returns-then-eq-clause-some
+returns-then-eq-clause-some c =
+    let w = c.word-item.result in
+    let words : c.args.words.now ≡ w ∷ [] = one_word c.args.words.now w (omega arith) c.word-item.is in
+    let run : c.as_str.result.now ≡ codes "run" = same_text c.eq.result _ _ c.eq.ensures c.if-eq.true in
+    inl (ap (map string_bytes) words ∙ ap (λ (l : List ℕ). l ∷ []) (sym c.as_str.ensures.value ∙ run), refl)
+
+pub returns-then-eq-3-clause-some : goal.returns-then-eq-3-clause-some
+returns-then-eq-3-clause-some c = some_as c.limit_in.result _ _ c.limit_in.ensures.some (λ n is.
+    let u = c.word-item-then-words-lt4.result in
+    let v = c.option-item.result in
+    let w = c.text-item.result in
+    let words : c.args.words.now ≡ u ∷ v ∷ w ∷ [] = three_words c.args.words.now u v w (omega arith) c.word-item-then-words-lt4.is c.option-item.is c.text-item.is in
+    let run : c.as_str-in-len3.result.now ≡ codes "run" = same_text c.eq-in-len3.result _ _ c.eq-in-len3.ensures c.if-eq-2.true in
+    let limit : c.as_str-then-eq-2.result.now ≡ codes "--limit" = same_text c.eq-then-eq-2.result _ _ c.eq-then-eq-2.ensures c.if-eq-3.true in
+    inr (
+      string_bytes w,
+      ap (map string_bytes) words ∙ ap (λ (l : List ℕ). l ∷ string_bytes v ∷ string_bytes w ∷ []) (sym c.as_str-in-len3.ensures.value ∙ run) ∙ ap (λ (l : List ℕ). codes "run" ∷ l ∷ string_bytes w ∷ []) (sym c.as_str-then-eq-2.ensures.value ∙ limit),
+      subst (λ (t : List ℕ). IsLimit t n) c.as_str-then-eq-3.ensures.value is,
+    ))
+
+pub returns-then-eq-3-clause-none : goal.returns-then-eq-3-clause-none
+returns-then-eq-3-clause-none c = λ none limit is.
+    let u = c.word-item-then-words-lt4.result in
+    let v = c.option-item.result in
+    let w = c.text-item.result in
+    let words : c.args.words.now ≡ u ∷ v ∷ w ∷ [] = three_words c.args.words.now u v w (omega arith) c.word-item-then-words-lt4.is c.option-item.is c.text-item.is in
+    ⊎_elim
+    (λ (one : (map string_bytes c.args.words.now ≡ codes "run" ∷ []) × (limit ≡ greatest_limit)). not_one (string_bytes u) (string_bytes v) (string_bytes w) (codes "run") (sym (ap (map string_bytes) words) ∙ one.0))
+    (λ (three : (text : List ℕ) × (map string_bytes c.args.words.now ≡ codes "run" ∷ codes "--limit" ∷ text ∷ []) × IsLimit text limit).
+    let text : string_bytes w ≡ three.0 = third (string_bytes u) (string_bytes v) (string_bytes w) (codes "run") (codes "--limit") three.0 (sym (ap (map string_bytes) words) ∙ three.1) in
+    c.limit_in.ensures.none none limit (subst (λ (t : List ℕ). IsLimit t limit) (sym (c.as_str-then-eq-3.ensures.value ∙ text)) three.2))
+    is

@@ -1,0 +1,48 @@
+-- The whole of a run in two facts: what the files hold at its end, and what a crash leaves of it.
+use Rattle.std.specs.Prelude.{◌≡◌, ◌⊎◌, ℕ, List, [], ◌∷◌, ◌++◌}
+use Rattle.yw_outside.specs.Image.{SaysPart}
+use Rattle.yw_outside.specs.Moments.{IsSettled}
+use Rattle.yw_outside.specs.declared.image.Image.{Image}
+use Rattle.yw_journal.specs.Files.{Content}
+use Rattle.yw_model.specs.Run.{Step, Run, said_by}
+use Rattle.yw_model.specs.State.{State}
+use Rattle.yw_serve.specs.Damage.{HoldNow}
+use Rattle.yw_serve.specs.Notices.{full_line}
+
+-- The files held a state, a run over all lines leads from it to another, which they hold now and after a crash, and all replies of the
+-- run are said.
+pub record Serves {D : Type 0} (state : D → Image) (may_leave : D → Image → Type 0) (all : List (List ℕ)) (old new : D) : Type 0 where
+  pub s : State
+  pub before : Content
+  pub held : HoldNow before s (state old)
+  pub steps : List Step
+  pub reached : State
+  pub run : Run s 1 all steps reached
+  pub now : Content
+  pub holds : HoldNow now reached (state new)
+  pub settled : IsSettled (state new) (may_leave new)
+  pub said : (state new).said ≡ (state old).said ++ said_by steps
+
+-- The replies of all steps but the last are said, and a front of its own.
+pub record IsReplying (steps : List Step) (old now : List ℕ) : Type 0 where
+  pub done : List Step
+  pub step : Step
+  pub split : steps ≡ done ++ step ∷ []
+  pub part : SaysPart (old ++ said_by done) step.reply now
+
+-- All replies are said, and a front of the line that says that a file has no room.
+pub record IsTellingFull (steps : List Step) (old now : List ℕ) : Type 0 where
+  pub length : ℕ
+  pub part : SaysPart (old ++ said_by steps) (full_line length) now
+
+-- The files hold the state to which a front of the lines leads. So each command that was answered, even in part, is in it.
+pub record HoldsFront (s : State) (all : List (List ℕ)) (old : List ℕ) (i : Image) : Type 0 where
+  pub lines : List (List ℕ)
+  pub more : List (List ℕ)
+  pub split : all ≡ lines ++ more
+  pub steps : List Step
+  pub reached : State
+  pub run : Run s 1 lines steps reached
+  pub now : Content
+  pub holds : HoldNow now reached i
+  pub told : (i.said ≡ old ++ said_by steps) ⊎ IsReplying steps old i.said ⊎ IsTellingFull steps old i.said

@@ -1,0 +1,126 @@
+-- What the opening of the files finds and leaves.
+use Rattle.std.specs.Prelude.{◌≡◌, ◌≢◌, ◌⊎◌, ℕ, ◌+◌, ◌≤◌, List, [], ◌∷◌, ◌++◌, length, take, drop, Bool, true, false, Option, None, Some, MatchOption, Result, MatchResult}
+use Rattle.std.specs.Int.{w32, from_be_bytes}
+use Rattle.yw_outside.specs.Causes.{Rose}
+use Rattle.yw_outside.specs.Moments.{LeavesOnly}
+use Rattle.yw_outside.specs.declared.desk.File.{File}
+use Rattle.yw_outside.specs.declared.desk.File.TheVariants.{A}
+use Rattle.yw_outside.specs.declared.image.Image.{Image}
+use Rattle.yw_journal.specs.Files.{Content, IsCut, HasNoMeaning, is_live, snapshot_size_of, after_all}
+use Rattle.yw_journal.specs.Journal.{IsCurrent}
+use Rattle.yw_journal.specs.Records.{AreOpen, IsNoRecord}
+use Rattle.yw_model.specs.State.{State, opening}
+use Rattle.yw_serve.specs.Damage.{HoldNow, heads_damage, meaning}
+use Rattle.yw_serve.specs.declared.header.Head.{Head}
+use Rattle.yw_serve.specs.declared.opening.OpenFault.{OpenFault}
+use Rattle.yw_serve.specs.declared.opening.OpenFault.TheVariants.{Disk, Damaged, Memory}
+use Rattle.yw_serve.specs.declared.opening.Opened.{Opened}
+use Rattle.yw_serve.specs.declared.opening_entries.Gate.{Gate}
+use Rattle.yw_serve.specs.declared.opening_entries.Gate.TheVariants.{Closed, Open, Cut}
+
+abbrev pub opened_state : Opened → State
+opened_state opened = record { persons = opened.persons }
+
+-- Only reads and syncs came between two states of a desk: it holds what it held, and a crash leaves nothing new.
+pub record OnlyLooked {D : Type 0} (moment : D → ℕ) (left_since : D → ℕ → Image → Type 0) (state : D → Image) (may_leave : D → Image → Type 0)
+    (tells : D → Bool) (disk_faults say_faults : D → ℕ) (old new : D) : Type 0 where
+  pub same : state new ≡ state old
+  pub crash : (c : Image) → may_leave new c → may_leave old c
+  pub moments : LeavesOnly moment left_since old new (may_leave old)
+  pub telling : tells new ≡ tells old
+  pub disk : disk_faults old ≤ disk_faults new
+  pub say : say_faults new ≡ say_faults old
+
+-- Why the opening fails: a call of the files failed, or this damage was found, or no memory was left.
+abbrev pub HasFaultCause : (File → ℕ → Type 0) → ℕ → ℕ → OpenFault → Type 0
+HasFaultCause found before now Disk = Rose before now
+HasFaultCause found before now (Damaged f place) = found f place
+HasFaultCause found before now Memory = Unit {0}
+
+-- A file's length and its first 30 bytes, where it is live.
+pub record IsHeadOf (file : List ℕ) (head : Head) : Type 0 where
+  pub live : is_live file ≡ true
+  pub size : head.len ≡ length file
+  pub bytes : head.bytes ≡ take 30 file
+
+abbrev pub IsHeadRead : List ℕ → Option Head → Type 0
+IsHeadRead file head = MatchOption head (is_live file ≡ false) (IsHeadOf file)
+
+-- The headers show no damage: file B isn't live, and file A isn't or this is its head.
+pub record IsChosen (i : Image) (front : Option Head) : Type 0 where
+  pub alone : is_live i.b ≡ false
+  pub sound : heads_damage i ≡ None
+  pub head : IsHeadRead i.a front
+
+-- the gate is missing, or it is open and its record passes the end
+abbrev pub IsCutHere : List ℕ → Type 0
+IsCutHere rest = (rest ≡ []) ⊎ ((behind : List ℕ) × (rest ≡ 1 ∷ behind) × IsNoRecord rest)
+
+abbrev pub IsClosedHere : List ℕ → Type 0
+IsClosedHere rest = (gate : ℕ) × (behind : List ℕ) × (rest ≡ gate ∷ behind) × (gate ≢ 1)
+
+-- an open gate, and a whole record of so many bytes behind it
+pub record IsOpenHere (size : ℕ) (rest : List ℕ) : Type 0 where
+  pub gate : take 1 rest ≡ 1 ∷ []
+  pub within : 5 + size ≤ length rest
+  pub value : from_be_bytes w32 (take 4 (drop 1 rest)) ≡ size
+
+-- what stands at the front of these bytes
+abbrev pub StandsHere : List ℕ → Gate → Type 0
+StandsHere rest Closed = IsClosedHere rest
+StandsHere rest (Open size) = IsOpenHere size rest
+StandsHere rest Cut = IsCutHere rest
+
+-- Behind the header, up to this gate, stand records that lead to this state.
+pub record IsReached (file : List ℕ) (at : ℕ) (records : List (List ℕ)) (s : State) : Type 0 where
+  pub long : 30 ≤ length file
+  pub no_snapshot : snapshot_size_of file ≡ 0
+  pub opened : List ℕ
+  pub split : file ≡ (take 29 file ++ opened) ++ drop at file
+  pub are_open : AreOpen opened records
+  pub place : length (take 29 file ++ opened) ≡ at
+  pub state : after_all meaning (Some opening) records ≡ Some s
+
+-- Behind a sound header of file A this is the first damage.
+pub record IsDamagedAt (file : List ℕ) (f : File) (place : ℕ) : Type 0 where
+  pub which : f ≡ A
+  pub here : IsCut meaning file place ⊎ HasNoMeaning meaning file place
+
+-- The files of an image of the start.
+pub record IsOfStart (may_leave : Image → Type 0) (k : Image) : Type 0 where
+  pub start : Image
+  pub left : may_leave start
+  pub a : k.a ≡ start.a
+  pub b : k.b ≡ start.b
+
+-- The state that the files held at the start, in this content or in another.
+pub record HoldsAsStart (i k : Image) : Type 0 where
+  pub state : State
+  pub before : Content
+  pub held : HoldNow before state i
+  pub now : Content
+  pub holds : HoldNow now state k
+
+-- What a crash leaves at any moment of the opening.
+pub record LeftByOpening (may_leave : Image → Type 0) (i k : Image) : Type 0 where
+  pub files : IsOfStart may_leave k ⊎ HoldsAsStart i k
+  pub said : k.said ≡ i.said
+
+-- The files held this state and hold it, the journal stands for them, and nothing else has changed.
+pub record IsOpened (opened : Opened) (i j : Image) : Type 0 where
+  pub before : Content
+  pub held : HoldNow before (opened_state opened) i
+  pub now : Content
+  pub holds : HoldNow now (opened_state opened) j
+  pub current : IsCurrent opened.journal now j
+  pub records : now.records ≡ before.records
+  pub other : j.b ≡ i.b
+  pub said : j.said ≡ i.said
+
+-- This state is opened, or else no damage is named.
+abbrev pub AnswersState : State → Result Opened OpenFault → Type 0
+AnswersState s result = MatchResult result (λ opened. opened_state opened ≡ s) (λ fault. (f : File) (place : ℕ) → fault ≢ Damaged f place)
+
+-- No state is opened, and a damage that is named is this one.
+abbrev pub AnswersDamage : File → ℕ → Result Opened OpenFault → Type 0
+AnswersDamage f place result = MatchResult result (λ opened. ⊥) (λ fault. (g : File) (other : ℕ) → fault ≡ Damaged g other → (g ≡ f) × (other ≡ place))

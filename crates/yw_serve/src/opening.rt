@@ -1,0 +1,215 @@
+// The opening of the files, before any line is read.
+ghost use Rattle.std.specs.Prelude.{◌≡◌, ◌≤◌, ◌<◌, ◌+◌, ◌^◌, [], ℕ, IsTrue, IfOk, OnOk, IfErr, IfSome, IsSome, if◌then◌else◌, Err, None, Some, slice_index};
+ghost use Rattle.yw_journal.specs.Files.{Content, count_of, greatest};
+ghost use Rattle.yw_outside.specs.declared.image.Image.{Image};
+ghost use Rattle.yw_outside.specs.Causes.{HasCause, Rose};
+ghost use Rattle.yw_outside.specs.Moments.{IsSettled, LeavesOnly};
+ghost use Rattle.yw_model.specs.State.{State};
+ghost use Rattle.yw_serve.specs.Damage.{heads_damage, HoldNow, IsDamagedNow};
+ghost use Rattle.yw_serve.specs.Desks.{Stands, KeepsCounts};
+ghost use Rattle.yw_serve.specs.Opening.{AnswersDamage, AnswersState, HasFaultCause, IsChosen, IsHeadRead, IsOpened, LeftByOpening, OnlyLooked};
+
+#[cfg(test)]
+mod tests;
+
+use crate::header::{Head, header_fault, read_head, u64_in};
+use crate::opening_entries::read_entries;
+use crate::persons::Persons;
+use std::alloc::{AllocError, Global};
+use thiserror::Error;
+use yw_journal::{AppendFault, Journal};
+use yw_outside::{Desk, Failed, File};
+
+/// Why the files weren't opened.
+#[derive(Clone, Copy, Debug, Error, PartialEq, Eq)]
+pub enum OpenFault {
+    /// A call of the desk's files failed.
+    #[error("a call of the files failed")]
+    Disk,
+    /// The files hold no state: this one has its first damage at this offset.
+    #[error("file {0:?} is damaged at byte {1}")]
+    Damaged(File, u64),
+    /// No memory was left.
+    #[error("no memory was left")]
+    Memory,
+}
+
+impl From<Failed> for OpenFault {
+    ghost use Rattle.std.specs.Prelude.{◌≡◌};
+    ghost use Rattle.yw_serve.specs.declared.opening.OpenFault.TheVariants.{Disk};
+
+    ghost from_gives = { λ _ e. e ≡ Disk };
+
+    fn from(_: Failed) -> OpenFault {
+        OpenFault::Disk
+    }
+}
+
+impl From<AllocError> for OpenFault {
+    ghost use Rattle.std.specs.Prelude.{◌≡◌};
+    ghost use Rattle.yw_serve.specs.declared.opening.OpenFault.TheVariants.{Memory};
+
+    ghost from_gives = { λ _ e. e ≡ Memory };
+
+    fn from(_: AllocError) -> OpenFault {
+        OpenFault::Memory
+    }
+}
+
+/// What the files hold when they are opened: the journal that goes on, and the persons.
+#[derive(Drop)]
+pub struct Opened {
+    pub journal: Journal,
+    pub persons: Persons,
+}
+
+/// Syncs both files, so that a crash leaves of them what a read gives.
+fn sync_both<D: Desk>(desk: &mut D) -> Result<(), Failed>
+    ensures settled { OnOk result (IsSettled (D.state desk.new) (D.may_leave desk.new)) }
+    ensures looked { OnlyLooked D.moment D.left_since D.state D.may_leave D.tells D.disk_faults D.say_faults desk.old desk.new }
+    ensures cause { HasCause (D.disk_faults desk.old) (D.disk_faults desk.new) result }
+{
+    desk.sync(File::A)?;
+    desk.sync(File::B)
+}
+
+/// Behind a sound header of file A: a live file B, or a snapshot in file A.
+fn later_fault(has_snapshot: bool, b: &Option<Head>) -> Option<(File, u64)>
+    ensures live { IsSome b.now → result ≡ Some (File.B, 0) }
+    ensures snapshot { b.now ≡ None → result ≡ (if has_snapshot then Some (File.A, 21) else None) }
+{
+    if b.is_some() {
+        Some((File::B, 0))
+    } else if has_snapshot {
+        Some((File::A, 21))
+    } else {
+        None
+    }
+}
+
+/// The first damage of a live file A's header, then a live file B, then a snapshot in file A.
+fn heads_fault(a: &Option<Head>, b: &Option<Head>) -> Option<(File, u64)>
+    requires { IfSome a.now (λ head. slice_index head.bytes 0 ≡ 1) }
+    ensures damage { (i : Image) → IsHeadRead i.a a.now → IsHeadRead i.b b.now → result ≡ heads_damage i }
+    ensures counted { result ≡ None → IfSome a.now (λ head. count_of head.bytes ≤ greatest) }
+{
+    let Some(head) = a else {
+        return later_fault(false, b);
+    };
+    match header_fault(&head.bytes) {
+        Some(place) => Some((File::A, place)),
+        None => later_fault(u64_in(&head.bytes, 21) != 0, b),
+    }
+}
+
+/// Looks at the headers of both files. It answers the front of a live file A, or `None` where no file is live.
+fn choose<D: Desk>(desk: &mut D) -> Result<Option<Head>, OpenFault>
+    ensures chosen { IsTrue (D.tells desk.old) → IfOk result (IsChosen (D.state desk.old)) }
+    ensures size { IfOk result (λ found. IfSome found (λ head. (30 ≤ head.len) × (head.len < 2 ^ 63))) }
+    ensures counted { IfOk result (λ found. IfSome found (λ head. count_of head.bytes ≤ greatest)) }
+    ensures looked { OnlyLooked D.moment D.left_since D.state D.may_leave D.tells D.disk_faults D.say_faults desk.old desk.new }
+    ensures fault { IfErr result (HasFaultCause (λ f place. IsTrue (D.tells desk.old) → heads_damage (D.state desk.old) ≡ Some (f, place)) (D.disk_faults desk.old) (D.disk_faults desk.new)) }
+{
+    let a = read_head(desk, File::A)?;
+    let b = read_head(desk, File::B)?;
+    match heads_fault(&a, &b) {
+        Some((f, place)) => Err(OpenFault::Damaged(f, place)),
+        None => Ok(a),
+    }
+}
+
+/// Goes on in file A, whose front this is.
+fn resume<D: Desk>(
+    alloc: Global,
+    limit: u64,
+    desk: &mut D,
+    head: &Head,
+) -> Result<Opened, OpenFault>
+    requires limit { limit ≤ 2 ^ 62 }
+    requires size { (30 ≤ head.now.len) × (head.now.len < 2 ^ 63) }
+    requires counted { count_of head.now.bytes ≤ greatest }
+    requires chosen { IsTrue (D.tells desk.old) → IsChosen (D.state desk.old) (Some head.now) }
+    requires settled { IsTrue (D.tells desk.old) → IsSettled (D.state desk.old) (D.may_leave desk.old) }
+
+    ensures opened { IfOk result (λ opened. IsTrue (D.tells desk.old) → IsOpened opened (D.state desk.old) (D.state desk.new)) }
+    ensures stands { IfOk result (λ opened. Stands D.tells D.state D.may_leave opened.journal desk.new) }
+    ensures limited { IfOk result (λ opened. opened.journal.limit ≡ limit) }
+    ensures file { IfOk result (λ opened. opened.journal.file ≡ File.A) }
+    ensures looked { OnlyLooked D.moment D.left_since D.state D.may_leave D.tells D.disk_faults D.say_faults desk.old desk.new }
+    ensures fault { IfErr result (HasFaultCause (λ f place. IsTrue (D.tells desk.old) → IsDamagedNow (D.state desk.old) f place) (D.disk_faults desk.old) (D.disk_faults desk.new)) }
+{
+    let mut persons = Persons::new(alloc);
+    let tail = read_entries(alloc, desk, head.len, &mut persons)?;
+    let journal = Journal {
+        file: File::A,
+        generation: u64_in(&head.bytes, 5),
+        end: tail.gate + 1,
+        limit,
+        number: u64_in(&head.bytes, 13) + tail.records,
+    };
+    Ok(Opened { journal, persons })
+}
+
+/// Makes file A, where no file is live.
+fn begin<D: Desk>(alloc: Global, limit: u64, desk: &mut D) -> Result<Opened, OpenFault>
+    requires some { 64 ≤ limit }
+    requires limit { limit ≤ 2 ^ 62 }
+    requires chosen { IsTrue (D.tells desk.old) → IsChosen (D.state desk.old) None }
+    requires settled { IsTrue (D.tells desk.old) → IsSettled (D.state desk.old) (D.may_leave desk.old) }
+
+    ensures opened { IfOk result (λ opened. IsTrue (D.tells desk.old) → IsOpened opened (D.state desk.old) (D.state desk.new)) }
+    ensures stands { IfOk result (λ opened. Stands D.tells D.state D.may_leave opened.journal desk.new) }
+    ensures limited { IfOk result (λ opened. opened.journal.limit ≡ limit) }
+    ensures file { IfOk result (λ opened. opened.journal.file ≡ File.A) }
+    ensures any_moment { IsTrue (D.tells desk.old) → LeavesOnly D.moment D.left_since desk.old desk.new (LeftByOpening (D.may_leave desk.old) (D.state desk.old)) }
+    ensures counts { KeepsCounts D.tells D.disk_faults D.say_faults desk.old desk.new }
+    ensures say_faults { D.say_faults desk.new ≡ D.say_faults desk.old }
+    ensures fault { IfErr result (HasFaultCause (λ f place. ⊥) (D.disk_faults desk.old) (D.disk_faults desk.new)) }
+{
+    match Journal::make(desk, File::A, 1, 0, &[0; 9], limit) {
+        Ok(journal) => Ok(Opened {
+            journal,
+            persons: Persons::new(alloc),
+        }),
+        Err(AppendFault::Disk) => Err(OpenFault::Disk),
+        Err(AppendFault::Full(_)) => unreachable!(),
+    }
+}
+
+/// Opens the files: syncs both, looks at their headers, makes file A where none is live, and else reads its
+/// entries one after another. `Damaged` names the first damage, and comes exactly where the synced files hold no
+/// state that is read; not one byte is changed then. `Disk` comes only where a call of the files failed, and
+/// `Memory` where no memory was left. A crash at any moment leaves files that a crash might have left before, or
+/// files that hold the same state. The memory that it takes is that of the persons and of the longest entry.
+pub fn open<D: Desk>(alloc: Global, limit: u64, desk: &mut D) -> Result<Opened, OpenFault>
+    requires some { 64 ≤ limit }
+    requires limit { limit ≤ 2 ^ 62 }
+
+    // At Ok the files held this state and hold it, and the journal stands for them.
+    ensures opened { IfOk result (λ opened. IsTrue (D.tells desk.old) → IsOpened opened (D.state desk.old) (D.state desk.new)) }
+    ensures stands { IfOk result (λ opened. Stands D.tells D.state D.may_leave opened.journal desk.new) }
+    ensures limited { IfOk result (λ opened. opened.journal.limit ≡ limit) }
+    ensures file { IfOk result (λ opened. opened.journal.file ≡ File.A) }
+
+    // A crash at any moment leaves files of the start, or the same state.
+    ensures any_moment { IsTrue (D.tells desk.old) → LeavesOnly D.moment D.left_since desk.old desk.new (LeftByOpening (D.may_leave desk.old) (D.state desk.old)) }
+    ensures said { IsTrue (D.tells desk.old) → (D.state desk.new).said ≡ (D.state desk.old).said }
+
+    ensures counts { KeepsCounts D.tells D.disk_faults D.say_faults desk.old desk.new }
+    ensures say_faults { D.say_faults desk.new ≡ D.say_faults desk.old }
+
+    // Each other answer has its cause.
+    ensures disk { result ≡ Err OpenFault.Disk → Rose (D.disk_faults desk.old) (D.disk_faults desk.new) }
+    ensures damaged { IsTrue (D.tells desk.old) → (f : File) (place : ℕ) → result ≡ Err (OpenFault.Damaged f place) → IsDamagedNow (D.state desk.old) f place }
+    ensures unchanged { (f : File) (place : ℕ) → result ≡ Err (OpenFault.Damaged f place) → D.state desk.new ≡ D.state desk.old }
+
+    // A state that is held is the one answered, and a damage is the one answered; they exclude each other.
+    ensures held { IsTrue (D.tells desk.old) → (c : Content) (s : State) → HoldNow c s (D.state desk.old) → AnswersState s result }
+    ensures first { IsTrue (D.tells desk.old) → (f : File) (place : ℕ) → IsDamagedNow (D.state desk.old) f place → AnswersDamage f place result }
+{
+    sync_both(desk)?;
+    match choose(desk)? {
+        Some(head) => resume(alloc, limit, desk, &head),
+        None => begin(alloc, limit, desk),
+    }
+}

@@ -1,0 +1,204 @@
+// The entries of file A, one gate after another.
+ghost use Rattle.std.specs.Prelude.{◌≡◌, ◌≤◌, ◌<◌, ◌+◌, ◌^◌, ◌++◌, ◌∷◌, [], List, ℕ, IsTrue, IfOk, OnOk, IfErr, IfSome, MatchOption, Some, None, length, take, drop};
+ghost use Rattle.std.specs.Bool.{MatchBool};
+ghost use Rattle.yw_model.specs.State.{opening};
+ghost use Rattle.yw_outside.specs.Causes.{HasCause};
+ghost use Rattle.yw_serve.specs.Damage.{after_event, after_events, after_bytes};
+ghost use Rattle.yw_serve.specs.Opening.{HasFaultCause, IsClosedHere, IsDamagedAt, IsReached, OnlyLooked, StandsHere};
+
+use crate::opening::OpenFault;
+use crate::persons::Persons;
+use std::alloc::{AllocError, Global};
+use yw_codec::{CodecFault, read_entry};
+use yw_model::Event;
+use yw_outside::{Desk, Failed, File};
+
+const MOST_ROLES: usize = 64;
+
+// What stands at a gate.
+pub enum Gate {
+    /// A closed gate, which ends the records.
+    Closed,
+    /// An open gate, and behind it a whole record of so many bytes.
+    Open(u32),
+    /// No gate, or an open one whose record passes the end.
+    Cut,
+}
+
+/// Looks at the gate at an offset of file A, which has so many bytes, and at the length behind it.
+fn gate_at<D: Desk>(desk: &mut D, len: u64, at: u64) -> Result<Gate, Failed>
+    requires len { IsTrue (D.tells desk.old) → len ≡ length (D.state desk.old).a }
+    requires within { at ≤ len }
+    ensures stands { IsTrue (D.tells desk.old) → IfOk result (StandsHere (drop at (D.state desk.old).a)) }
+    ensures within { (size : ℕ) → result ≡ Ok (Gate.Open size) → at + 5 + size ≤ len }
+    ensures looked { OnlyLooked D.moment D.left_since D.state D.may_leave D.tells D.disk_faults D.say_faults desk.old desk.new }
+    ensures cause { HasCause (D.disk_faults desk.old) (D.disk_faults desk.new) result }
+{
+    if len - at < 5 {
+        return short_gate_at(desk, len, at);
+    }
+    let mut front = [0; 5];
+    desk.read(File::A, at, &mut front)?;
+    if front[0] != 1 {
+        return Ok(Gate::Closed);
+    }
+    let size = u32::from_be_bytes([front[1], front[2], front[3], front[4]]);
+    if u64::from(size) > len - at - 5 {
+        return Ok(Gate::Cut);
+    }
+    Ok(Gate::Open(size))
+}
+
+/// The same where no length can stand behind the gate.
+fn short_gate_at<D: Desk>(desk: &mut D, len: u64, at: u64) -> Result<Gate, Failed>
+    requires len { IsTrue (D.tells desk.old) → len ≡ length (D.state desk.old).a }
+    requires within { at ≤ len }
+    requires short { len < at + 5 }
+    ensures stands { IsTrue (D.tells desk.old) → IfOk result (StandsHere (drop at (D.state desk.old).a)) }
+    ensures within { (size : ℕ) → result ≡ Ok (Gate.Open size) → at + 5 + size ≤ len }
+    ensures looked { OnlyLooked D.moment D.left_since D.state D.may_leave D.tells D.disk_faults D.say_faults desk.old desk.new }
+    ensures cause { HasCause (D.disk_faults desk.old) (D.disk_faults desk.new) result }
+{
+    if at == len {
+        return Ok(Gate::Cut);
+    }
+    let mut gate = [0];
+    desk.read(File::A, at, &mut gate)?;
+    if gate[0] == 1 {
+        Ok(Gate::Cut)
+    } else {
+        Ok(Gate::Closed)
+    }
+}
+
+/// The record of so many bytes behind the gate at this offset.
+fn record_at<D: Desk>(alloc: Global, desk: &mut D, at: u64, size: u32) -> Result<Vec<u8>, OpenFault>
+    requires within { IsTrue (D.tells desk.old) → at + 5 + size ≤ length (D.state desk.old).a }
+    requires fits { at + 5 < 2 ^ 64 }
+    ensures bytes { IfOk result (λ record_. IsTrue (D.tells desk.old) → record_.items ≡ take size (drop (at + 5) (D.state desk.old).a)) }
+    ensures looked { OnlyLooked D.moment D.left_since D.state D.may_leave D.tells D.disk_faults D.say_faults desk.old desk.new }
+    ensures fault { IfErr result (HasFaultCause (λ f place. ⊥) (D.disk_faults desk.old) (D.disk_faults desk.new)) }
+{
+    let mut bytes = vec![in alloc; 0u8; size as usize]?;
+    desk.read(File::A, at + 5, &mut bytes)?;
+    Ok(bytes)
+}
+
+/// Whether an event is allowed. The persons are then those after it. An `Err` says that no memory was left.
+fn apply_event(persons: &mut Persons, event: Event) -> Result<bool, AllocError>
+    ensures { IfOk result (λ allowed. MatchBool allowed (after_event (record { persons = persons.old }) event ≡ Some (record { persons = persons.new }))
+        (after_event (record { persons = persons.old }) event ≡ None)) }
+{
+    match event {
+        Event::Person { name, roles } => {
+            if roles.len() > MOST_ROLES || !roles.are_distinct() {
+                return Ok(false);
+            }
+            persons.put(name, roles)?;
+            Ok(true)
+        }
+    }
+}
+
+/// Whether each event is allowed in its turn. The persons are then those after all.
+fn apply_events(persons: &mut Persons, events: Vec<Event>) -> Result<bool, AllocError>
+    ensures { IfOk result (λ allowed. MatchBool allowed (after_events (record { persons = persons.old }) events.items ≡ Some (record { persons = persons.new }))
+        (after_events (record { persons = persons.old }) events.items ≡ None)) }
+{
+    for event in events {
+        if !apply_event(persons, event)? {
+            return Ok(false);
+        }
+    }
+    Ok(true)
+}
+
+/// Whether these are an entry's bytes, each event of which is allowed in its turn. The persons are then those
+/// after it.
+fn apply_entry(alloc: Global, persons: &mut Persons, bytes: &[u8]) -> Result<bool, AllocError>
+    ensures { IfOk result (λ allowed. MatchBool allowed (after_bytes (record { persons = persons.old }) bytes.now ≡ Some (record { persons = persons.new }))
+        (after_bytes (record { persons = persons.old }) bytes.now ≡ None)) }
+{
+    match read_entry(alloc, bytes) {
+        Ok((events, size)) => {
+            if size == bytes.len() {
+                apply_events(persons, events.into_vec())
+            } else {
+                Ok(false)
+            }
+        }
+        Err(CodecFault::Bad) => Ok(false),
+        Err(CodecFault::Memory) => Err(AllocError),
+    }
+}
+
+/// Reads the entry behind the gate at an offset of file A, and answers the offset of the next gate, or `None`
+/// where this one is closed. The persons are then those after the entry.
+fn next_entry<D: Desk>(
+    alloc: Global,
+    desk: &mut D,
+    len: u64,
+    at: u64,
+    persons: &mut Persons,
+) -> Result<Option<u64>, OpenFault>
+    requires len { IsTrue (D.tells desk.old) → len ≡ length (D.state desk.old).a }
+    requires bound { len < 2 ^ 63 }
+    requires within { at ≤ len }
+    ensures reached { IsTrue (D.tells desk.old) → (records : List (List ℕ)) → IsReached (D.state desk.old).a at records (record { persons = persons.old })
+        → IfOk result (λ next. MatchOption next (IsClosedHere (drop at (D.state desk.old).a))
+        (λ behind. (bytes : List ℕ) × IsReached (D.state desk.old).a behind (records ++ bytes ∷ []) (record { persons = persons.new }))) }
+    ensures same { result ≡ Ok None → persons.new ≡ persons.old }
+    ensures progress { IfOk result (λ next. IfSome next (λ behind. (at < behind) × (behind ≤ len))) }
+    ensures looked { OnlyLooked D.moment D.left_since D.state D.may_leave D.tells D.disk_faults D.say_faults desk.old desk.new }
+    ensures fault { (records : List (List ℕ)) → IfErr result (HasFaultCause
+        (λ f place. IsTrue (D.tells desk.old) → IsReached (D.state desk.old).a at records (record { persons = persons.old }) → IsDamagedAt (D.state desk.old).a f place)
+        (D.disk_faults desk.old) (D.disk_faults desk.new)) }
+{
+    match gate_at(desk, len, at)? {
+        Gate::Closed => Ok(None),
+        Gate::Cut => Err(OpenFault::Damaged(File::A, at)),
+        Gate::Open(size) => {
+            let bytes = record_at(alloc, desk, at, size)?;
+            if apply_entry(alloc, persons, &bytes)? {
+                Ok(Some(at + 5 + u64::from(size)))
+            } else {
+                Err(OpenFault::Damaged(File::A, at))
+            }
+        }
+    }
+}
+
+/// Where the records end: the offset of the closed gate, and how many there are.
+#[derive(Clone, Copy)]
+pub struct Tail {
+    pub gate: u64,
+    pub records: u64,
+}
+
+/// Reads all entries of file A, which has so many bytes and no snapshot. The persons are then those after them.
+pub fn read_entries<D: Desk>(
+    alloc: Global,
+    desk: &mut D,
+    len: u64,
+    persons: &mut Persons,
+) -> Result<Tail, OpenFault>
+    requires len { IsTrue (D.tells desk.old) → len ≡ length (D.state desk.old).a }
+    requires bound { len < 2 ^ 63 }
+    requires within { 29 ≤ len }
+    ensures reached { IsTrue (D.tells desk.old) → IsReached (D.state desk.old).a 29 [] (record { persons = persons.old })
+        → IfOk result (λ tail. IsClosedHere (drop tail.gate (D.state desk.old).a)
+        × ((records : List (List ℕ)) × IsReached (D.state desk.old).a tail.gate records (record { persons = persons.new }) × (length records ≡ tail.records))) }
+    ensures bound { IfOk result (λ tail. (29 ≤ tail.gate) × (tail.gate ≤ len) × (tail.records ≤ tail.gate)) }
+    ensures looked { OnlyLooked D.moment D.left_since D.state D.may_leave D.tells D.disk_faults D.say_faults desk.old desk.new }
+    ensures fault { IfErr result (HasFaultCause
+        (λ f place. IsTrue (D.tells desk.old) → IsReached (D.state desk.old).a 29 [] (record { persons = persons.old }) → IsDamagedAt (D.state desk.old).a f place)
+        (D.disk_faults desk.old) (D.disk_faults desk.new)) }
+{
+    let mut gate: u64 = 29;
+    let mut records: u64 = 0;
+    while let Some(behind) = next_entry(alloc, desk, len, gate, persons)? {
+        gate = behind;
+        records += 1;
+    }
+    Ok(Tail { gate, records })
+}
