@@ -1,5 +1,6 @@
 pub mod Digits
 pub mod Found
+pub mod Layers
 pub mod Once
 pub mod Scoped
 pub mod SmallConstants

@@ -69,7 +69,7 @@ lexemes_of text tokens = map (lexeme_of text) tokens
 abbrev pub IsSoundWord : List ℕ → Word → ℕ → ℕ → Type 0
 IsSoundWord text words.Number from to = number_of (slice_range text from to) < 2 ^ 63
 IsSoundWord text words.Text from to = IsTextPart text (span (from + 1) (to - 1))
-IsSoundWord text words.Name from to = Unit {0}
+IsSoundWord text words.Name from to = IsTextPart text (span from to)
 IsSoundWord text words.Reserved from to = Unit {0}
 IsSoundWord text words.Sign from to = Unit {0}
 

@@ -5,6 +5,9 @@ use Rattle.yw_base.specs.declared.value.Sort.{Sort}
 use Rattle.yw_expr.specs.declared.scope.Binding.{Binding}
 use Rattle.yw_expr.specs.Tree.{Tree, variable}
 
+abbrev pub binding : List ℕ → Sort → Binding
+binding name sort = record { name = name; sort = sort }
+
 -- the sorts of a row's values
 abbrev pub sorts_of : List Binding → List Sort
 sorts_of scope = map (λ (b : Binding). b.sort) scope

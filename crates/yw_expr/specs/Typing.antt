@@ -1,5 +1,5 @@
 -- What a spelled expression means in a scope, and the first of its forms whose operands the table of sorts lacks.
-use Rattle.std.specs.Prelude.{◌+◌, ℕ, ◌≤◌, ◌<◌, ◌^◌, ℤ, pos, neg_ℤ, Bool, true, false, List, [], ◌∷◌, ◌++◌, map, find, length, slice_range, Option, Some, None, is_none, option_and_then, option_map, if◌then◌else◌}
+use Rattle.std.specs.Prelude.{◌+◌, ℕ, ◌≤◌, ◌<◌, ◌^◌, ℤ, pos, neg_ℤ, Bool, true, false, List, [], ◌∷◌, ◌++◌, map, find, slice_range, Option, Some, None, is_none, option_and_then, option_map, if◌then◌else◌}
 use Rattle.std.specs.List.{list_all, All}
 use Rattle.std.specs.Str.{IsCharBoundary}
 use Rattle.yw_base.specs.declared.value.Value.TheVariants as values
@@ -102,7 +102,7 @@ pub record IsTextPart (text : List ℕ) (span : Span) : Type 0 where
 abbrev pub IsSoundLeaf : List ℕ → Leaf → Type 0
 IsSoundLeaf text (Number n) = n < 2 ^ 63
 IsSoundLeaf text (Text span) = IsTextPart text span
-IsSoundLeaf text (Name span) = (span.from ≤ span.to) × (span.to ≤ length text)
+IsSoundLeaf text (Name span) = IsTextPart text span
 IsSoundLeaf text (Truth b) = Unit {0}
 
 abbrev pub IsSoundNumber : Literal → Type 0

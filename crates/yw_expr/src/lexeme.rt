@@ -4,7 +4,7 @@ ghost use Rattle.std.specs.List.{All};
 ghost use Rattle.yw_lex.specs.Spelling.{number_of};
 ghost use Rattle.yw_expr.specs.Lexemes.{word_symbol, sign_symbol, lexeme_of, lexemes_of, is_opening, is_closing, IsDeep, is_unknown, unknown_place, IsSoundToken, IsSoundLexeme};
 
-use crate::scope::{Binding, place_in};
+use crate::scope::Scope;
 use std::alloc::{AllocError, Global};
 use yw_grammar::{Call, Infix, Leaf, Lexeme, Span, Symbol};
 use yw_lex::{Token, Word};
@@ -129,20 +129,18 @@ pub fn is_deep(lexemes: &[Lexeme]) -> bool
     false
 }
 
-fn is_unknown(text: &str, scope: &[Binding], lexeme: Lexeme) -> bool
+fn is_unknown(text: &str, scope: &Scope<'_>, lexeme: Lexeme) -> bool
     requires { IsSoundLexeme text.now lexeme }
     ensures { result ≡ is_unknown text.now scope.now lexeme }
 {
     match lexeme.symbol {
-        Symbol::Atom(Leaf::Name(span)) => {
-            place_in(scope, &text.as_bytes()[span.from..span.to]).is_none()
-        }
+        Symbol::Atom(Leaf::Name(span)) => scope.place_of(&text[span.from..span.to]).is_none(),
         _ => false,
     }
 }
 
 /// The place of the leftmost name that isn't in scope.
-pub fn unknown_place(text: &str, scope: &[Binding], lexemes: &[Lexeme]) -> Option<usize>
+pub fn unknown_place(text: &str, scope: &Scope<'_>, lexemes: &[Lexeme]) -> Option<usize>
     requires { All (IsSoundLexeme text.now) lexemes.now }
     ensures { result ≡ unknown_place text.now scope.now lexemes.now }
 {

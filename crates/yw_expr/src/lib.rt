@@ -14,5 +14,5 @@ mod value;
 pub use fault::ExprFault;
 pub use node::{Expr, sort_of};
 pub use parsing::parse;
-pub use scope::{Binding, Scope};
+pub use scope::{Binding, Bindings, Scope};
 pub use value::{truth, view};

@@ -14,7 +14,7 @@ ghost use Rattle.yw_expr.specs.Typing.{IsSound};
 use crate::fault::ExprFault;
 use crate::lexeme::{MOST_TOKENS, is_deep, lexemes_of, unknown_place};
 use crate::node::Expr;
-use crate::scope::{Binding, Scope};
+use crate::scope::Scope;
 use crate::typing::typed_form;
 use std::alloc::Global;
 use yw_grammar::{Lexeme, SyntaxTree};
@@ -24,7 +24,7 @@ use yw_lex::Token;
 fn expr_of(
     alloc: Global,
     text: &str,
-    scope: &[Binding],
+    scope: &Scope<'_>,
     tree: &SyntaxTree,
 ) -> Result<Expr, ExprFault>
     requires { IsSound text.now (form_of tree.now) }
@@ -37,7 +37,7 @@ fn expr_of(
 }
 
 /// The expression of lexemes.
-fn read(alloc: Global, text: &str, scope: &[Binding], lexemes: &[Lexeme]) -> Result<Expr, ExprFault>
+fn read(alloc: Global, text: &str, scope: &Scope<'_>, lexemes: &[Lexeme]) -> Result<Expr, ExprFault>
     requires { All (IsSoundLexeme text.now) lexemes.now }
     ensures reads { ReadsOr text.now scope.now lexemes.now result }
     ensures only { (r : Result Tree ExprFault) → Reads text.now scope.now lexemes.now r → Gives result r }
@@ -57,7 +57,7 @@ fn read(alloc: Global, text: &str, scope: &[Binding], lexemes: &[Lexeme]) -> Res
 fn read_tokens(
     alloc: Global,
     text: &str,
-    scope: &[Binding],
+    scope: &Scope<'_>,
     tokens: &[Token],
 ) -> Result<Expr, ExprFault>
     requires { All (IsSoundToken text.now) tokens.now }
@@ -74,15 +74,15 @@ fn read_tokens(
 }
 
 /// The expression that a text spells over the names of a scope. It takes time in proportion to the text's
-/// length; its own stack is bounded, since a tree comes from at most 1,024 tokens. Grammar and faults are
-/// our own.
+/// length, and for each name in it to the logarithm of the scope's length; its own stack is bounded, since a
+/// tree comes from at most 1,024 tokens. Grammar and faults are our own.
 ///
 /// A fault is the first of these: `Lex` at the first place where no token begins; `Deep` where more than 64
 /// of `(` and `[` are open at some place, or there are more than 1,024 tokens; `Syntax` at the start of the
 /// first token that with those before it begins no expression, or at the text's end; `UnknownName` at the
 /// leftmost name that isn't in scope; `Types` at the first operator, `[` or word in post-order that takes no
 /// operands of these sorts. `Memory` comes only where no memory was left.
-pub fn parse(alloc: Global, text: &str, scope: &Scope) -> Result<Expr, ExprFault>
+pub fn parse(alloc: Global, text: &str, scope: &Scope<'_>) -> Result<Expr, ExprFault>
     // The answer is what the text means.
     ensures means { MeansOr text.now scope.now result }
 
@@ -96,5 +96,5 @@ pub fn parse(alloc: Global, text: &str, scope: &Scope) -> Result<Expr, ExprFault
     ensures small { IfOk result HasSmallConstants }
 {
     let tokens = yw_lex::lex(alloc, text)?;
-    read_tokens(alloc, text, scope.as_slice(), tokens.as_slice())
+    read_tokens(alloc, text, scope, tokens.as_slice())
 }

@@ -1,13 +1,13 @@
 // What no clause says: that calls succeed, and that the definitions mean what is wanted.
-use crate::{Binding, Expr, ExprFault, Scope, parse, sort_of, truth, view};
+use crate::{Bindings, Expr, ExprFault, Scope, parse, sort_of, truth, view};
 use std::alloc::Global;
 use std::process::Abort;
 use std::test::Fail;
-use yw_base::{Items, Name, Row, Sort, Text, Val, Value};
+use yw_base::{Items, Row, Sort, Text, Val, Value};
 
 /// `b` a truth value, `n` a number, `t` a text, `ns` a list of numbers and `ts` one of texts.
-fn scope(alloc: Global) -> Result<Scope, Fail> {
-    let mut scope = Items::new(alloc);
+fn names(alloc: Global) -> Result<Bindings, Fail> {
+    let mut names = Bindings::new(alloc);
     for (name, sort) in [
         ("b", Sort::Bool),
         ("n", Sort::Int),
@@ -15,12 +15,9 @@ fn scope(alloc: Global) -> Result<Scope, Fail> {
         ("ns", Sort::Ints),
         ("ts", Sort::Texts),
     ] {
-        scope.push(Binding {
-            name: Name::read(alloc, name)?,
-            sort,
-        })?;
+        let _added = names.add(name, sort)?;
     }
-    Ok(scope)
+    Ok(names)
 }
 
 /// true, 7, `ab`, 1 to 3, and `x` with `yz`.
@@ -39,11 +36,13 @@ fn row(alloc: Global) -> Result<Row, Fail> {
 }
 
 fn read(alloc: Global, text: &str) -> Result<Expr, Fail> {
-    Ok(parse(alloc, text, &scope(alloc)?)?)
+    let names = names(alloc)?;
+    Ok(parse(alloc, text, &Scope::of(&names))?)
 }
 
 fn assert_faults(rt: &impl Abort, alloc: Global, rows: &[(&str, ExprFault)]) -> Result<(), Fail> {
-    let scope = scope(alloc)?;
+    let names = names(alloc)?;
+    let scope = Scope::of(&names);
     for (text, want) in rows {
         match parse(alloc, text, &scope) {
             Ok(_) => assert!(rt; false, "{text} is read"),
@@ -54,7 +53,8 @@ fn assert_faults(rt: &impl Abort, alloc: Global, rows: &[(&str, ExprFault)]) -> 
 }
 
 fn assert_ints(rt: &impl Abort, alloc: Global, rows: &[(&str, Option<i64>)]) -> Result<(), Fail> {
-    let scope = scope(alloc)?;
+    let names = names(alloc)?;
+    let scope = Scope::of(&names);
     let row = row(alloc)?;
     for (text, want) in rows {
         let e = parse(alloc, text, &scope)?;
@@ -73,7 +73,8 @@ fn assert_truths(
     alloc: Global,
     rows: &[(&str, Option<bool>)],
 ) -> Result<(), Fail> {
-    let scope = scope(alloc)?;
+    let names = names(alloc)?;
+    let scope = Scope::of(&names);
     let row = row(alloc)?;
     for (text, want) in rows {
         let e = parse(alloc, text, &scope)?;
@@ -85,7 +86,8 @@ fn assert_truths(
 
 #[test]
 fn meets_the_worked_row(rt: HostRuntime) -> Result<(), Fail> {
-    let scope = Items::new(rt.alloc());
+    let names = Bindings::new(rt.alloc());
+    let scope = Scope::of(&names);
     for (text, want) in [
         ("2 $", ExprFault::Lex(2)),
         ("1 +", ExprFault::Syntax(3)),
@@ -202,7 +204,8 @@ fn finds_operands_of_other_sorts(rt: HostRuntime) -> Result<(), Fail> {
 
 #[test]
 fn finds_what_is_too_deep(rt: HostRuntime) -> Result<(), Fail> {
-    let scope = scope(rt.alloc())?;
+    let names = names(rt.alloc())?;
+    let scope = Scope::of(&names);
     let mut flat = String::new(rt.alloc());
     let mut deep = String::from_str(rt.alloc(), "[")?;
     for _ in 0..64 {
@@ -224,7 +227,8 @@ fn finds_what_is_too_deep(rt: HostRuntime) -> Result<(), Fail> {
 
 #[test]
 fn takes_1024_tokens(rt: HostRuntime) -> Result<(), Fail> {
-    let scope = scope(rt.alloc())?;
+    let names = names(rt.alloc())?;
+    let scope = Scope::of(&names);
     let mut text = String::new(rt.alloc());
     for _ in 0..1023 {
         text.push_str("not ")?;
@@ -242,7 +246,8 @@ fn takes_1024_tokens(rt: HostRuntime) -> Result<(), Fail> {
 
 #[test]
 fn takes_a_hostile_megabyte(rt: HostRuntime) -> Result<(), Fail> {
-    let scope = scope(rt.alloc())?;
+    let names = names(rt.alloc())?;
+    let scope = Scope::of(&names);
     let mut text = String::new(rt.alloc());
     for _ in 0..250_000 {
         text.push_str("ns[(")?;
@@ -361,6 +366,74 @@ fn lends_texts_and_lists(rt: HostRuntime) -> Result<(), Fail> {
     match view(&texts, &row) {
         Some(Val::Texts(found)) => assert_eq!(rt; found.len(), 2),
         _ => assert!(rt; false, "no list of texts"),
+    }
+    Ok(())
+}
+
+#[test]
+fn adds_a_name_once(rt: HostRuntime) -> Result<(), Fail> {
+    let mut names = Bindings::new(rt.alloc());
+    assert!(rt; names.is_empty());
+    assert!(rt; names.add("n", Sort::Int)?);
+    assert!(rt; names.add("t", Sort::Text)?);
+    assert!(rt; !names.add("n", Sort::Bool)?);
+    assert_eq!(rt; names.len(), 2);
+    assert_eq!(rt; names.place_of("t"), Some(1));
+    assert_eq!(rt; names.place_of("T"), None);
+    assert_eq!(rt; names.sort_at(0), Some(Sort::Int));
+    assert_eq!(rt; names.sort_at(2), None);
+    Ok(())
+}
+
+/// `n` a text and `a` a number, before the five names of `names`: the row is `in`, 5 and the five values of `row`.
+#[test]
+fn finds_an_inner_name_before_an_outer_one(rt: HostRuntime) -> Result<(), Fail> {
+    let mut inner = Bindings::new(rt.alloc());
+    let _added = inner.add("n", Sort::Text)?;
+    let _added = inner.add("a", Sort::Int)?;
+    let outer = names(rt.alloc())?;
+    let scope = Scope::nested(&inner, &outer);
+    let mut row = Items::new(rt.alloc());
+    row.push(Value::Text(Text::copy_of(rt.alloc(), "in")?))?;
+    row.push(Value::Int(5))?;
+    row.push(Value::Bool(true))?;
+    row.push(Value::Int(7))?;
+    row.push(Value::Text(Text::copy_of(rt.alloc(), "ab")?))?;
+    for text in ["n = 'in'", "a = 5", "b", "t = 'ab'", "n != t and a < 7"] {
+        let e = parse(rt.alloc(), text, &scope)?;
+        assert_eq!(rt; truth(&e, &row), Some(true), "of {text}");
+    }
+    assert_eq!(rt; scope.place_of("n"), Some(0));
+    assert_eq!(rt; scope.place_of("b"), Some(2));
+    assert_eq!(rt; scope.place_of("ts"), Some(6));
+    assert_eq!(rt; scope.place_of("zz"), None);
+    assert_eq!(rt; scope.sort_at(3), Some(Sort::Int));
+    assert_eq!(rt; scope.sort_at(7), None);
+    for (text, want) in [
+        ("n + 1", ExprFault::Types(2)),
+        ("a + t", ExprFault::Types(2)),
+        ("a + zz", ExprFault::UnknownName(4)),
+    ] {
+        match parse(rt.alloc(), text, &scope) {
+            Ok(_) => assert!(rt; false, "{text} is read"),
+            Err(fault) => assert_eq!(rt; fault, want, "of {text}"),
+        }
+    }
+    Ok(())
+}
+
+#[test]
+fn finds_among_twenty_thousand_names(rt: HostRuntime) -> Result<(), Fail> {
+    let mut names = Bindings::new(rt.alloc());
+    for n in 0..20_000u32 {
+        let name = format!(in rt.alloc(); "x{n}")?;
+        assert!(rt; names.add(name.as_str(), Sort::Int)?);
+    }
+    let scope = Scope::of(&names);
+    for n in 0..100_000u32 {
+        let number = n % 20_000;
+        let name = format!(in rt.alloc(); "x{number}")?;
+        assert_eq!(rt; scope.place_of(name.as_str()), Some(number as usize));
     }
     Ok(())
 }

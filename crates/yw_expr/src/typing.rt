@@ -12,7 +12,7 @@ ghost use Rattle.yw_expr.specs.Walk.{of_sort, of_tree, verdict, Finds};
 
 use crate::fault::ExprFault;
 use crate::node::Node;
-use crate::scope::{Binding, place_in};
+use crate::scope::Scope;
 use std::alloc::{AllocError, Global};
 use yw_base::{IntList, Items, Sort, Text, TextList, Value};
 use yw_grammar::{Call, Infix, Leaf, Literal, Prefix, Span, SyntaxTree};
@@ -250,19 +250,16 @@ fn typed_list(alloc: Global, text: &str, at: usize, items: &[Literal]) -> Result
     }
 }
 
-fn typed_name(text: &str, scope: &[Binding], at: usize, span: Span) -> Result<Typed, ExprFault>
+fn typed_name(text: &str, scope: &Scope<'_>, at: usize, span: Span) -> Result<Typed, ExprFault>
     requires { IsSoundLeaf text.now (Name span) }
     ensures { Finds result (of_tree at (leaf_tree text.now scope.now (Name span))) }
 {
-    match place_in(scope, &text.as_bytes()[span.from..span.to]) {
-        Some(place) => match scope.get(place) {
-            Some(binding) => {
-                let sort = binding.sort;
-                Ok(Typed {
-                    node: Node::Variable(place, sort),
-                    sort,
-                })
-            }
+    match scope.place_of(&text[span.from..span.to]) {
+        Some(place) => match scope.sort_at(place) {
+            Some(sort) => Ok(Typed {
+                node: Node::Variable(place, sort),
+                sort,
+            }),
             None => Err(ExprFault::Types(at)),
         },
         None => Err(ExprFault::Types(at)),
@@ -283,7 +280,7 @@ fn constant(value: Value) -> Typed
 fn typed_leaf(
     alloc: Global,
     text: &str,
-    scope: &[Binding],
+    scope: &Scope<'_>,
     at: usize,
     leaf: Leaf,
 ) -> Result<Typed, ExprFault>
@@ -302,7 +299,7 @@ fn typed_leaf(
 pub fn typed_form(
     alloc: Global,
     text: &str,
-    scope: &[Binding],
+    scope: &Scope<'_>,
     tree: &SyntaxTree,
 ) -> Result<Typed, ExprFault>
     requires { IsSound text.now (form_of tree.now) }

@@ -3,3 +3,4 @@ pub mod Meaning
 pub mod Replies
 pub mod State
 pub mod Run
+pub mod Net

@@ -1,0 +1,4 @@
+pub mod Once
+pub mod Loops
+pub mod FactsLemmas
+pub mod IndexLemmas

@@ -1,0 +1,11 @@
+pub mod Order
+pub mod Faults
+pub mod Nodes
+pub mod Names
+pub mod Graph
+pub mod Tasks
+pub mod Scopes
+pub mod Verdict
+pub mod Built
+pub mod Facts
+pub mod Index

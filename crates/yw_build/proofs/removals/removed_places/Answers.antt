@@ -1,0 +1,11 @@
+use Rattle.std.proofs.Common.{refl}
+use Rattle.std.specs.Prelude.{not}
+use Rattle.yw_accept.specs.Built.{IsPlaceCalled}
+use Rattle.yw_accept.specs.Nodes.{is_task}
+use Rattle.yw_build.proofs.ZipLemmas.{zip_some}
+use Rattle.yw_build.proofs.removals.removed_places.Goals as goal
+
+pub loop-text-preserved : goal.loop-text-preserved
+loop-text-preserved c =
+    let net = c.args.numbers.now.said.now in
+    zip_some (IsPlaceCalled net) (λ text. not (is_task net text)) c.args.texts.now c.args.texts.now c.loop-text.text-index c.text-item.result c.loop-text.places c.add_place.new.places refl c.loop-text-test.true c.text-item.is c.loop-text.invariant c.in_ok-add_place.ensures

@@ -1,0 +1,5 @@
+use Rattle.yw_build.proofs.VerdictLemmas.{is_ready}
+use Rattle.yw_build.proofs.spec_of.Goals as goal
+
+pub spec_of_ready-requires : goal.spec_of_ready-requires
+spec_of_ready-requires c = is_ready c.args.raw.now c.requires

@@ -1,0 +1,4 @@
+pub mod Ready
+pub mod Numbers
+pub mod Rows
+pub mod Expressions

@@ -1,0 +1,10 @@
+//! Whether a specification is accepted: twelve checks in order, and the specification where none fails.
+#![tactic(auto)]
+
+mod fault;
+#[cfg(test)]
+mod tests;
+mod verdict;
+
+pub use fault::CheckFault;
+pub use verdict::check;

@@ -1,0 +1,8 @@
+mod NumberLemmas
+mod OrderLemmas
+mod PathLemmas
+mod CycleLemmas
+mod FirstLemmas
+mod LinkLemmas
+mod ChildLemmas
+mod NetLemmas

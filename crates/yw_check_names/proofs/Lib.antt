@@ -1,0 +1,4 @@
+pub mod SeenLemmas
+pub mod Trying
+pub mod Thens
+pub mod Arrows

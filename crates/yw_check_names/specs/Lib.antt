@@ -1,0 +1,4 @@
+pub mod Seen
+pub mod Tried
+pub mod NetNodes
+pub mod Flows

@@ -1,0 +1,7 @@
+pub mod Deciding
+pub mod LoopLemmas
+pub mod SpellsLemmas
+pub mod LayerLemmas
+pub mod FittingLemmas
+pub mod NamedLemmas
+pub mod ParameterLemmas

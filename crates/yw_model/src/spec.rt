@@ -1,0 +1,79 @@
+// Specifications: nets, what they keep and where they lead.
+use crate::Task;
+use yw_base::{Items, Name, Sort, Value};
+
+/// A process as it is loaded: nets, of which the top one is a case's own. The paper's specification.
+#[derive(Debug, Drop)]
+pub struct Spec {
+    /// The name under which it is loaded.
+    pub name: Name,
+    /// The number of the top net among `nets`.
+    pub top: usize,
+    /// The nets in document order.
+    pub nets: NetList,
+}
+
+/// Nets in order.
+pub type NetList = Items<Net>;
+
+/// A net of places and tasks. The paper's extended workflow net.
+#[derive(Debug, Drop)]
+pub struct Net {
+    /// Its name, which no other net of the specification has.
+    pub name: Name,
+    /// The number of the input among `places`, where a token stands when the net begins.
+    pub input: usize,
+    /// The number of the output among `places`, where a token ends the net.
+    pub output: usize,
+    /// The input, the output, the conditions in document order, and behind them the implicit places in the
+    /// order of their flows.
+    pub places: PlaceList,
+    /// The tasks in document order.
+    pub tasks: TaskList,
+    /// The variables in document order.
+    pub vars: VarList,
+}
+
+/// Places in order.
+pub type PlaceList = Items<Place>;
+
+/// Tasks in order.
+pub type TaskList = Items<Task>;
+
+/// Variables in order.
+pub type VarList = Items<Var>;
+
+/// Where tokens stand.
+#[derive(Debug, Drop)]
+pub enum Place {
+    /// The input, the output or a condition, by its name.
+    Named(Name),
+    /// The implicit place of a flow from one task to another, by their names.
+    Between(Name, Name),
+}
+
+/// A variable of a net. The passing of values by usage is our own.
+#[derive(Debug, Drop)]
+pub struct Var {
+    /// Its name, which no other variable of the net has.
+    pub name: Name,
+    /// The sort of its values.
+    pub sort: Sort,
+    /// Whether a value comes in at the net's beginning, and goes out at its end.
+    pub usage: Usage,
+    /// Its value at the beginning, where none comes in. It is of the variable's sort.
+    pub init: Value,
+}
+
+/// Whether a variable's value comes from outside its net, and whether it is handed back.
+#[derive(Clone, Copy, Debug, PartialEq, Eq)]
+pub enum Usage {
+    /// A value comes in.
+    In,
+    /// The value goes out.
+    Out,
+    /// A value comes in, and the value goes out.
+    InOut,
+    /// Neither.
+    Local,
+}

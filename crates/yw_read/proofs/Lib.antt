@@ -1,0 +1,4 @@
+pub mod InitLemmas
+pub mod KeyLemmas
+pub mod KindLemmas
+pub mod UnknownLemmas

@@ -1,0 +1,5 @@
+pub mod Inits
+pub mod Keys
+pub mod Kinds
+pub mod Reading
+pub mod Tables

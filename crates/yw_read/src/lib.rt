@@ -1,0 +1,18 @@
+//! What a document says that describes a specification: the reading of TOML by the table of its keys.
+#![tactic(auto)]
+
+mod keys;
+mod kinds;
+mod raw;
+mod reading;
+mod tables;
+
+pub use raw::{
+    RawBranch, RawBranchList, RawFlow, RawFlowList, RawGate, RawIn, RawInList, RawKind, RawNet,
+    RawNetList, RawOut, RawOutList, RawSet, RawSetList, RawSpec, RawTask, RawTaskList, RawUsage,
+    RawVar, RawVarList, ReadFault,
+};
+pub use reading::read_spec;
+
+#[cfg(test)]
+mod tests;
