@@ -11,3 +11,6 @@ mod spelling;
 
 pub use parameters::parameters_agree;
 pub use sorts::sorts_fit;
+
+#[cfg(test)]
+mod tests;

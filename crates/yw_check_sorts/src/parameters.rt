@@ -312,8 +312,8 @@ fn nets_parameters_agree(alloc: Global, raw: &RawSpec) -> Result<Option<Broken>,
 /// - Its `set` is for variables of the task's own net.
 ///
 /// The first check has to have found nothing: among distinct names one is found by its name. The only error is
-/// want of memory. The check is our own. It takes time n log n for a specification of n bytes in which no net
-/// but the top is named by two tasks, as an earlier check demands.
+/// want of memory. The check is our own. It takes time n log n for a specification of n bytes in which no two
+/// tasks stand for one net, as an earlier check demands.
 #[tactic(auto, unfolding(yw_accept::specs::Scopes::ParametersAgree))]
 pub fn parameters_agree(alloc: Global, raw: &RawSpec) -> Result<Option<Broken>, AllocError>
     requires names { NamesFit raw.now None }
