@@ -3,7 +3,7 @@
 
     python3 bench/specifications.py [PROGRAM]
 
-No program of the repository reads specifications yet. So this script builds one: in a temporary folder, from
+The program judges one text a run. This script builds one that judges a text many times: in a temporary folder, from
 bench/specifications/main.rt.txt and copies of the crates that it stands on, by `rt run`, which proves it first. With
 nothing kept of an earlier check that takes long. PROGRAM is one that was built so before; without it, the built program
 is left in the folder out/ beside this script's own folder specifications/.
@@ -140,7 +140,7 @@ def build(folder):
         shutil.copytree(os.path.join(TOP, "crates", name), os.path.join(crates, name), ignore=shutil.ignore_patterns("out"))
     with open(os.path.join(folder, "crates.txt"), "w") as f:
         f.writelines("%s:%s\n" % (name, lines[name]) for name in needed)
-        f.write("specifications: yw_base yw_model yw_read yw_check anyhow\n")
+        f.write("specifications: yw_base yw_spec yw_read yw_check anyhow\n")
     shutil.copy(os.path.join(TOP, "HANDLES"), folder)
     own = os.path.join(crates, "specifications")
     os.makedirs(os.path.join(own, "src"))

@@ -10,22 +10,22 @@ use Rattle.yw_base.specs.declared.value.Value.TheVariants as values
 use Rattle.yw_expr.specs.declared.scope.Binding.{Binding}
 use Rattle.yw_expr.specs.Parsing.{Means}
 use Rattle.yw_expr.specs.Tree.{Tree}
-use Rattle.yw_model.specs.declared.spec.Net.{Net}
-use Rattle.yw_model.specs.declared.spec.Place.{Place}
-use Rattle.yw_model.specs.declared.spec.Place.TheVariants as places
-use Rattle.yw_model.specs.declared.spec.Spec.{Spec}
-use Rattle.yw_model.specs.declared.spec.Usage.{Usage}
-use Rattle.yw_model.specs.declared.spec.Usage.TheVariants as usages
-use Rattle.yw_model.specs.declared.spec.Var.{Var}
-use Rattle.yw_model.specs.declared.task.Assign.{Assign}
-use Rattle.yw_model.specs.declared.task.Branch.{Branch}
-use Rattle.yw_model.specs.declared.task.Gate.{Gate}
-use Rattle.yw_model.specs.declared.task.Gate.TheVariants as gates
-use Rattle.yw_model.specs.declared.task.Kind.{Kind}
-use Rattle.yw_model.specs.declared.task.Kind.TheVariants as kinds
-use Rattle.yw_model.specs.declared.task.Many.{Many}
-use Rattle.yw_model.specs.declared.task.Param.{Param}
-use Rattle.yw_model.specs.declared.task.Task.{Task}
+use Rattle.yw_spec.specs.declared.spec.Net.{Net}
+use Rattle.yw_spec.specs.declared.spec.Place.{Place}
+use Rattle.yw_spec.specs.declared.spec.Place.TheVariants as places
+use Rattle.yw_spec.specs.declared.spec.Spec.{Spec}
+use Rattle.yw_spec.specs.declared.spec.Usage.{Usage}
+use Rattle.yw_spec.specs.declared.spec.Usage.TheVariants as usages
+use Rattle.yw_spec.specs.declared.spec.Var.{Var}
+use Rattle.yw_spec.specs.declared.task.Assign.{Assign}
+use Rattle.yw_spec.specs.declared.task.Branch.{Branch}
+use Rattle.yw_spec.specs.declared.task.Gate.{Gate}
+use Rattle.yw_spec.specs.declared.task.Gate.TheVariants as gates
+use Rattle.yw_spec.specs.declared.task.Kind.{Kind}
+use Rattle.yw_spec.specs.declared.task.Kind.TheVariants as kinds
+use Rattle.yw_spec.specs.declared.task.Many.{Many}
+use Rattle.yw_spec.specs.declared.task.Param.{Param}
+use Rattle.yw_spec.specs.declared.task.Task.{Task}
 use Rattle.yw_read.specs.declared.raw.RawBranch.{RawBranch}
 use Rattle.yw_read.specs.declared.raw.RawFlow.{RawFlow}
 use Rattle.yw_read.specs.declared.raw.RawGate.{RawGate}

@@ -12,8 +12,8 @@ use Rattle.std.proofs.lemmas.List.{get_or_append_left, length-map}
 use Rattle.std.proofs.lemmas.Option.{get_or_from_slice_get, slice_get_within}
 use Rattle.std.proofs.lemmas.Slice.Eq.{bytes_eq-Decides}
 use Rattle.yw_base.specs.Spelling.{is_word_byte}
-use Rattle.yw_model.specs.declared.spec.Place.{Place}
-use Rattle.yw_model.specs.declared.spec.Place.TheVariants as places
+use Rattle.yw_spec.specs.declared.spec.Place.{Place}
+use Rattle.yw_spec.specs.declared.spec.Place.TheVariants as places
 use Rattle.yw_read.specs.declared.raw.RawFlow.{RawFlow}
 use Rattle.yw_read.specs.declared.raw.RawNet.{RawNet}
 use Rattle.yw_accept.specs.Built.{place_of, places_of, place_text, IsPlaceOf, IsPlaceCalled}

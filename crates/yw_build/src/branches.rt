@@ -11,8 +11,8 @@ use crate::numbers::NetNumbers;
 use std::alloc::{AllocError, Global};
 use yw_base::Items;
 use yw_expr::Scope;
-use yw_model::{Branch, BranchList};
 use yw_read::{RawBranch, RawTask};
+use yw_spec::{Branch, BranchList};
 
 fn branch_of(
     alloc: Global,

@@ -6,8 +6,8 @@ ghost use Rattle.yw_accept.specs.Index.{IsIndexOf};
 
 use std::alloc::{AllocError, Global};
 use yw_accept::Index;
-use yw_model::Place;
 use yw_read::{RawNet, RawTask};
+use yw_spec::Place;
 
 /// The nets by their names.
 pub fn index_of_nets(alloc: Global, nets: &[RawNet]) -> Result<Index, AllocError>

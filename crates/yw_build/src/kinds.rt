@@ -6,8 +6,8 @@ ghost use Rattle.yw_accept.specs.Nodes.{is_net, net_names};
 ghost use Rattle.yw_accept.specs.Index.{IsIndexOf};
 
 use yw_accept::{Index, number_of};
-use yw_model::Kind;
 use yw_read::{RawKind, RawSpec, RawTask};
+use yw_spec::Kind;
 
 /// A specification as its document says it, with its nets by their names.
 #[derive(Drop)]

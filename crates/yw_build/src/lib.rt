@@ -23,8 +23,8 @@ mod values;
 mod words;
 
 use std::alloc::{AllocError, Global};
-use yw_model::Spec;
 use yw_read::RawSpec;
+use yw_spec::Spec;
 
 /// The specification that a document says in which no check found a fault: names by their numbers, flows by
 /// their places, texts by their expressions. An `Err` says that no memory was left, and comes for nothing

@@ -13,8 +13,8 @@ use crate::numbers::NetNumbers;
 use std::alloc::{AllocError, Global};
 use yw_base::Text;
 use yw_expr::Scope;
-use yw_model::Many;
 use yw_read::{RawIn, RawTask};
+use yw_spec::Many;
 
 /// A number of items.
 fn count_of(said: i64) -> u32

@@ -19,8 +19,8 @@ use crate::words::name_of;
 use std::alloc::{AllocError, Global};
 use yw_accept::Index;
 use yw_base::Items;
-use yw_model::{Net, NetList, PlaceList, Spec};
 use yw_read::{RawNet, RawSpec};
+use yw_spec::{Net, NetList, PlaceList, Spec};
 
 /// A net with these tasks and places by their names.
 fn numbers_of<'a>(

@@ -12,8 +12,8 @@ use crate::words::name_of;
 use std::alloc::{AllocError, Global};
 use yw_base::Items;
 use yw_expr::{Bindings, Scope};
-use yw_model::{Assign, Param, ParamList, SetList};
 use yw_read::{RawIn, RawSet, RawTask};
+use yw_spec::{Assign, Param, ParamList, SetList};
 
 fn in_of(alloc: Global, numbers: &NetNumbers<'_>, said: &RawIn) -> Result<Param, AllocError>
     requires numbers { AreNumbers numbers.now }

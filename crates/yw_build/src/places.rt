@@ -11,8 +11,8 @@ use crate::words::name_of;
 use std::alloc::{AllocError, Global};
 use yw_accept::{Index, has};
 use yw_base::{Items, Text};
-use yw_model::{Place, PlaceList};
 use yw_read::{RawFlow, RawNet};
+use yw_spec::{Place, PlaceList};
 
 fn push_named(alloc: Global, places: &mut PlaceList, name: &Text) -> Result<(), AllocError>
     requires { is_usable name.now ≡ true }

@@ -11,7 +11,7 @@ use crate::numbers::NetNumbers;
 use std::alloc::{AllocError, Global};
 use yw_accept::has;
 use yw_base::{Items, Text};
-use yw_model::IndexList;
+use yw_spec::IndexList;
 
 /// Adds the number of a place that is removed.
 fn add_place(

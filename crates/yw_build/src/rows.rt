@@ -8,8 +8,8 @@ use crate::numbers::NetNumbers;
 use std::alloc::{AllocError, Global};
 use yw_accept::number_of;
 use yw_base::Items;
-use yw_model::IndexList;
 use yw_read::RawFlow;
+use yw_spec::IndexList;
 
 /// Of each task of a net, in document order, the places before and after it.
 #[derive(Drop)]

@@ -21,8 +21,8 @@ use crate::values::outs_of;
 use crate::words::{gate_of, maybe_name, name_of};
 use std::alloc::{AllocError, Global};
 use yw_base::Items;
-use yw_model::{Task, TaskList};
 use yw_read::RawTask;
+use yw_spec::{Task, TaskList};
 
 /// The task with this number.
 fn task_of(

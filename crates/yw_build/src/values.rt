@@ -7,8 +7,8 @@ ghost use Rattle.yw_accept.specs.Names.{is_usable};
 use crate::words::{name_of, usage_of, zero_of};
 use std::alloc::{AllocError, Global};
 use yw_base::{Items, Value};
-use yw_model::{Param, ParamList, Var, VarList};
 use yw_read::{RawOut, RawVar};
+use yw_spec::{Param, ParamList, Var, VarList};
 
 /// The first value that a document says, or the zero of the sort.
 fn init_of(alloc: Global, said: &RawVar) -> Result<Value, AllocError>

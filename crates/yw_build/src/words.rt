@@ -6,8 +6,8 @@ ghost use Rattle.yw_accept.specs.Names.{is_usable};
 
 use std::alloc::{AllocError, Global};
 use yw_base::{Items, Name, NameFault, Sort, Text, Value};
-use yw_model::{Gate, Usage};
 use yw_read::{RawGate, RawUsage};
+use yw_spec::{Gate, Usage};
 
 /// The name that a text is, which may be used.
 pub fn name_of(alloc: Global, text: &Text) -> Result<Name, AllocError>

@@ -1,6 +1,6 @@
 -- What is answered of a specification: the one that its document says, or the first check that fails.
 use Rattle.std.specs.Prelude.{◌≡◌, Option, Some, None, Result, Ok, Err}
-use Rattle.yw_model.specs.declared.spec.Spec.{Spec}
+use Rattle.yw_spec.specs.declared.spec.Spec.{Spec}
 use Rattle.yw_read.specs.declared.raw.RawSpec.{RawSpec}
 use Rattle.yw_accept.specs.declared.broken.Broken.{Broken}
 use Rattle.yw_accept.specs.Built.{IsSpec}

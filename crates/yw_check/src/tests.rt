@@ -1,5 +1,7 @@
 // What no clause says: that checks succeed with ample memory, and that the definitions mean what is wanted.
+mod built;
 mod documents;
+mod sorts;
 
 use crate::{CheckFault, check};
 use documents::{deep, deep_nets, loan, many_ins, one_net, remind, seq};
@@ -7,8 +9,8 @@ use std::alloc::Global;
 use std::process::Abort;
 use std::test::Fail;
 use yw_base::Text;
-use yw_model::Spec;
 use yw_read::read_spec;
+use yw_spec::Spec;
 
 /// The name of the specification, or the fault as it is told behind its number.
 fn told(alloc: Global, answer: Result<Spec, CheckFault>) -> Result<Text, Fail> {

@@ -12,8 +12,8 @@ use yw_check_graph::{children_fit, levels_fit, or_joins_fit, paths_fit};
 use yw_check_names::{flows_fit, names_fit, removals_fit};
 use yw_check_sorts::{parameters_agree, sorts_fit};
 use yw_check_tasks::{items_fit, sizes_fit, splits_fit};
-use yw_model::Spec;
 use yw_read::RawSpec;
+use yw_spec::Spec;
 
 /// The first of the twelve checks that fails, or `None` where none does. Each check may rest on those before it.
 #[tactic(auto, unfolding(yw_accept::specs::Verdict::IsVerdict))]

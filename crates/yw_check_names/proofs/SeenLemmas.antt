@@ -4,7 +4,7 @@ use Rattle.std.proofs.Math.Bool.{or_comm, or-false}
 use Rattle.std.proofs.lemmas.List.Folds.{list_any-append}
 use Rattle.std.proofs.lemmas.Map.Text.{btree_set_updates_text}
 use Rattle.std.specs.List.{list_any}
-use Rattle.std.specs.BTreeSet.{Updates, contains, contains_text}
+use Rattle.std.specs.BTreeSet.{IsEmpty, Updates, contains, contains_text}
 use Rattle.std.specs.Cmp.Lexicographic.{nat_list_eq_equiv}
 use Rattle.std.specs.Str.{bytes_eq}
 use Rattle.std.specs.String.{string_bytes, string_cmp}
@@ -25,6 +25,9 @@ adds old new key added is_new updates = record {
       ∙ or_comm (bytes_eq (string_bytes key) other) (contains_text old other)
       ∙ ap (λ b. contains_text old other || b) (nat_list_eq_equiv.symm (string_bytes key) other);
 }
+
+pub knows_none : (set : NameSet) → IsEmpty set → Knows set []
+knows_none set empty = record { has = λ name. rw empty refl }
 
 pub is_among-push : (names : List (List ℕ)) (name other : List ℕ) → is_among (names ++ name ∷ []) other ≡ (is_among names other || bytes_eq other name)
 is_among-push names name other =

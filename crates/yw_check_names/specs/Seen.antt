@@ -20,6 +20,10 @@ pub record Adds (old new : NameSet) (name : List ℕ) (added : Bool) : Type 0 wh
   pub is_new : added ≡ not (contains_text old name)
   pub has : (other : List ℕ) → contains_text new other ≡ (contains_text old other || bytes_eq other name)
 
+-- these names are added
+pub record AddsAll (old new : NameSet) (more : List (List ℕ)) : Type 0 where
+  pub knows : (names : List (List ℕ)) → Knows old names → Knows new (names ++ more)
+
 -- whether the name may be used and wasn't seen before; then it is seen
 pub record Notes (old new : NameSet) (name : List ℕ) (good : Bool) : Type 0 where
   pub is_new : (names : List (List ℕ)) → Knows old names → good ≡ is_new names name

@@ -2,7 +2,7 @@
 ghost use Rattle.std.specs.Prelude.{◌≡◌, IfOk, string_bytes};
 ghost use Rattle.std.specs.BTreeSet.{contains_text};
 ghost use Rattle.yw_accept.specs.Names.{may_lead};
-ghost use Rattle.yw_accept.specs.Nodes.{arrow, is_implicit, is_sink, is_source, is_task};
+ghost use Rattle.yw_accept.specs.Nodes.{arrow, is_sink, is_source};
 ghost use Rattle.yw_check_names.specs.NetNodes.{AreNodes};
 
 use crate::seen::{NameSet, set_of};
@@ -46,9 +46,8 @@ impl NetNodes {
     }
 
     /// The name is a task's.
-    pub fn is_task(&self, net: &RawNet, name: &Text) -> bool
-        requires { AreNodes net.now self.now }
-        ensures { result ≡ is_task net.now name.now }
+    fn is_task(&self, name: &Text) -> bool
+        ensures { result ≡ contains_text self.now.tasks name.now }
     {
         has(&self.tasks, name)
     }
@@ -74,17 +73,9 @@ impl NetNodes {
         requires { AreNodes net.now self.now }
         ensures { result ≡ may_lead net.now flow.now }
     {
-        if self.is_task(net, &flow.from) {
-            return self.is_sink(net, &flow.to) || self.is_task(net, &flow.to);
+        if self.is_task(&flow.from) {
+            return self.is_sink(net, &flow.to) || self.is_task(&flow.to);
         }
-        self.is_source(net, &flow.from) && self.is_task(net, &flow.to)
-    }
-
-    /// The flow goes from a task to a task.
-    pub fn is_implicit(&self, net: &RawNet, flow: &RawFlow) -> bool
-        requires { AreNodes net.now self.now }
-        ensures { result ≡ is_implicit net.now flow.now }
-    {
-        self.is_task(net, &flow.from) && self.is_task(net, &flow.to)
+        self.is_source(net, &flow.from) && self.is_task(&flow.to)
     }
 }

@@ -1,89 +1,76 @@
 // The fourth check: what a task removes. An `Err` says that no memory was left.
-ghost use Rattle.std.specs.Prelude.{◌≡◌, map, filter, IfOk, OnOk};
+ghost use Rattle.std.specs.Prelude.{◌≡◌, IfOk, OnOk};
+ghost use Rattle.std.specs.BTreeSet.{contains_text};
 ghost use Rattle.std.specs.List.{list_all};
-ghost use Rattle.yw_accept.specs.Names.{RemovalFits, RemovalsFit, may_be_emptied};
-ghost use Rattle.yw_accept.specs.Nodes.{arrow, implicit_places, is_implicit};
+ghost use Rattle.yw_accept.specs.Names.{RemovalFits, RemovalsFit};
 ghost use Rattle.yw_accept.specs.Order.{InOrder};
-ghost use Rattle.yw_check_names.specs.NetNodes.{AddsImplicit, AreNodes};
-ghost use Rattle.yw_check_names.specs.Seen.{Knows};
+ghost use Rattle.yw_check_names.specs.Removals.{AddsImplicit, AreImplicit, MayBeEmptied};
 
-use crate::net_nodes::{NetNodes, arrow, has};
-use crate::seen::{NameSet, add};
+use crate::net_nodes::{arrow, has};
+use crate::seen::{NameSet, add, add_all, set_of};
 use std::alloc::{AllocError, Global};
 use std::collections::BTreeSet;
 use yw_accept::Broken;
 use yw_base::Text;
 use yw_read::{RawFlow, RawNet, RawSpec, RawTask};
 
-/// Adds the implicit condition of a flow, if it has one.
+/// Adds the implicit condition of a flow, if it goes from a task to a task.
 fn add_implicit(
     alloc: Global,
-    net: &RawNet,
-    nodes: &NetNodes,
+    tasks: &NameSet,
     set: &mut NameSet,
     flow: &RawFlow,
 ) -> Result<(), AllocError>
-    requires { AreNodes net.now nodes.now }
-    ensures { OnOk result (AddsImplicit net.now set.old set.new flow.now) }
+    ensures { OnOk result (AddsImplicit tasks.now set.old set.new flow.now) }
 {
-    if !nodes.is_implicit(net, flow) {
+    if has(tasks, &flow.from) && has(tasks, &flow.to) {
+        let text = arrow(alloc, flow)?;
+        add(set, text)?;
         return Ok(());
     }
-    let text = arrow(alloc, flow)?;
-    add(set, text)?;
     Ok(())
 }
 
-/// The implicit conditions of some flows of a net.
-fn implicit_places(
-    alloc: Global,
-    net: &RawNet,
-    nodes: &NetNodes,
-    flows: &[RawFlow],
-) -> Result<NameSet, AllocError>
-    requires { AreNodes net.now nodes.now }
-    ensures { IfOk result (λ set. Knows set (map arrow (filter (is_implicit net.now) flows.now))) }
+/// The implicit conditions of flows, by the tasks of their net.
+fn implicit_places(alloc: Global, tasks: &NameSet, flows: &[RawFlow]) -> Result<NameSet, AllocError>
+    ensures { IfOk result (AreImplicit tasks.now flows.now) }
 {
     let mut set = BTreeSet::new(alloc);
     for flow in flows {
-        add_implicit(alloc, net, nodes, &mut set, flow)?;
+        add_implicit(alloc, tasks, &mut set, flow)?;
     }
     Ok(set)
 }
 
-/// A task may empty what has the name: a condition other than input and output, an implicit one, or a task.
-fn may_be_emptied(net: &RawNet, nodes: &NetNodes, implicit: &NameSet, name: &Text) -> bool
-    requires nodes { AreNodes net.now nodes.now }
-    requires implicit { Knows implicit.now (implicit_places net.now) }
-    ensures { result ≡ may_be_emptied net.now name.now }
+/// What the tasks of a net may empty: conditions other than the input and the output, implicit ones, and tasks.
+fn emptied_in(alloc: Global, net: &RawNet) -> Result<NameSet, AllocError>
+    ensures { IfOk result (MayBeEmptied net.now) }
 {
-    has(&nodes.conditions, name) || has(implicit, name) || nodes.is_task(net, name)
+    let tasks = set_of(alloc, net.task.as_slice())?;
+    let mut set = implicit_places(alloc, &tasks, net.flows.as_slice())?;
+    add_all(alloc, &mut set, net.conditions.as_slice())?;
+    add_all(alloc, &mut set, net.task.as_slice())?;
+    Ok(set)
 }
 
-/// A task may empty each of these.
-fn may_all_be_emptied(net: &RawNet, nodes: &NetNodes, implicit: &NameSet, names: &[Text]) -> bool
-    requires nodes { AreNodes net.now nodes.now }
-    requires implicit { Knows implicit.now (implicit_places net.now) }
-    ensures { result ≡ list_all (may_be_emptied net.now) names.now }
+/// Each of the names is in the set.
+fn has_all(set: &NameSet, names: &[Text]) -> bool
+    ensures { result ≡ list_all (λ name. contains_text set.now name) names.now }
 {
-    names
-        .iter()
-        .all(|name| may_be_emptied(net, nodes, implicit, name))
+    names.iter().all(|name| has(set, name))
 }
 
 /// What a task removes.
 fn removal_fits(
     alloc: Global,
     net: &RawNet,
-    nodes: &NetNodes,
-    implicit: &NameSet,
+    emptied: &NameSet,
     task: &RawTask,
 ) -> Result<Option<Broken>, AllocError>
-    requires nodes { AreNodes net.now nodes.now }
-    requires implicit { Knows implicit.now (implicit_places net.now) }
+    requires { MayBeEmptied net.now emptied.now }
     ensures { IfOk result (RemovalFits net.now task.now) }
 {
-    if may_all_be_emptied(net, nodes, implicit, task.remove.as_slice()) {
+    if has_all(emptied, task.remove.as_slice()) {
         return Ok(None);
     }
     let broken = Broken::in_net(alloc, 4, &net.name, &task.name)?;
@@ -94,16 +81,14 @@ fn removal_fits(
 fn removals_of_tasks_fit(
     alloc: Global,
     net: &RawNet,
-    nodes: &NetNodes,
-    implicit: &NameSet,
+    emptied: &NameSet,
     tasks: &[RawTask],
 ) -> Result<Option<Broken>, AllocError>
-    requires nodes { AreNodes net.now nodes.now }
-    requires implicit { Knows implicit.now (implicit_places net.now) }
+    requires { MayBeEmptied net.now emptied.now }
     ensures { IfOk result (InOrder (RemovalFits net.now) tasks.now) }
 {
     for task in tasks {
-        if let Some(broken) = removal_fits(alloc, net, nodes, implicit, task)? {
+        if let Some(broken) = removal_fits(alloc, net, emptied, task)? {
             return Ok(Some(broken));
         }
     }
@@ -114,9 +99,8 @@ fn removals_of_tasks_fit(
 fn removals_of_net_fit(alloc: Global, net: &RawNet) -> Result<Option<Broken>, AllocError>
     ensures { IfOk result (InOrder (RemovalFits net.now) net.now.task) }
 {
-    let nodes = NetNodes::of(alloc, net)?;
-    let implicit = implicit_places(alloc, net, &nodes, net.flows.as_slice())?;
-    let found = removals_of_tasks_fit(alloc, net, &nodes, &implicit, net.task.as_slice())?;
+    let emptied = emptied_in(alloc, net)?;
+    let found = removals_of_tasks_fit(alloc, net, &emptied, net.task.as_slice())?;
     Ok(found)
 }
 

@@ -1,8 +1,8 @@
 // Names that were seen, each found without going over the others.
-ghost use Rattle.std.specs.Prelude.{◌≡◌, false, true, IfOk, MatchOption, map, string_bytes};
+ghost use Rattle.std.specs.Prelude.{◌≡◌, false, true, IfOk, MatchOption, OnOk, map, string_bytes};
 ghost use Rattle.yw_accept.specs.Faults.{in_net};
 ghost use Rattle.yw_accept.specs.Names.{AreNew, IsNew, is_usable};
-ghost use Rattle.yw_check_names.specs.Seen.{Adds, Knows, Notes, Tries, TriesAll};
+ghost use Rattle.yw_check_names.specs.Seen.{Adds, AddsAll, Knows, Notes, Tries, TriesAll};
 ghost use Rattle.yw_lex.specs.Spelling.{is_reserved};
 
 use crate::named::Named;
@@ -116,13 +116,21 @@ pub fn is_usable(alloc: Global, text: &Text) -> Result<bool, AllocError>
     Ok(name.is_some())
 }
 
+/// Adds names, which may be any texts. An `Err` says that no memory was left.
+pub fn add_all<T: Named>(alloc: Global, set: &mut NameSet, items: &[T]) -> Result<(), AllocError>
+    ensures { OnOk result (AddsAll set.old set.new (map T.name_of items.now)) }
+{
+    for item in items {
+        add(set, String::from_str(alloc, item.name().as_str())?)?;
+    }
+    Ok(())
+}
+
 /// The set of some names, which may be any texts. An `Err` says that no memory was left.
 pub fn set_of<T: Named>(alloc: Global, items: &[T]) -> Result<NameSet, AllocError>
     ensures { IfOk result (λ set. Knows set (map T.name_of items.now)) }
 {
     let mut set = BTreeSet::new(alloc);
-    for item in items {
-        add(&mut set, String::from_str(alloc, item.name().as_str())?)?;
-    }
+    add_all(alloc, &mut set, items)?;
     Ok(set)
 }

@@ -3,7 +3,7 @@ use Rattle.std.proofs.Common.{◌≡◌, ℕ, ◌+◌, ◌≤◌, true, List, �
 use Rattle.std.specs.List.{list_all, flat_map}
 use Rattle.std.proofs.lemmas.List.{take_at, drop_at, get_or-take, get_or_append_left, append_cancel_right}
 use Rattle.byteorder.specs.Endian.{big_number}
-use Rattle.yw_model.specs.declared.speech.Event.{Event}
+use Rattle.yw_model.specs.declared.event.Event.{Event}
 use Rattle.yw_codec.specs.Entries.{event_bytes, is_event, IsEntry}
 use Rattle.yw_codec.proofs.Events.{same_events}
 
@@ -48,7 +48,7 @@ pub same_entry : (es fs : List Event) (p q x y : List ℕ) → IsEntry es p → 
 same_entry es fs p q x y is_p is_q e =
     let a = entry_parts (p ++ x) p x es is_p refl in
     let b = entry_parts (p ++ x) q y fs is_q e in
-    let same = same_events es fs x y (sym a.0 ∙ b.0) (sym a.1 ∙ b.1) in
+    let same = same_events es fs x y (sym a.0 ∙ b.0) is_p.each is_q.each (sym a.1 ∙ b.1) in
     (same.0, append_cancel_right p q y (ap (λ (l : List ℕ). p ++ l) (sym same.1) ∙ e), same.1)
 
 -- what was read is the one entry at the front

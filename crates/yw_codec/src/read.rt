@@ -2,14 +2,14 @@
 ghost use Rattle.std.specs.Prelude.{◌≡◌, ◌++◌, ◌+◌, ◌∷◌, ◌≤◌, [], List, ℕ, true, IfOk, IfErr, length, slice_index, take, drop};
 ghost use Rattle.std.specs.List.{flat_map, list_all};
 ghost use Rattle.yw_base.specs.Spelling.{is_name};
-ghost use Rattle.yw_model.specs.declared.speech.Event.{Event};
-ghost use Rattle.yw_codec.specs.Entries.{name_bytes, event_bytes, is_event, IsEntry};
+ghost use Rattle.yw_model.specs.declared.event.Event.{Event};
+ghost use Rattle.byteorder.specs.Endian.{big_bytes, big_number};
+ghost use Rattle.yw_codec.specs.Entries.{name_bytes, text_bytes, is_text, event_bytes, is_event, IsEntry};
 
-use crate::EventList;
 use byteorder::{BigEndian, ByteOrder};
 use std::alloc::{AllocError, Global};
-use yw_base::{Name, NameFault, NameList};
-use yw_model::Event;
+use yw_base::{Name, NameFault, NameList, Text};
+use yw_model::{Event, EventList};
 
 /// Why bytes aren't read as an entry.
 #[derive(Clone, Copy, Debug, PartialEq, Eq)]
@@ -67,6 +67,38 @@ fn read_names(alloc: Global, bytes: &[u8], count: u8) -> Result<(NameList, usize
     Ok((NameList::from_vec(names), at))
 }
 
+// The number in the four bytes at the front.
+fn read_size(bytes: &[u8]) -> u32
+    requires { 4 ≤ length bytes.now }
+    ensures number { result ≡ big_number 4 bytes.now }
+    ensures bytes { bytes.now ≡ big_bytes 4 result ++ drop 4 bytes.now }
+{
+    u32::from_be_bytes([bytes[0], bytes[1], bytes[2], bytes[3]])
+}
+
+// The text at the front.
+fn read_text(alloc: Global, bytes: &[u8]) -> Result<Text, CodecFault>
+    ensures ok { IfOk result (λ text. bytes.now ≡ text_bytes text ++ drop (4 + length text) bytes.now) }
+    ensures within { IfOk result (λ text. 4 + length text ≤ length bytes.now) }
+    ensures text { IfOk result (λ text. is_text text ≡ true) }
+    ensures bad { IfErr result (λ fault. fault ≡ CodecFault.Bad → (text rest : List ℕ) → is_text text ≡ true → bytes.now ≡ text_bytes text ++ rest → ⊥) }
+{
+    if bytes.len() < 4 {
+        return Err(CodecFault::Bad);
+    }
+    let size = read_size(bytes) as usize;
+    if size > bytes.len() - 4 {
+        return Err(CodecFault::Bad);
+    }
+    let Ok(text) = std::str::from_utf8(&bytes[4..4 + size]) else {
+        return Err(CodecFault::Bad);
+    };
+    match Text::copy_of(alloc, text) {
+        Ok(text) => Ok(text),
+        Err(AllocError) => Err(CodecFault::Memory),
+    }
+}
+
 // The person's event at the front, behind its tag, and how many bytes there are with the tag.
 fn read_person(alloc: Global, bytes: &[u8]) -> Result<(Event, usize), CodecFault>
     requires some { 1 ≤ length bytes.now }
@@ -85,6 +117,22 @@ fn read_person(alloc: Global, bytes: &[u8]) -> Result<(Event, usize), CodecFault
     Ok((Event::Person { name, roles }, at + 1 + size))
 }
 
+// The loaded specification's event at the front, behind its tag, and how many bytes there are with the tag.
+fn read_load(alloc: Global, bytes: &[u8]) -> Result<(Event, usize), CodecFault>
+    requires some { 1 ≤ length bytes.now }
+    requires tag { slice_index bytes.now 0 ≡ 2 }
+    ensures ok { IfOk result (λ v. bytes.now ≡ event_bytes v.0 ++ drop v.1 bytes.now) }
+    ensures within { IfOk result (λ v. v.1 ≤ length bytes.now) }
+    ensures event { IfOk result (λ v. is_event v.0 ≡ true) }
+    ensures bad { IfErr result (λ fault. fault ≡ CodecFault.Bad → (event : Event) (rest : List ℕ) → is_event event ≡ true → bytes.now ≡ event_bytes event ++ rest → ⊥) }
+{
+    let name = read_name(alloc, &bytes[1..])?;
+    let at = 2 + name.as_str().len();
+    let text = read_text(alloc, &bytes[at..])?;
+    let end = at + 4 + text.as_str().len();
+    Ok((Event::Load { name, text }, end))
+}
+
 // The event at the front, and how many bytes it has.
 fn read_event(alloc: Global, bytes: &[u8]) -> Result<(Event, usize), CodecFault>
     ensures ok { IfOk result (λ v. bytes.now ≡ event_bytes v.0 ++ drop v.1 bytes.now) }
@@ -92,10 +140,14 @@ fn read_event(alloc: Global, bytes: &[u8]) -> Result<(Event, usize), CodecFault>
     ensures event { IfOk result (λ v. is_event v.0 ≡ true) }
     ensures bad { IfErr result (λ fault. fault ≡ CodecFault.Bad → (event : Event) (rest : List ℕ) → is_event event ≡ true → bytes.now ≡ event_bytes event ++ rest → ⊥) }
 {
-    if bytes.is_empty() || bytes[0] != 1 {
+    if bytes.is_empty() {
         return Err(CodecFault::Bad);
     }
-    read_person(alloc, bytes)
+    match bytes[0] {
+        1 => read_person(alloc, bytes),
+        2 => read_load(alloc, bytes),
+        _ => Err(CodecFault::Bad),
+    }
 }
 
 // So many events at the front, and how many bytes they have.
@@ -118,8 +170,8 @@ fn read_events(alloc: Global, bytes: &[u8], count: u16) -> Result<(EventList, us
     Ok((EventList::from_vec(events), at))
 }
 
-/// Reads the entry at the front of the bytes, and says how many bytes it has. It is `Bad` exactly where no front
-/// of them is an entry's bytes, and `Memory` only where no memory was left.
+/// Reads the entry at the front of the bytes, and says how many bytes it has. `Bad` comes exactly where no front of
+/// the bytes is an entry's bytes, unless memory runs out first, which is `Memory`.
 pub fn read_entry(alloc: Global, bytes: &[u8]) -> Result<(EventList, usize), CodecFault>
     ensures within { IfOk result (λ v. v.1 ≤ length bytes.now) }
     ensures ok { IfOk result (λ v. IsEntry v.0 (take v.1 bytes.now)) }

@@ -3,14 +3,16 @@ ghost use Rattle.std.specs.Prelude.{◌≡◌, ◌∷◌, [], IfOk, true, length
 ghost use Rattle.std.specs.List.{list_all};
 ghost use Rattle.yw_codec.specs.Entries.{is_writable};
 
-use crate::{CodecFault, EventList, read_entry, write_entry};
+use crate::{CodecFault, read_entry, write_entry};
 use std::alloc::{AllocError, Global};
 use std::test::Fail;
-use yw_base::{Name, NameFault, NameList};
-use yw_model::Event;
+use yw_base::{Name, NameFault, NameList, Text};
+use yw_model::{Event, EventList};
 
 // Ann has the role clerk.
 const PERSON: &[u8] = b"\x00\x01\x01\x03ann\x01\x05clerk";
+// The specification s of this text is loaded.
+const LOAD: &[u8] = b"\x00\x01\x02\x01s\x00\x00\x00\x0aname = \"s\"";
 
 fn name(alloc: Global, text: &str) -> Result<Name, AllocError> {
     match Name::read(alloc, text) {
@@ -34,6 +36,32 @@ fn person(alloc: Global) -> Result<EventList, AllocError>
     Ok(events)
 }
 
+fn load(alloc: Global) -> Result<EventList, AllocError>
+    ensures one { IfOk result (λ events. length events ≡ 1) }
+    ensures writable { IfOk result (λ events. list_all is_writable events ≡ true) }
+{
+    let mut events = EventList::new(alloc);
+    events.push(Event::Load {
+        name: name(alloc, "s")?,
+        text: Text::copy_of(alloc, "name = \"s\"")?,
+    })?;
+    Ok(events)
+}
+
+fn is_ann_the_clerk(event: &Event) -> bool {
+    match event {
+        Event::Person { name, roles } => name.as_str() == "ann" && roles.len() == 1,
+        Event::Load { .. } => false,
+    }
+}
+
+fn is_load_of_s(event: &Event) -> bool {
+    match event {
+        Event::Person { .. } => false,
+        Event::Load { name, text } => name.as_str() == "s" && text.as_str() == "name = \"s\"",
+    }
+}
+
 #[test]
 fn writes_the_format(rt: HostRuntime) -> Result<(), Fail> {
     let alloc = rt.alloc();
@@ -41,6 +69,11 @@ fn writes_the_format(rt: HostRuntime) -> Result<(), Fail> {
     assert_eq!(rt;
         bytes.as_slice(),
         b"\x00\x00\x00\x0e\x00\x01\x01\x03ann\x01\x05clerk\x00".as_slice()
+    );
+    let bytes = write_entry(alloc, &load(alloc)?)?;
+    assert_eq!(rt;
+        bytes.as_slice(),
+        b"\x00\x00\x00\x13\x00\x01\x02\x01s\x00\x00\x00\x0aname = \"s\"\x00".as_slice()
     );
     Ok(())
 }
@@ -51,13 +84,39 @@ fn reads_the_entry_at_the_front(rt: HostRuntime) -> Result<(), Fail> {
     let (events, size) = read_entry(alloc, b"\x00\x01\x01\x03ann\x01\x05clerk\x00\x07")?;
     assert_eq!(rt; size, 14);
     assert_eq!(rt; events.len(), 1);
-    let again = write_entry(alloc, &person(alloc)?)?;
-    assert_eq!(rt; again.len(), 19);
     for event in events.as_slice() {
-        let Event::Person { name, roles } = event;
-        assert_eq!(rt; name.as_str(), "ann");
-        assert_eq!(rt; roles.len(), 1);
+        assert!(rt; is_ann_the_clerk(event));
     }
+    let (events, size) = read_entry(alloc, LOAD)?;
+    assert_eq!(rt; size, 19);
+    assert_eq!(rt; events.len(), 1);
+    for event in events.as_slice() {
+        assert!(rt; is_load_of_s(event));
+    }
+    Ok(())
+}
+
+#[test]
+fn reads_one_behind_another(rt: HostRuntime) -> Result<(), Fail> {
+    let alloc = rt.alloc();
+    // Two entries.
+    let bytes =
+        b"\x00\x01\x02\x01s\x00\x00\x00\x0aname = \"s\"\x00\x01\x01\x03ann\x01\x05clerk".as_slice();
+    let (first, size) = read_entry(alloc, bytes)?;
+    assert_eq!(rt; size, 19);
+    for event in first.as_slice() {
+        assert!(rt; is_load_of_s(event));
+    }
+    let (second, size) = read_entry(alloc, &bytes[size..])?;
+    assert_eq!(rt; size, 14);
+    for event in second.as_slice() {
+        assert!(rt; is_ann_the_clerk(event));
+    }
+    // Two events of one entry, the first with the empty text.
+    let bytes = b"\x00\x02\x02\x01s\x00\x00\x00\x00\x01\x03ann\x01\x05clerk".as_slice();
+    let (events, size) = read_entry(alloc, bytes)?;
+    assert_eq!(rt; size, 21);
+    assert_eq!(rt; events.len(), 2);
     Ok(())
 }
 
@@ -98,6 +157,55 @@ fn refuses_what_is_no_entry(rt: HostRuntime) -> Result<(), Fail> {
     assert_eq!(rt; fault(alloc, b"\x00\x01\x01\x01a"), Some(CodecFault::Bad));
     assert_eq!(rt;
         fault(alloc, b"\x00\x01\x01\x01a\x02\x01b"),
+        Some(CodecFault::Bad)
+    );
+    Ok(())
+}
+
+#[test]
+fn refuses_what_is_no_loaded_text(rt: HostRuntime) -> Result<(), Fail> {
+    let alloc = rt.alloc();
+    assert_eq!(rt; fault(alloc, LOAD), None);
+    // Cut by one byte, and behind the length.
+    assert_eq!(rt;
+        fault(alloc, b"\x00\x01\x02\x01s\x00\x00\x00\x0aname = \"s"),
+        Some(CodecFault::Bad)
+    );
+    assert_eq!(rt;
+        fault(alloc, b"\x00\x01\x02\x01s\x00\x00\x00\x01"),
+        Some(CodecFault::Bad)
+    );
+    // A length of three bytes.
+    assert_eq!(rt;
+        fault(alloc, b"\x00\x01\x02\x01s\x00\x00\x00"),
+        Some(CodecFault::Bad)
+    );
+    // A length that stands the other way round.
+    assert_eq!(rt;
+        fault(alloc, b"\x00\x01\x02\x01s\x01\x00\x00\x00t"),
+        Some(CodecFault::Bad)
+    );
+    // A text that isn't UTF-8, and one that ends within a character.
+    assert_eq!(rt;
+        fault(alloc, b"\x00\x01\x02\x01s\x00\x00\x00\x01\xff"),
+        Some(CodecFault::Bad)
+    );
+    assert_eq!(rt;
+        fault(alloc, b"\x00\x01\x02\x01s\x00\x00\x00\x01\xc3\xa9"),
+        Some(CodecFault::Bad)
+    );
+    assert_eq!(rt;
+        fault(alloc, b"\x00\x01\x02\x01s\x00\x00\x00\x02\xc3\xa9"),
+        None
+    );
+    // A name that isn't spelled as names are.
+    assert_eq!(rt;
+        fault(alloc, b"\x00\x01\x02\x011\x00\x00\x00\x00"),
+        Some(CodecFault::Bad)
+    );
+    // A further tag.
+    assert_eq!(rt;
+        fault(alloc, b"\x00\x01\x03\x01s\x00\x00\x00\x00"),
         Some(CodecFault::Bad)
     );
     Ok(())

@@ -3,14 +3,13 @@ ghost use Rattle.std.specs.Prelude.{◌≡◌, ◌++◌, ◌∷◌, ◌≤◌, [
 ghost use Rattle.std.specs.List.{flat_map, list_all};
 ghost use Rattle.byteorder.specs.Endian.{big_bytes};
 ghost use Rattle.yw_base.specs.Spelling.{is_name};
-ghost use Rattle.yw_codec.specs.Entries.{name_bytes, event_bytes, is_event, is_writable, IsEntry, entry_bytes, framed};
+ghost use Rattle.yw_codec.specs.Entries.{name_bytes, text_bytes, is_text, event_bytes, is_event, is_writable, IsEntry, entry_bytes, framed};
 ghost use Rattle.yw_journal.specs.Records.{IsFramed};
 
-use crate::EventList;
 use byteorder::{BigEndian, ByteOrder};
 use std::alloc::{AllocError, Global};
 use yw_base::{Bytes, Name};
-use yw_model::Event;
+use yw_model::{Event, EventList};
 
 fn push_u16(out: &mut Vec<u8>, number: u16) -> Result<(), AllocError>
     ensures { OnOk result (out.new.items ≡ out.old.items ++ big_bytes 2 number) }
@@ -47,6 +46,18 @@ fn push_names(out: &mut Vec<u8>, names: &[Name]) -> Result<(), AllocError>
     Ok(())
 }
 
+#[tactic(auto, using(crate::proofs::Texts::text_is))]
+fn push_text(out: &mut Vec<u8>, text: &str) -> Result<(), AllocError>
+    ensures bytes { OnOk result (out.new.items ≡ out.old.items ++ text_bytes text.now) }
+    ensures text { OnOk result (is_text text.now ≡ true) }
+{
+    let Ok(size) = u32::try_from(text.len()) else {
+        return Err(AllocError);
+    };
+    push_u32(out, size)?;
+    out.extend_from_slice(text.as_bytes())
+}
+
 fn push_event(out: &mut Vec<u8>, event: &Event) -> Result<(), AllocError>
     requires { is_writable event.now ≡ true }
     ensures bytes { OnOk result (out.new.items ≡ out.old.items ++ event_bytes event.now) }
@@ -58,6 +69,11 @@ fn push_event(out: &mut Vec<u8>, event: &Event) -> Result<(), AllocError>
             push_name(out, name)?;
             out.push(roles.len() as u8)?;
             push_names(out, roles.as_slice())
+        }
+        Event::Load { name, text } => {
+            out.push(2)?;
+            push_name(out, name)?;
+            push_text(out, text.as_str())
         }
     }
 }
@@ -103,7 +119,7 @@ fn frame(alloc: Global, bytes: &[u8]) -> Result<Vec<u8>, AllocError>
 }
 
 /// The bytes of an entry as they are appended: the entry's length as a u32, the entry, and a closed gate. An
-/// `Err` says that no memory was left, or that the length doesn't fit a u32.
+/// `Err` says that no memory was left, or that the length of the entry or of a text in it doesn't fit a u32.
 pub fn write_entry(alloc: Global, events: &EventList) -> Result<Bytes, AllocError>
     requires some { 1 ≤ length events.now }
     requires few { length events.now ≤ 4097 }

@@ -121,20 +121,30 @@ number_of c = c.count + length c.records
 
 -- The meaning of a snapshot's and of an entry's bytes: the state of a snapshot, where it is one, and the state
 -- after an entry, where its bytes are one and each event of it is allowed in its turn.
-pub record Meaning (S : Type 0) : Type 0 where
-  pub opens : List ℕ → Option S
-  pub after : S → List ℕ → Option S
+pub record Meaning (S : Type 0) : Type 1 where
+  pub Opens : List ℕ → S → Type 0
+  pub After : S → List ℕ → S → Type 0
 
--- the state after these entries, where each has its meaning in its turn
-abbrev pub after_all : {S : Type 0} → Meaning S → Option S → List (List ℕ) → Option S
-after_all m None records = None
-after_all m (Some s) [] = Some s
-after_all m (Some s) (r ∷ rs) = after_all m (m.after s r) rs
+-- these entries lead from the one state to the other, each with its meaning in its turn
+abbrev pub LeadsTo : {S : Type 0} → Meaning S → S → List (List ℕ) → S → Type 0
+LeadsTo m s [] t = t ≡ s
+LeadsTo {S} m s (r ∷ rs) t = (mid : S) × m.After s r mid × LeadsTo m mid rs t
+
+-- a snapshot and entries behind it lead to this state
+abbrev pub Reaches : {S : Type 0} → Meaning S → List ℕ → List (List ℕ) → S → Type 0
+Reaches {S} m snapshot records s = (start : S) × m.Opens snapshot start × LeadsTo m start records s
 
 -- both files hold this state, after this content
 pub record HoldState {S : Type 0} (m : Meaning S) (c : Content) (s : S) (i : Image) : Type 0 where
   pub content : HasContent c i
-  pub state : after_all m (m.opens c.snapshot) c.records ≡ Some s
+  pub state : Reaches m c.snapshot c.records s
+
+-- up to the gate that follows the snapshot
+abbrev pub head_of : List ℕ → List ℕ
+head_of file = take (29 + snapshot_size_of file) file
+
+abbrev pub snapshot_of : List ℕ → List ℕ
+snapshot_of file = take (snapshot_size_of file) (drop 29 file)
 
 -- The first damage behind a sound header, with its place: the snapshot passes the end, or it isn't a
 -- state's bytes; or at one gate after another the gate is missing, or it is open and its record passes the
@@ -144,27 +154,20 @@ pub record SnapshotIsCut (file : List ℕ) : Type 0 where
 
 pub record SnapshotIsNone {S : Type 0} (m : Meaning S) (file : List ℕ) : Type 0 where
   pub ends : 29 + snapshot_size_of file ≤ length file
-  pub none : m.opens (take (snapshot_size_of file) (drop 29 file)) ≡ None
-
--- up to the gate that follows the snapshot
-abbrev pub head_of : List ℕ → List ℕ
-head_of file = take (29 + snapshot_size_of file) file
-
-abbrev pub snapshot_of : List ℕ → List ℕ
-snapshot_of file = take (snapshot_size_of file) (drop 29 file)
+  pub none : (s : S) → m.Opens (snapshot_of file) s → ⊥
 
 pub record IsCut {S : Type 0} (m : Meaning S) (file : List ℕ) (place : ℕ) : Type 0 where
   pub records : List (List ℕ)
   pub ends : 29 + snapshot_size_of file ≤ length file
   pub state : S
-  pub meant : after_all m (m.opens (snapshot_of file)) records ≡ Some state
+  pub meant : Reaches m (snapshot_of file) records state
   pub cut : IsCutAt (head_of file) records place file
 
 pub record HasNoMeaning {S : Type 0} (m : Meaning S) (file : List ℕ) (place : ℕ) : Type 0 where
   pub records : List (List ℕ)
   pub ends : 29 + snapshot_size_of file ≤ length file
   pub state : S
-  pub meant : after_all m (m.opens (snapshot_of file)) records ≡ Some state
+  pub meant : Reaches m (snapshot_of file) records state
   pub opened : List ℕ
   pub frame : List ℕ
   pub bytes : List ℕ
@@ -172,7 +175,7 @@ pub record HasNoMeaning {S : Type 0} (m : Meaning S) (file : List ℕ) (place : 
   pub split : file ≡ (head_of file ++ opened) ++ 1 ∷ frame ++ behind
   pub are_open : AreOpen opened records
   pub is_frame : IsFrame frame bytes
-  pub none : m.after state bytes ≡ None
+  pub none : (t : S) → m.After state bytes t → ⊥
   pub at : length (head_of file ++ opened) ≡ place
 
 abbrev pub DamagedBehind : {S : Type 0} → Meaning S → List ℕ → ℕ → Type 0

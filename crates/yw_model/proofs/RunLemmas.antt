@@ -1,8 +1,9 @@
--- How runs join, and that each run can go on.
+-- How runs join, and that no lines lack a run.
 use Rattle.std.proofs.Common.{◌≡◌, ℕ, ◌+◌, List, [], ◌∷◌, ◌++◌, length, refl, sym, ap, ◌∙◌, subst, append_assoc, arith}
-use Rattle.yw_model.proofs.MeaningLemmas.{answered}
+use Rattle.yw_model.proofs.Answering.{answered}
+use Rattle.yw_model.proofs.Lacking.{here, follows}
 use Rattle.yw_model.specs.State.{State}
-use Rattle.yw_model.specs.Run.{Entry, Step, Answers, Run, taken_by, said_by}
+use Rattle.yw_model.specs.Run.{Entry, Step, Answers, Run, HasRun, taken_by, said_by}
 
 -- over one line
 pub Run-one : (s : State) (n : ℕ) (line : List ℕ) (step : Step) (t : State) → Answers s n line step t → Run s n (line ∷ []) (step ∷ []) t
@@ -18,12 +19,9 @@ Run-append s n (line ∷ lines) (step ∷ steps) m more later t first next =
     (first.0, first.1, Run-append first.0 (n + 1) lines steps m more later t first.2 (subst (λ (k : ℕ). Run m k more later t) (omega arith) next))
 
 -- over any lines
-pub Run-exists : (s : State) (n : ℕ) (lines : List (List ℕ)) → (steps : List Step) × (t : State) × Run s n lines steps t
-Run-exists s n [] = ([], s, refl)
-Run-exists s n (line ∷ lines) =
-    let a = answered s n line in
-    let r = Run-exists a.1 (n + 1) lines in
-    (a.0 ∷ r.0, r.1, (a.1, a.2, r.2))
+pub has_run : (s : State) (n : ℕ) (lines : List (List ℕ)) → HasRun s n lines
+has_run s n [] = here ([], s, refl)
+has_run s n (line ∷ lines) = follows (answered s n line) (λ a. follows (has_run a.1 (n + 1) lines) (λ r. here (a.0 ∷ r.0, r.1, (a.1, a.2, r.2))))
 
 pub taken_by-append : (steps more : List Step) → taken_by (steps ++ more) ≡ taken_by steps ++ taken_by more
 taken_by-append [] more = refl

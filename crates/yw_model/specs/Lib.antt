@@ -1,6 +1,12 @@
 pub mod Lines
+pub mod Words
+pub mod Identities
+pub mod Values
+pub mod Primitives
+pub mod Fields
+pub mod Shapes
 pub mod Meaning
 pub mod Replies
+pub mod Accepted
 pub mod State
 pub mod Run
-pub mod Net

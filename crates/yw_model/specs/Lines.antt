@@ -4,6 +4,10 @@ use Rattle.std.specs.Prelude.{ℕ, ◌==◌, ◌≢◌, List, [], ◌∷◌, ◌
 abbrev pub newline : ℕ
 newline = 10
 
+-- the most bytes of a line, without its newline
+abbrev pub line_limit : ℕ
+line_limit = 1048576
+
 -- bytes of one line
 abbrev pub HasNoNewline : List ℕ → Type 0
 HasNoNewline bs = All (λ b. b ≢ newline) bs

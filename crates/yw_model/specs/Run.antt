@@ -1,14 +1,21 @@
 -- What a list of lines may be answered: a run goes line by line.
-use Rattle.std.specs.Prelude.{ℕ, ◌+◌, ◌≡◌, List, [], ◌∷◌, ◌++◌, Bool, Option, Some, None}
-use Rattle.yw_model.specs.State.{State, after_all, broken, IsLegal}
+use Rattle.std.specs.Prelude.{ℕ, ◌+◌, ◌≡◌, List, [], ◌∷◌, ◌++◌, Bool, Option, Some, None, Result, Ok, Err}
+use Rattle.yw_model.specs.State.{State, after_all, Breaks, IsLegal}
 use Rattle.yw_model.specs.Meaning.{meaning}
-use Rattle.yw_model.specs.Replies.{done, refused}
+use Rattle.yw_model.specs.Replies.{done, refused, placeless}
 use Rattle.yw_model.specs.declared.rule.Rule.{Rule}
+use Rattle.yw_model.specs.declared.rule.Rule.TheVariants.{NotBuilt}
 use Rattle.yw_model.specs.declared.rule.Refusal.{Refusal}
-use Rattle.yw_model.specs.declared.speech.Command.{Command}
-use Rattle.yw_model.specs.declared.speech.Event.{Event}
-use Rattle.yw_model.specs.declared.speech.Meaning.{Meaning}
-use Rattle.yw_model.specs.declared.speech.Meaning.TheVariants.{Bad, Asks}
+use Rattle.yw_model.specs.declared.command.Asked.{Asked}
+use Rattle.yw_model.specs.declared.command.Asked.TheVariants as asked
+use Rattle.yw_model.specs.declared.command.Command.{Command}
+use Rattle.yw_model.specs.declared.event.Event.{Event}
+use Rattle.yw_model.specs.declared.word.Word.{Word}
+use Rattle.yw_model.specs.declared.word.Word.TheVariants as words
+
+-- the words whose commands are built
+abbrev pub built_words : List Word
+built_words = words.Person ∷ words.Load ∷ []
 
 -- the events of one accepted command
 abbrev pub Entry : Type 0
@@ -18,10 +25,6 @@ Entry = List Event
 pub record Step : Type 0 where
   pub taken : List Entry
   pub reply : List ℕ
-
--- a rule without a place
-abbrev pub placeless : Rule → Refusal
-placeless rule = record { rule = rule; at = [] }
 
 -- a refusal is said, and changes nothing
 pub record Refuses (refusal : Refusal) (s : State) (n : ℕ) (step : Step) (t : State) : Type 0 where
@@ -38,17 +41,23 @@ pub record Accepts (c : Command) (s : State) (n : ℕ) (step : Step) (t : State)
   pub told : step.reply ≡ done n entry quiet
   pub then : t ≡ after_all s entry
 
-abbrev pub CommandAnswers : Option Refusal → Command → State → ℕ → Step → State → Type 0
-CommandAnswers (Some refusal) c = Refuses refusal
-CommandAnswers None c = Accepts c
+-- by the first rule that is broken, if one is
+abbrev pub FoundAnswers : Option Refusal → Command → State → ℕ → Step → State → Type 0
+FoundAnswers (Some refusal) c = Refuses refusal
+FoundAnswers None c = Accepts c
 
-abbrev pub MeaningAnswers : Meaning → State → ℕ → Step → State → Type 0
-MeaningAnswers (Bad rule) s = Refuses (placeless rule) s
-MeaningAnswers (Asks c) s = CommandAnswers (broken s c) c s
+abbrev pub CommandAnswers : Command → State → ℕ → Step → State → Type 0
+CommandAnswers c s n step t = (found : Option Refusal) × Breaks s c found × FoundAnswers found c s n step t
+
+abbrev pub MeaningAnswers : Result Asked Rule → State → ℕ → Step → State → Type 0
+MeaningAnswers (Err rule) = Refuses (placeless rule)
+MeaningAnswers (Ok (asked.Command c)) = CommandAnswers c
+-- no query is built
+MeaningAnswers (Ok (asked.Query q)) = Refuses (placeless NotBuilt)
 
 -- In state s this step may come of the line with number n, and the state is then t.
 abbrev pub Answers : State → ℕ → List ℕ → Step → State → Type 0
-Answers s n line = MeaningAnswers (meaning line) s n
+Answers s n line = MeaningAnswers (meaning built_words line) s n
 
 -- From state s these steps may come of the lines, numbered from n, and the state is then t.
 abbrev pub Run : State → ℕ → List (List ℕ) → List Step → State → Type 0
@@ -56,6 +65,14 @@ Run s n [] [] t = t ≡ s
 Run s n [] (step ∷ steps) t = ⊥
 Run s n (line ∷ lines) [] t = ⊥
 Run s n (line ∷ lines) (step ∷ steps) t = (mid : State) × Answers s n line step mid × Run mid (n + 1) lines steps t
+
+-- It can't be that there is none. So an existence is said where the logic, which has no excluded middle, names no witness.
+abbrev pub CannotLack : Type 0 → Type 0
+CannotLack A = (A → ⊥) → ⊥
+
+-- the lines have a run from this state on
+abbrev pub HasRun : State → ℕ → List (List ℕ) → Type 0
+HasRun s n lines = CannotLack ((steps : List Step) × (t : State) × Run s n lines steps t)
 
 -- the entries that steps take, in order
 abbrev pub taken_by : List Step → List Entry

@@ -1,15 +1,15 @@
-//! What the server speaks of: specifications, commands, events and rules. The definitions of what a list of lines may be
-//! answered stand in `specs/`.
+//! What the server speaks of: commands, queries, events and rules. The definitions of what a list of lines may be answered
+//! stand in `specs/`.
 #![tactic(auto)]
 
+mod command;
+mod event;
 mod rule;
-mod spec;
-mod speech;
-mod task;
+mod tree;
+mod word;
 
+pub use command::{Asked, Command, Given, GivenList, Query};
+pub use event::{Event, EventList};
 pub use rule::{Refusal, Rule};
-pub use spec::{Net, NetList, Place, PlaceList, Spec, TaskList, Usage, Var, VarList};
-pub use speech::{Command, Event, Meaning};
-pub use task::{
-    Assign, Branch, BranchList, Gate, IndexList, Kind, Many, Param, ParamList, SetList, Task,
-};
+pub use tree::{Conclusion, Primitive, PrimitiveList, TreeKind};
+pub use word::Word;

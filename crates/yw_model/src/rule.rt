@@ -5,11 +5,21 @@ use yw_base::Text;
 /// order are our own.
 #[derive(Clone, Copy, Debug, PartialEq, Eq)]
 pub enum Rule {
+    /// The line has more than 1,048,576 bytes.
+    LineTooLong = 1,
     /// The line isn't UTF-8, or isn't JSON as `serde_json` reads it.
     NotJson = 2,
-    /// The line is JSON, and no command.
+    /// The line is JSON, and neither a command nor a query.
     NotCommand = 3,
-    /// The line is longer than a line may be, or its command isn't built yet. It goes when all is built.
+    /// The specification is no TOML document.
+    SpecText = 4,
+    /// The document hasn't the shape of a specification. The place is the path of its first fault.
+    SpecShape = 5,
+    /// The specification breaks a check. The place is the first that fails, with what it names.
+    SpecCheck = 6,
+    /// A specification of this name is loaded.
+    SpecExists = 7,
+    /// The word isn't built yet, or a specification uses what isn't. It goes when all is built.
     NotBuilt = 99,
 }
 
@@ -31,8 +41,13 @@ impl Rule {
         ensures { result.now ≡ rule_text self }
     {
         match self {
+            Rule::LineTooLong => "LineTooLong",
             Rule::NotJson => "NotJson",
             Rule::NotCommand => "NotCommand",
+            Rule::SpecText => "SpecText",
+            Rule::SpecShape => "SpecShape",
+            Rule::SpecCheck => "SpecCheck",
+            Rule::SpecExists => "SpecExists",
             Rule::NotBuilt => "NotBuilt",
         }
     }

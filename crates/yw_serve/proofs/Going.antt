@@ -10,13 +10,13 @@ use Rattle.yw_journal.specs.declared.journal.Journal.{Journal}
 use Rattle.yw_journal.proofs.Passing.{weakened}
 use Rattle.yw_model.specs.Lines.{newline, HasNoNewline, whole_lines, last_part, last_line, all_lines}
 use Rattle.yw_model.specs.State.{State}
-use Rattle.yw_model.specs.Run.{Step, Answers, Run}
+use Rattle.yw_model.specs.Run.{Step, Answers, Run, HasRun}
 use Rattle.yw_model.proofs.LinesLemmas.{whole_lines-append, whole_lines-newline, last_part-newline, whole_lines-part, last_part-part}
-use Rattle.yw_model.proofs.MeaningLemmas.{Answers-take}
-use Rattle.yw_model.proofs.RunLemmas.{Run-one, Run-append, Run-exists}
+use Rattle.yw_model.proofs.Answering.{Answers-take}
+use Rattle.yw_model.proofs.RunLemmas.{Run-one, Run-append, has_run}
 use Rattle.yw_serve.specs.declared.session.Session.{Session}
 use Rattle.yw_serve.specs.declared.session.Stop.{Stop}
-use Rattle.yw_serve.specs.declared.session.Stop.TheVariants.{Disk, Write, Memory, Full}
+use Rattle.yw_serve.specs.declared.session.Stop.TheVariants.{Memory}
 use Rattle.yw_serve.specs.Kept.{most_kept, kept_of}
 use Rattle.yw_serve.specs.Session.{state_of, with_steps, OfSteps, AreDone, AnswersOn, Why, StopsWithin, IsAtByte, GoesOn, EndsLine, CutsLine}
 use Rattle.yw_serve.proofs.KeptLemmas.{kept_is, kept_over}
@@ -49,13 +49,6 @@ no_last_line k ws (b ∷ bs) some e = absurd (omega (arith, ap length e, length-
 one_last_line : (k : ℕ) (ws : List (List ℕ)) (p front : List ℕ) → front ≡ take k p → 0 < length front → ws ++ last_line p ≡ ws ++ p ∷ []
 one_last_line k ws [] front e some = absurd (omega (arith, ap length e, length-take {A = ℕ} k []))
 one_last_line k ws (b ∷ bs) front e some = refl
-
--- with what may come of further lines, the cause is the same
-why_longer : {D : Type 0} (stop : Stop) (journal : Journal) (work more : List Step) (old new : D) → Why stop journal work old new → Why stop journal (work ++ more) old new
-why_longer Memory journal work more old new w = w
-why_longer Disk journal work more old new w = w
-why_longer Write journal work more old new w = w
-why_longer (Full n) journal work more old new w = (w.0, w.1, w.2, w.3 ++ more, ap (λ (s : List Step). s ++ more) w.4, w.5, w.6, w.7)
 
 module _ {D : Type 0} (moment : D → ℕ) (left_since : D → ℕ → Image → Type 0) (state : D → Image) (may_leave : D → Image → Type 0) where
   -- nothing is pending at a desk, and the journal's file has this content
@@ -110,9 +103,10 @@ module _ {D : Type 0} (moment : D → ℕ) (left_since : D → ℕ → Image →
         let place : b.number + length s.lines ≡ a.number + length (first.answers.lines ++ s.lines) = omega (arith, first.number, length-append first.answers.lines s.lines) in
         record {
           lines = first.answers.lines ++ s.lines;
-          more = s.more;
-          split = s.split ∙ ap (λ (ls : List (List ℕ)). ls ++ (s.lines ++ s.more)) first.answers.split ∙ append_assoc (whole_lines taken) first.answers.lines (s.lines ++ s.more)
-              ∙ ap (λ (ls : List (List ℕ)). whole_lines taken ++ ls) (sym (append_assoc first.answers.lines s.lines s.more));
+          next = s.next;
+          later = s.later;
+          split = s.split ∙ ap (λ (ls : List (List ℕ)). ls ++ (s.lines ++ (s.next ++ s.later))) first.answers.split ∙ append_assoc (whole_lines taken) first.answers.lines (s.lines ++ (s.next ++ s.later))
+              ∙ ap (λ (ls : List (List ℕ)). whole_lines taken ++ ls) (sym (append_assoc first.answers.lines s.lines (s.next ++ s.later)));
           steps = steps ++ s.steps;
           reached = s.reached;
           run = Run-append (state_of a) a.number first.answers.lines steps (state_of b) s.lines s.steps s.reached first.answers.run
@@ -122,7 +116,8 @@ module _ {D : Type 0} (moment : D → ℕ) (left_since : D → ℕ → Image →
           are_done = done_both moment left_since state may_leave c steps s.steps b.journal s.journal old mid s.mid s.file first.answers.are_done s.are_done;
           work = s.work;
           after = s.after;
-          run_on = subst (λ (n : ℕ). Run s.reached n s.more s.work s.after) place s.run_on;
+          run_on = subst (λ (n : ℕ). Run s.reached n s.next s.work s.after) place s.run_on;
+          goes_on = has_run s.after (a.number + length (first.answers.lines ++ s.lines) + length s.next) s.later;
           moments = subst (λ (x : Content). LeavesOnly moment left_since s.mid new (OfSteps s.journal.file x s.work (state s.mid))) (with_steps-append c steps s.steps) s.moments;
           why = s.why;
           limit = s.limit ∙ limit;
@@ -134,51 +129,58 @@ module _ {D : Type 0} (moment : D → ℕ) (left_since : D → ℕ → Image →
       → StopsWithin moment left_since state may_leave c stop a done (whole_lines taken) old new → StopsWithin moment left_since state may_leave c stop a done (whole_lines all) old new
   stops_short c stop a done taken bytes all old new e s =
       let extra = whole_lines (last_part taken ++ bytes) in
-      let r = Run-exists s.after (a.number + length s.lines + length s.more) extra in
       record {
         lines = s.lines;
-        more = s.more ++ extra;
-        split = ap whole_lines e ∙ whole_lines-append taken bytes ∙ ap (λ (ls : List (List ℕ)). ls ++ extra) s.split ∙ append_assoc done (s.lines ++ s.more) extra
-            ∙ ap (λ (ls : List (List ℕ)). done ++ ls) (append_assoc s.lines s.more extra);
+        next = s.next;
+        later = s.later ++ extra;
+        split = ap whole_lines e ∙ whole_lines-append taken bytes ∙ ap (λ (ls : List (List ℕ)). ls ++ extra) s.split ∙ append_assoc done (s.lines ++ (s.next ++ s.later)) extra
+            ∙ ap (λ (ls : List (List ℕ)). done ++ ls) (append_assoc s.lines (s.next ++ s.later) extra ∙ ap (λ (ls : List (List ℕ)). s.lines ++ ls) (append_assoc s.next s.later extra));
         steps = s.steps;
         reached = s.reached;
         run = s.run;
         mid = s.mid;
         journal = s.journal;
         are_done = s.are_done;
-        work = s.work ++ r.0;
-        after = r.1;
-        run_on = Run-append s.reached (a.number + length s.lines) s.more s.work s.after extra r.0 r.1 s.run_on r.2;
-        moments = weakened moment left_since s.mid new (OfSteps s.journal.file (with_steps c s.steps) s.work (state s.mid)) (OfSteps s.journal.file (with_steps c s.steps) (s.work ++ r.0) (state s.mid)) s.moments
-            (λ i o. of_steps_longer s.journal.file (with_steps c s.steps) s.work r.0 (state s.mid) i o);
-        why = why_longer stop s.journal s.work r.0 s.mid new s.why;
+        work = s.work;
+        after = s.after;
+        run_on = s.run_on;
+        goes_on = has_run s.after (a.number + length s.lines + length s.next) (s.later ++ extra);
+        moments = s.moments;
+        why = s.why;
         limit = s.limit;
         file = s.file;
       }
 
   -- no memory is left before anything was done for these lines
   pub stops_before : (c : Content) (a : Session) (done all more : List (List ℕ)) (d : D) → IsReadyAt c a.journal d → all ≡ done ++ more → StopsWithin moment left_since state may_leave c Memory a done all d d
-  stops_before c a done all more d r e =
-      let next = Run-exists (state_of a) (a.number + 0) more in
-      record {
-        lines = [];
-        more = more;
-        split = e;
-        steps = [];
-        reached = state_of a;
-        run = refl;
-        mid = d;
-        journal = a.journal;
-        are_done = none_done c a.journal d r;
-        work = next.0;
-        after = next.1;
-        run_on = next.2;
-        moments = leaves_nothing moment left_since state may_leave d (OfSteps a.journal.file (with_steps c []) next.0 (state d)) r.settled r.said r.only
-            (subst (λ (x : Content). OfSteps a.journal.file x next.0 (state d) (state d)) (sym (with_steps-none c)) (of_no_steps a.journal.file c next.0 (state d) (a.journal.end, r.current.holds)));
-        why = refl;
-        limit = refl;
-        file = refl;
-      }
+  stops_before c a done all more d r e = record {
+    lines = [];
+    next = [];
+    later = more;
+    split = e;
+    steps = [];
+    reached = state_of a;
+    run = refl;
+    mid = d;
+    journal = a.journal;
+    are_done = none_done c a.journal d r;
+    work = [];
+    after = state_of a;
+    run_on = refl;
+    goes_on = has_run (state_of a) (a.number + 0 + 0) more;
+    moments = leaves_nothing moment left_since state may_leave d (OfSteps a.journal.file (with_steps c []) [] (state d)) r.settled r.said r.only
+        (subst (λ (x : Content). OfSteps a.journal.file x [] (state d) (state d)) (sym (with_steps-none c)) (of_no_steps a.journal.file c [] (state d) (a.journal.end, r.current.holds)));
+    why = refl;
+    limit = refl;
+    file = refl;
+  }
+
+  -- the same, of a stop that says so
+  pub stops_nowhere : (c : Content) (stop : Stop) (a : Session) (done all more : List (List ℕ)) (old new : D) → IsReadyAt c a.journal old → all ≡ done ++ more → stop ≡ Memory → new ≡ old
+      → StopsWithin moment left_since state may_leave c stop a done all old new
+  stops_nowhere c stop a done all more old new r e is same =
+      subst (λ (x : Stop). StopsWithin moment left_since state may_leave c x a done all old new) (sym is)
+      (subst (λ (x : D). StopsWithin moment left_since state may_leave c Memory a done all old x) (sym same) (stops_before c a done all more old r e))
 
   pub stops_at_line : (c : Content) (a : Session) (taken part : List ℕ) (d : D) → IsReadyAt c a.journal d → HasNoNewline part
       → StopsWithin moment left_since state may_leave c Memory a (whole_lines taken) (whole_lines (taken ++ (part ++ newline ∷ []))) d d
@@ -191,7 +193,8 @@ module _ {D : Type 0} (moment : D → ℕ) (left_since : D → ℕ → Image →
       → StopsWithin moment left_since state may_leave c stop a done all old new
   stops_in c stop a done all line old new r e step after answers moments why = record {
     lines = [];
-    more = line ∷ [];
+    next = line ∷ [];
+    later = [];
     split = e;
     steps = [];
     reached = state_of a;
@@ -202,13 +205,14 @@ module _ {D : Type 0} (moment : D → ℕ) (left_since : D → ℕ → Image →
     work = step ∷ [];
     after = after;
     run_on = subst (λ (n : ℕ). Run (state_of a) n (line ∷ []) (step ∷ []) after) (omega arith) (Run-one (state_of a) a.number line step after answers);
+    goes_on = has_run after (a.number + 0 + 1) [];
     moments = subst (λ (x : Content). LeavesOnly moment left_since old new (OfSteps a.journal.file x (step ∷ []) (state old))) (sym (with_steps-none c)) moments;
     why = why;
     limit = refl;
     file = refl;
   }
 
-  module _ (c : Content) (before mid : Session) (taken part : List ℕ) (at : IsAtByte before taken) (none : HasNoNewline part) (front : mid.front.items ≡ kept_of (before.front.items ++ part))
+  module _ (c : Content) (before mid : Session) (taken part : List ℕ) (at : IsAtByte before taken) (none_in : HasNoNewline part) (front : mid.front.items ≡ kept_of (before.front.items ++ part))
       (same : state_of mid ≡ state_of before) (number : mid.number ≡ before.number) (journal : mid.journal ≡ before.journal) (old new : D) where
     kept_so_far : mid.front.items ≡ kept_of (last_part taken ++ part)
     kept_so_far = front ∙ ap (λ (bs : List ℕ). kept_of (bs ++ part)) at ∙ take_cut most_kept (last_part taken) part
@@ -217,12 +221,12 @@ module _ {D : Type 0} (moment : D → ℕ) (left_since : D → ℕ → Image →
     goes_by_part r = record {
       answers = record {
         lines = [];
-        split = whole_lines-part taken part none ∙ sym (append-nil (whole_lines taken));
+        split = whole_lines-part taken part none_in ∙ sym (append-nil (whole_lines taken));
         steps = [];
         run = same;
         are_done = none_done c mid.journal old r;
       };
-      at = kept_so_far ∙ ap kept_of (sym (last_part-part taken part none));
+      at = kept_so_far ∙ ap kept_of (sym (last_part-part taken part none_in));
       number = number ∙ omega arith;
     }
 
@@ -236,7 +240,7 @@ module _ {D : Type 0} (moment : D → ℕ) (left_since : D → ℕ → Image →
     goes_by_line now e = record {
       answers = record {
         lines = (last_part taken ++ part) ∷ [];
-        split = line_ends taken part none;
+        split = line_ends taken part none_in;
         steps = e.step ∷ [];
         run = Run-one (state_of before) before.number (last_part taken ++ part) e.step (state_of now) (line_answered e.step (state_of now) e.answers);
         are_done = e.are_done;
@@ -247,7 +251,8 @@ module _ {D : Type 0} (moment : D → ℕ) (left_since : D → ℕ → Image →
 
     pub stops_in_line : (stop : Stop) → IsReadyAt c before.journal old → CutsLine moment left_since state may_leave c stop mid old new
         → StopsWithin moment left_since state may_leave c stop before (whole_lines taken) (whole_lines (taken ++ (part ++ newline ∷ []))) old new
-    stops_in_line stop r e = stops_in c stop before (whole_lines taken) _ (last_part taken ++ part) old new r (line_ends taken part none) e.step e.after (line_answered e.step e.after e.answers)
+    stops_in_line stop r (inl none) = stops_nowhere c stop before (whole_lines taken) _ ((last_part taken ++ part) ∷ []) old new r (line_ends taken part none_in) none.0 none.1
+    stops_in_line stop r (inr e) = stops_in c stop before (whole_lines taken) _ (last_part taken ++ part) old new r (line_ends taken part none_in) e.step e.after (line_answered e.step e.after e.answers)
         (subst (λ (j : Journal). LeavesOnly moment left_since old new (OfSteps j.file c (e.step ∷ []) (state old))) journal e.moments)
         (subst (λ (j : Journal). Why stop j (e.step ∷ []) old new) journal e.why)
 
@@ -280,4 +285,5 @@ module _ {D : Type 0} (moment : D → ℕ) (left_since : D → ℕ → Image →
       }
 
       pub stops_in_last : (stop : Stop) → CutsLine moment left_since state may_leave c stop before old new → StopsWithin moment left_since state may_leave c stop before (whole_lines taken) (all_lines taken) old new
-      stops_in_last stop e = stops_in c stop before (whole_lines taken) _ (last_part taken) old new r last_line_split e.step e.after (last_answered e.step e.after e.answers) e.moments e.why
+      stops_in_last stop (inl none) = stops_nowhere c stop before (whole_lines taken) _ (last_part taken ∷ []) old new r last_line_split none.0 none.1
+      stops_in_last stop (inr e) = stops_in c stop before (whole_lines taken) _ (last_part taken) old new r last_line_split e.step e.after (last_answered e.step e.after e.answers) e.moments e.why

@@ -1,35 +1,18 @@
 -- The state that a run reaches is the one that the files hold.
-use Rattle.std.proofs.Common.{◌≡◌, ◌⊎◌, ◌&&◌, ℕ, ◌+◌, ◌≤◌, ◌<◌, List, [], ◌∷◌, ◌++◌, length, map, nat_lt, nat_le, Bool, true, false, cond, if◌then◌else◌, Option, None, Some, option_and_then, option_map, inl, inr, ⊎_elim, refl, sym, ap, ◌∙◌, subst, arith, append_assoc, take, drop, take-append-drop}
-use Rattle.std.specs.Prelude.{codes}
-use Rattle.std.specs.List.{list_any, list_all}
-use Rattle.std.specs.Str.{bytes_eq, is_utf8}
-use Rattle.std.proofs.lemmas.Bool.{leb-true, lt-ltb}
-use Rattle.std.proofs.lemmas.List.{append-nil, map-append}
-use Rattle.byteorder.specs.Endian.{big_bytes}
-use Rattle.serde_json.specs.Data.{Data, Items, no_items, item}
-use Rattle.serde_json.specs.Find.{get, as_str, as_array}
-use Rattle.serde_json.specs.Read.{read}
-use Rattle.yw_base.specs.Spelling.{is_name, are_distinct}
+use Rattle.std.proofs.Common.{◌≡◌, ◌⊎◌, ℕ, ◌+◌, ◌<◌, List, [], ◌∷◌, ◌++◌, length, map, Bool, true, false, Option, None, Some, inl, inr, ⊎_elim, refl, sym, ap, ◌∙◌, subst, arith, append_assoc, take, drop, take-append-drop}
+use Rattle.std.proofs.lemmas.List.{append-nil}
 use Rattle.yw_outside.specs.Image.{SaysPart, Speaks, other_in}
 use Rattle.yw_outside.specs.Moments.{After, LeavesOnly}
 use Rattle.yw_outside.specs.declared.desk.File.{File}
 use Rattle.yw_outside.specs.declared.desk.File.TheVariants.{A, B}
 use Rattle.yw_outside.specs.declared.image.Image.{Image}
-use Rattle.yw_journal.specs.Files.{Content, HasContent, Holds, IsLesser, after_all, generation_of, header_damage, is_live}
+use Rattle.yw_journal.specs.Files.{Content, HasContent, Holds, IsLesser, generation_of, header_damage, is_live}
 use Rattle.yw_journal.specs.FileLaws.{content_generation, content_live}
-use Rattle.yw_codec.specs.Entries.{IsEntry, entry_bytes, is_event}
-use Rattle.yw_model.specs.Meaning.{line_limit, text_meaning, value_meaning, word_meaning, later_meaning, later_words, person_meaning, person_from, has_members, only_if, are_roles, name_of, names_from, roles_of}
-use Rattle.yw_model.specs.Meaning as lines
+use Rattle.yw_codec.specs.Entries.{entry_bytes}
 use Rattle.yw_model.specs.Lines as input
-use Rattle.yw_model.specs.Run.{Entry, Step, MeaningAnswers, Run, taken_by, said_by}
-use Rattle.yw_model.specs.State.{State, after}
-use Rattle.yw_model.specs.State as model
-use Rattle.yw_model.specs.declared.speech.Command.TheVariants.{Person}
-use Rattle.yw_model.specs.declared.speech.Event.{Event}
-use Rattle.yw_model.specs.declared.speech.Event.TheVariants as events
-use Rattle.yw_model.specs.declared.speech.Meaning.{Meaning}
-use Rattle.yw_model.specs.declared.speech.Meaning.TheVariants.{Bad, Asks}
-use Rattle.yw_serve.specs.Damage.{HoldNow, after_bytes, after_events, meaning}
+use Rattle.yw_model.specs.Run.{Step, Run, taken_by, said_by}
+use Rattle.yw_model.specs.State.{State}
+use Rattle.yw_serve.specs.Damage.{HoldNow, meaning}
 use Rattle.yw_serve.specs.Ends.{before_piece, has_ended, AllAnswered, SomeAnswered, EndsShort}
 use Rattle.yw_serve.specs.Headline.{Serves, HoldsFront}
 use Rattle.yw_serve.specs.Notices.{full_line}
@@ -47,140 +30,8 @@ use Rattle.yw_model.proofs.RunLemmas.{Run-append}
 use Rattle.yw_serve.proofs.Doing.{leaves_behind}
 use Rattle.yw_serve.proofs.Telling.{holds_same, same_other}
 use Rattle.yw_serve.proofs.OpenLaws.{held_once, held_or_damaged}
-use Rattle.yw_serve.proofs.OpenEntries.{entry_meant}
-use Rattle.yw_serve.proofs.OpenRecords.{after_all-append}
-
--- A line asks for a person whose name and roles can be written.
-record CanBeWritten (name : List ℕ) (roles : List (List ℕ)) : Type 0 where
-  named : is_name name ≡ true
-  each : list_all is_name roles ≡ true
-  few : are_roles roles ≡ true
-
-abbrev AsksWritable : Meaning → Type 0
-AsksWritable (Bad rule) = Unit {0}
-AsksWritable (Asks (Person name roles)) = CanBeWritten name roles
-
-either : (b : Bool) (m n : Meaning) → AsksWritable m → AsksWritable n → AsksWritable (cond b m n)
-either b m n one other = elim b as (λ x. AsksWritable (cond x m n)) [ true ↦ one | false ↦ other ]
-
--- what passes a test is what was tested, and the test holds of it
-passed : {A : Type 0} (p : A → Bool) (x y : A) (b : Bool) → p x ≡ b → cond b (Some x) None ≡ Some y → (Some x ≡ Some y) × (p y ≡ true)
-passed p x y true e is = let same : x ≡ y = cc in (is, ap p (sym same) ∙ e)
-passed p x y false e is = cc
-
-filtered : {A : Type 0} (p : A → Bool) (o : Option A) (y : A) → option_and_then (only_if p) o ≡ Some y → (o ≡ Some y) × (p y ≡ true)
-filtered p None y is = cc
-filtered p (Some x) y is = passed p x y (p x) refl is
-
-named_first : (o : Option (List ℕ)) (os : Option (List (List ℕ))) (names : List (List ℕ)) → ((n : List ℕ) → o ≡ Some n → is_name n ≡ true) → ((ns : List (List ℕ)) → os ≡ Some ns → list_all is_name ns ≡ true)
-    → option_and_then (λ name. option_map (λ ns. name ∷ ns) os) o ≡ Some names → list_all is_name names ≡ true
-named_first None os names h t e = cc
-named_first (Some name) None names h t e = cc
-named_first (Some name) (Some ns) names h t e =
-    let same : names ≡ name ∷ ns = cc in
-    ap (list_all is_name) same ∙ ap (λ (b : Bool). b && list_all is_name ns) (h name refl) ∙ t ns refl
-
-all_named : (ds : Items) (names : List (List ℕ)) → names_from ds ≡ Some names → list_all is_name names ≡ true
-all_named no_items names e = let none : names ≡ [] = cc in ap (list_all is_name) none
-all_named (item d ds) names e = named_first (name_of d) (names_from ds) names (λ n is. (filtered is_name (as_str d) n is).1) (all_named ds) e
-
-listed : (o : Option Items) (names : List (List ℕ)) → option_and_then names_from o ≡ Some names → list_all is_name names ≡ true
-listed None names e = cc
-listed (Some ds) names e = all_named ds names e
-
-name_at : (o : Option Data) (name : List ℕ) → option_and_then name_of o ≡ Some name → is_name name ≡ true
-name_at None name e = cc
-name_at (Some d) name e = (filtered is_name (as_str d) name e).1
-
-roles_at : (o : Option Data) (roles : List (List ℕ)) → option_and_then roles_of o ≡ Some roles → (list_all is_name roles ≡ true) × (are_roles roles ≡ true)
-roles_at None roles e = cc
-roles_at (Some d) roles e = let f = filtered are_roles (option_and_then names_from (as_array d)) roles e in (listed (as_array d) roles f.0, f.1)
-
-person : (name : Option (List ℕ)) (roles : Option (List (List ℕ))) → ((n : List ℕ) → name ≡ Some n → is_name n ≡ true)
-    → ((ns : List (List ℕ)) → roles ≡ Some ns → (list_all is_name ns ≡ true) × (are_roles ns ≡ true)) → AsksWritable (person_from name roles)
-person (Some name) (Some roles) h k = record { named = h name refl; each = (k roles refl).0; few = (k roles refl).1 }
-person (Some name) None h k = tt
-person None roles h k = tt
-
-person_asks : (d : Data) → AsksWritable (person_meaning d)
-unfolding person_meaning
-person_asks d = either (has_members 3 d) _ _ (person _ _ (name_at (get (codes "name") d)) (roles_at (get (codes "roles") d))) tt
-
-later_asks : (word : List ℕ) → AsksWritable (later_meaning word)
-unfolding later_meaning
-later_asks word = either (list_any (bytes_eq word) later_words) _ _ tt tt
-
-word_asks : (o : Option (List ℕ)) (d : Data) → AsksWritable (word_meaning o d)
-word_asks None d = tt
-word_asks (Some word) d = either (bytes_eq word (codes "person")) _ _ (person_asks d) (later_asks word)
-
-value_asks : (o : Option Data) → AsksWritable (value_meaning o)
-value_asks None = tt
-value_asks (Some d) = word_asks (option_and_then as_str (get (codes "cmd") d)) d
-
-text_asks : (line : List ℕ) → AsksWritable (text_meaning line)
-unfolding text_meaning
-text_asks line = either (is_utf8 line) _ _ (value_asks (read line)) tt
-
-asks_writable : (line : List ℕ) → AsksWritable (lines.meaning line)
-unfolding lines.meaning
-asks_writable line = either (nat_lt line_limit (length line)) _ _ tt (text_asks line)
-
--- The entry of such a person is read as it, and leads to the state after it.
-
-true_left : (p q : Bool) → (p && q) ≡ true → p ≡ true
-true_left true q e = refl
-true_left false q e = cc
-
-both_true : (p q : Bool) → p ≡ true → q ≡ true → (p && q) ≡ true
-both_true p q e f = cc
-
-is_written : (name : List ℕ) (roles : List (List ℕ)) → CanBeWritten name roles → is_event (events.Person name roles) ≡ true
-is_written name roles w =
-    let most : length roles ≤ 64 = leb-true (length roles) 64 (true_left (nat_le (length roles) 64) (are_distinct roles) w.few) in
-    both_true (is_name name && list_all is_name roles) (nat_lt (length roles) 256) (both_true (is_name name) (list_all is_name roles) w.named w.each) (lt-ltb (length roles) 256 (omega arith))
-
-writes_entry : (e : Event) → is_event e ≡ true → IsEntry (e ∷ []) (entry_bytes (e ∷ []))
-unfolding entry_bytes
-writes_entry e is = record {
-  field = big_bytes 2 1;
-  split = refl;
-  count = record { long = refl; spells = refl };
-  some = omega arith;
-  few = omega arith;
-  each = both_true (is_event e) true is refl;
-}
-
-person_meant : (s : State) (name : List ℕ) (roles : List (List ℕ)) → CanBeWritten name roles
-    → after_bytes s (entry_bytes (events.Person name roles ∷ [])) ≡ Some (after s (events.Person name roles))
-person_meant s name roles w =
-    let e = events.Person name roles in
-    entry_meant s (e ∷ []) (entry_bytes (e ∷ [])) (writes_entry e (is_written name roles w))
-    ∙ ap (λ (b : Bool). option_and_then (λ t. after_events t []) (if b then Some (after s e) else None)) w.few
-
-abbrev state_behind : State → List Entry → Option State
-state_behind s entries = after_all meaning (Some s) (map entry_bytes entries)
-
--- what is taken for a line leads to the state after the line
-answer_meant : (m : Meaning) → AsksWritable m → (s : State) (n : ℕ) (step : Step) (mid : State) → MeaningAnswers m s n step mid → state_behind s step.taken ≡ Some mid
-answer_meant (Bad rule) w s n step mid a = ap (state_behind s) a.nothing ∙ ap Some (sym a.same)
-answer_meant (Asks (Person name roles)) w s n step mid a =
-    let e = events.Person name roles in
-    let alone : a.entry ≡ e ∷ [] = a.legal.alone ∙ ap (λ (f : Event). f ∷ []) a.legal.asked in
-    let taken : step.taken ≡ (e ∷ []) ∷ [] = a.one ∙ ap (λ (es : Entry). es ∷ []) alone in
-    let reached : mid ≡ after s e = a.then ∙ ap (λ (es : Entry). model.after_all s es) alone in
-    ap (state_behind s) taken ∙ ap (λ (o : Option State). after_all meaning o []) (person_meant s name roles w) ∙ ap Some (sym reached)
-
--- the entries of a run lead to the state that it reaches
-run_meant : (s : State) (n : ℕ) (all : List (List ℕ)) (steps : List Step) (t : State) → Run s n all steps t → state_behind s (taken_by steps) ≡ Some t
-run_meant s n [] [] t r = ap Some (sym r)
-run_meant s n [] (step ∷ steps) t r = absurd r
-run_meant s n (line ∷ all) [] t r = absurd r
-run_meant s n (line ∷ all) (step ∷ steps) t r =
-    ap (after_all meaning (Some s)) (map-append entry_bytes step.taken (taken_by steps))
-    ∙ after_all-append meaning (Some s) (map entry_bytes step.taken) (map entry_bytes (taken_by steps))
-    ∙ ap (λ (o : Option State). after_all meaning o (map entry_bytes (taken_by steps))) (answer_meant (lines.meaning line) (asks_writable line) s n step r.0 r.1)
-    ∙ run_meant r.0 (n + 1) all steps t r.2
+use Rattle.yw_serve.proofs.Meant.{run_meant}
+use Rattle.yw_serve.proofs.OpenRecords.{LeadsTo-append}
 
 -- A journal goes on in file A.
 
@@ -215,8 +66,7 @@ pub held_after : (f : File) (c : Content) (s : State) (i : Image) (n : ℕ) (all
 held_after f c s i n all steps t j h run is other = record {
   hold = record {
     content = inr (f, is.0, is.1);
-    state = after_all-append meaning (meaning.opens c.snapshot) c.records (map entry_bytes (taken_by steps))
-        ∙ ap (λ (o : Option State). after_all meaning o (map entry_bytes (taken_by steps))) h.hold.state ∙ run_meant s n all steps t run;
+    state = (h.hold.state.0, h.hold.state.1, LeadsTo-append meaning h.hold.state.0 c.records s (map entry_bytes (taken_by steps)) t h.hold.state.2 (run_meant s n all steps t run));
   };
   alone = ap is_live (subst (λ (g : File). other_in g j ≡ other_in g i) (in_file_a f c s i j steps h is other) other) ∙ h.alone;
 }
@@ -353,9 +203,12 @@ module _ {D : Type 0} (moment : D → ℕ) (left_since : D → ℕ → Image →
         → LeavesOnly moment left_since opened new Front
     some_left full_at stop sure some more new e a =
         let steps = a.steps ++ a.work in
-        let run : Run s 1 some steps a.after = subst (λ (ls : List (List ℕ)). Run s 1 ls steps a.after) (sym a.split) (Run-append s 1 (sure ++ a.extra) a.steps a.reached a.more a.work a.after a.run a.run_on) in
+        let known = (sure ++ a.extra) ++ a.next in
+        let run : Run s 1 known steps a.after = Run-append s 1 (sure ++ a.extra) a.steps a.reached a.next a.work a.after a.run a.run_on in
+        let split : input.lines bytes true ≡ known ++ (a.later ++ more) =
+        e ∙ ap (λ (ls : List (List ℕ)). ls ++ more) (a.split ∙ sym (append_assoc (sure ++ a.extra) a.next a.later)) ∙ append_assoc known a.later more in
         weakened moment left_since opened new (OfSteps a.journal.file c steps (state opened)) Front (leaves_behind moment left_since state may_leave c a.steps a.work a.journal opened a.mid new a.are_done a.moments)
-        (λ k o. front_of_more s (input.lines bytes true) some more (state opened).said k e (front_held a.journal.file c s (state opened) some steps a.after k h run o))
+        (λ k o. front_of_more s (input.lines bytes true) known (a.later ++ more) (state opened).said k split (front_held a.journal.file c s (state opened) known steps a.after k h run o))
 
     module _ (full_at limit : ℕ) (left : Option (List ℕ)) (piece : ℕ) where
       short_left : (stop : Stop) (new : D) → EndsShort moment left_since state may_leave c s full_at limit stop bytes left piece opened new → LeavesOnly moment left_since opened new Front
@@ -375,7 +228,7 @@ module _ {D : Type 0} (moment : D → ℕ) (left_since : D → ℕ → Image →
           let answered = input.whole_lines (before_piece z.taken piece) ++ a.extra in
           front_of_more s (input.lines bytes true) (input.lines z.taken (has_ended z.rest piece)) f.0 (state opened).said k f.1 (record {
             lines = answered;
-            more = a.more;
+            more = a.next ++ a.later;
             split = a.split;
             steps = a.steps;
             reached = a.reached;

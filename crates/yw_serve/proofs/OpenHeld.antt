@@ -4,7 +4,7 @@ use Rattle.yw_outside.specs.declared.desk.File.{File}
 use Rattle.yw_outside.specs.declared.desk.File.TheVariants.{A}
 use Rattle.yw_outside.specs.declared.image.Image.{Image}
 use Rattle.yw_journal.specs.Files as files
-use Rattle.yw_journal.specs.Files.{Content, HasContent, HoldState, NoneIsLive, Holds, after_all, is_live, header_damage, generation_of, count_of, snapshot_size_of}
+use Rattle.yw_journal.specs.Files.{Content, HasContent, HoldState, NoneIsLive, Holds, is_live, header_damage, generation_of, count_of, snapshot_size_of}
 use Rattle.yw_journal.specs.Journal.{IsBeforeOrMade, IsCurrent, made}
 use Rattle.yw_journal.specs.declared.journal.Journal.{Journal}
 use Rattle.yw_journal.specs.Records.{IsFramedState}
@@ -34,7 +34,7 @@ module _ (i : Image) (head : Head) (chosen : IsChosen i (Some head)) where
 
   pub held_records : (at : ℕ) (records : List (List ℕ)) (s : State) → IsReached i.a at records s → IsClosedHere (drop at i.a) → HoldNow (content_of i.a records) s i
   held_records at records s reached closed = record {
-    hold = record { content = inr (A, at + 1, holds_records at records s reached closed); state = reached.state };
+    hold = record { content = inr (A, at + 1, holds_records at records s reached closed); state = (opening, refl, reached.state) };
     alone = chosen.alone;
   }
 
@@ -62,18 +62,18 @@ module _ (i : Image) (chosen : IsChosen i None) where
   none_live = record { a = chosen.head; b = chosen.alone }
 
   pub held_nothing : HoldNow files.opening opening i
-  held_nothing = record { hold = record { content = inl (none_live, refl); state = refl }; alone = chosen.alone }
+  held_nothing = record { hold = record { content = inl (none_live, refl); state = (opening, refl, refl) }; alone = chosen.alone }
 
   still_alone : (k : Image) → k.b ≡ i.b → is_live k.b ≡ false
   still_alone k same = ap is_live same ∙ chosen.alone
 
   pub held_fresh : (k : Image) (end : ℕ) → k.b ≡ i.b → Holds A fresh end k → HoldNow fresh opening k
-  held_fresh k end same holds = record { hold = record { content = inr (A, end, holds); state = refl }; alone = still_alone k same }
+  held_fresh k end same holds = record { hold = record { content = inr (A, end, holds); state = (opening, refl, refl) }; alone = still_alone k same }
 
   pub left_by_making : (may_leave : Image → Type 0) (k : Image) → IsBeforeOrMade A files.opening fresh i k → LeftByOpening may_leave i k
   left_by_making may_leave k b = record {
     files = inr (⊎_elim
-        (λ (c : HasContent files.opening k). as_start files.opening (record { hold = record { content = c; state = refl }; alone = still_alone k b.other }))
+        (λ (c : HasContent files.opening k). as_start files.opening (record { hold = record { content = c; state = (opening, refl, refl) }; alone = still_alone k b.other }))
         (λ (h : (end : ℕ) × Holds A fresh end k). as_start fresh (held_fresh k h.0 b.other h.1))
         b.holds);
     said = b.said;

@@ -5,16 +5,17 @@ use Rattle.std.specs.Int.{w32, from_be_bytes}
 use Rattle.yw_outside.specs.declared.desk.File.{File}
 use Rattle.yw_outside.specs.declared.desk.File.TheVariants.{A, B}
 use Rattle.yw_outside.specs.declared.image.Image.{Image}
-use Rattle.yw_journal.specs.Files.{Content, Meaning, HasContent, HoldState, NoneIsLive, Holds, FileHas, IsCut, HasNoMeaning, after_all, head_of, header_damage, is_live, snapshot_of, snapshot_size_of}
+use Rattle.yw_journal.specs.Files.{Content, Meaning, HasContent, HoldState, NoneIsLive, Holds, FileHas, IsCut, HasNoMeaning, LeadsTo, Reaches, head_of, header_damage, is_live, snapshot_of, snapshot_size_of}
 use Rattle.yw_journal.specs.Files as files
 use Rattle.yw_journal.specs.FileLaws.{content_live, content_sound, head_size, size_reads}
 use Rattle.yw_journal.specs.Records.{IsFrame, AreOpen}
 use Rattle.yw_model.specs.State.{State, opening}
-use Rattle.yw_serve.specs.Damage.{HoldNow, IsDamagedNow, IsDamagedWithin, damage_or, heads_damage, later_damage, meaning, state_of_snapshot}
+use Rattle.yw_serve.specs.Damage.{EntryLeads, HoldNow, IsDamagedNow, IsDamagedWithin, damage_or, heads_damage, later_damage, meaning}
 use Rattle.yw_serve.specs.Opening.{AnswersDamage, AnswersState, IsClosedHere, IsCutHere, IsOpened, opened_state}
 use Rattle.yw_serve.specs.declared.opening.OpenFault.{OpenFault}
 use Rattle.yw_serve.specs.declared.opening.OpenFault.TheVariants.{Damaged}
 use Rattle.yw_serve.specs.declared.opening.Opened.{Opened}
+use Rattle.yw_serve.proofs.OpenEntries.{leads_once}
 use Rattle.yw_serve.proofs.OpenHeads.{heads_alone, heads_sound, live_long, not_live}
 
 -- two records at one front are one
@@ -30,10 +31,7 @@ same_frame f g r q x y a b e =
 
 -- In this state no record at the front of these bytes has a meaning.
 abbrev StopsAt : State → List ℕ → Type 0
-StopsAt s tail = (frame behind bytes : List ℕ) → tail ≡ 1 ∷ (frame ++ behind) → IsFrame frame bytes → meaning.after s bytes ≡ None
-
-none_some : (s : State) → None ≡ Some s → ⊥
-none_some s e = cc
+StopsAt s tail = (frame behind bytes : List ℕ) → tail ≡ 1 ∷ (frame ++ behind) → IsFrame frame bytes → (t : State) → EntryLeads s bytes t → ⊥
 
 other_gate : (gate : ℕ) (xs ys : List ℕ) → gate ≢ 1 → gate ∷ xs ≡ 1 ∷ ys → ⊥
 other_gate gate xs ys closed e = closed (cc)
@@ -45,16 +43,16 @@ same_behind : (xs ys : List ℕ) → 1 ∷ xs ≡ 1 ∷ ys → xs ≡ ys
 same_behind xs ys e = cc
 
 closed_stops : (s : State) (tail : List ℕ) → IsClosedHere tail → StopsAt s tail
-closed_stops s tail closed frame behind bytes e is = absurd (other_gate closed.0 closed.1 (frame ++ behind) closed.3 (sym closed.2 ∙ e))
+closed_stops s tail closed frame behind bytes e is t leads = absurd (other_gate closed.0 closed.1 (frame ++ behind) closed.3 (sym closed.2 ∙ e))
 
 cut_stops : (s : State) (tail : List ℕ) → IsCutHere tail → StopsAt s tail
-cut_stops s tail (inl none) frame behind bytes e is = absurd (no_gate (frame ++ behind) (sym none ∙ e))
-cut_stops s tail (inr cut) frame behind bytes e is = absurd (cut.2 frame behind bytes e is)
+cut_stops s tail (inl none) frame behind bytes e is t leads = absurd (no_gate (frame ++ behind) (sym none ∙ e))
+cut_stops s tail (inr cut) frame behind bytes e is t leads = absurd (cut.2 frame behind bytes e is)
 
-none_stops : (s : State) (tail frame behind bytes : List ℕ) → tail ≡ 1 ∷ (frame ++ behind) → IsFrame frame bytes → meaning.after s bytes ≡ None → StopsAt s tail
-none_stops s tail frame behind bytes e is none g y q f is_q =
+none_stops : (s : State) (tail frame behind bytes : List ℕ) → tail ≡ 1 ∷ (frame ++ behind) → IsFrame frame bytes → ((t : State) → EntryLeads s bytes t → ⊥) → StopsAt s tail
+none_stops s tail frame behind bytes e is none g y q f is_q t leads =
     let same = same_frame frame g bytes q behind y is is_q (same_behind (frame ++ behind) (g ++ y) (sym e ∙ f)) in
-    ap (meaning.after s) (sym same.0) ∙ none
+    none t (subst (λ (l : List ℕ). EntryLeads s l t) (sym same.0) leads)
 
 -- From a state records are read on, and end where no further one has a meaning.
 record Reads (s : State) (bytes : List ℕ) : Type 0 where
@@ -64,7 +62,7 @@ record Reads (s : State) (bytes : List ℕ) : Type 0 where
   split : bytes ≡ opened ++ tail
   are_open : AreOpen opened records
   end : State
-  meant : after_all meaning (Some s) records ≡ Some end
+  meant : LeadsTo meaning s records end
   stops : StopsAt end tail
 
 record SameReads (xs ys : List (List ℕ)) (t u : State) (p q : List ℕ) : Type 0 where
@@ -72,50 +70,44 @@ record SameReads (xs ys : List (List ℕ)) (t u : State) (p q : List ℕ) : Type
   end : t ≡ u
   tail : p ≡ q
 
-some_is : (s t : State) → Some s ≡ Some t → s ≡ t
-some_is s t e = cc
-
 -- there is one way to do so
-reads_one : (s t u : State) (xs ys : List (List ℕ)) (a b p q : List ℕ) → a ++ p ≡ b ++ q → AreOpen a xs → AreOpen b ys → after_all meaning (Some s) xs ≡ Some t → after_all meaning (Some s) ys ≡ Some u
+reads_one : (s t u : State) (xs ys : List (List ℕ)) (a b p q : List ℕ) → a ++ p ≡ b ++ q → AreOpen a xs → AreOpen b ys → LeadsTo meaning s xs t → LeadsTo meaning s ys u
     → StopsAt t p → StopsAt u q → SameReads xs ys t u p q
 reads_one s t u [] [] a b p q e are bare m n stop halt = record {
   records = refl;
-  end = sym (some_is s t m) ∙ some_is s u n;
+  end = m ∙ sym n;
   tail = sym (ap (λ (l : List ℕ). l ++ p) are) ∙ e ∙ ap (λ (l : List ℕ). l ++ q) bare;
 }
 reads_one s t u [] (y ∷ ys) a b p q e are bare m n stop halt =
     let here : p ≡ 1 ∷ (bare.0 ++ (bare.1 ++ q)) =
     sym (ap (λ (l : List ℕ). l ++ p) are) ∙ e ∙ ap (λ (l : List ℕ). l ++ q) bare.2 ∙ ap (λ (l : List ℕ). 1 ∷ l) (append_assoc bare.0 bare.1 q) in
-    let none : meaning.after s y ≡ None = ap (λ (v : State). meaning.after v y) (some_is s t m) ∙ stop bare.0 (bare.1 ++ q) y here bare.3 in
-    absurd (none_some u (sym (ap (λ (o : Option State). after_all meaning o ys) none) ∙ n))
+    absurd (stop bare.0 (bare.1 ++ q) y here bare.3 n.0 (subst (λ (v : State). EntryLeads v y n.0) (sym m) n.1))
 reads_one s t u (x ∷ xs) [] a b p q e are bare m n stop halt =
     let here : q ≡ 1 ∷ (are.0 ++ (are.1 ++ p)) =
     sym (ap (λ (l : List ℕ). l ++ q) bare) ∙ sym e ∙ ap (λ (l : List ℕ). l ++ p) are.2 ∙ ap (λ (l : List ℕ). 1 ∷ l) (append_assoc are.0 are.1 p) in
-    let none : meaning.after s x ≡ None = ap (λ (v : State). meaning.after v x) (some_is s u n) ∙ halt are.0 (are.1 ++ p) x here are.3 in
-    absurd (none_some t (sym (ap (λ (o : Option State). after_all meaning o xs) none) ∙ m))
+    absurd (halt are.0 (are.1 ++ p) x here are.3 m.0 (subst (λ (v : State). EntryLeads v x m.0) (sym n) m.1))
 reads_one s t u (x ∷ xs) (y ∷ ys) a b p q e are bare m n stop halt =
     let whole : are.0 ++ (are.1 ++ p) ≡ bare.0 ++ (bare.1 ++ q) =
     same_behind (are.0 ++ (are.1 ++ p)) (bare.0 ++ (bare.1 ++ q))
     (ap (λ (l : List ℕ). 1 ∷ l) (sym (append_assoc are.0 are.1 p)) ∙ sym (ap (λ (l : List ℕ). l ++ p) are.2) ∙ e ∙ ap (λ (l : List ℕ). l ++ q) bare.2 ∙ ap (λ (l : List ℕ). 1 ∷ l) (append_assoc bare.0 bare.1 q)) in
     let same = same_frame are.0 bare.0 x y (are.1 ++ p) (bare.1 ++ q) are.3 bare.3 whole in
-    further (meaning.after s x) refl (ap (meaning.after s) (sym same.0)) same.0
-    (λ v first second. reads_one v t u xs ys are.1 bare.1 p q same.1 are.4 bare.4 first second stop halt)
-  where
-    further : (o : Option State) → meaning.after s x ≡ o → meaning.after s y ≡ meaning.after s x → x ≡ y
-        → ((v : State) → after_all meaning (Some v) xs ≡ Some t → after_all meaning (Some v) ys ≡ Some u → SameReads xs ys t u p q) → SameReads (x ∷ xs) (y ∷ ys) t u p q
-    further None gives alike same rest = absurd (none_some t (sym (ap (λ (o : Option State). after_all meaning o xs) gives) ∙ m))
-    further (Some v) gives alike same rest =
-        let r = rest v (sym (ap (λ (o : Option State). after_all meaning o xs) gives) ∙ m) (sym (ap (λ (o : Option State). after_all meaning o ys) (alike ∙ gives)) ∙ n) in
-        record { records = ap (λ (l : List ℕ). l ∷ xs) same ∙ ap (λ (l : List (List ℕ)). y ∷ l) r.records; end = r.end; tail = r.tail }
+    let mid : n.0 ≡ m.0 = leads_once s x n.0 m.0 (subst (λ (l : List ℕ). EntryLeads s l n.0) (sym same.0) n.1) m.1 in
+    let r = reads_one m.0 t u xs ys are.1 bare.1 p q same.1 are.4 bare.4 m.2 (subst (λ (v : State). LeadsTo meaning v ys u) mid n.2) stop halt in
+    record { records = ap (λ (l : List ℕ). l ∷ xs) same.0 ∙ ap (λ (l : List (List ℕ)). y ∷ l) r.records; end = r.end; tail = r.tail }
 
 -- What a held state and a damage say of what stands behind the header of file A.
 
 behind_header : (file head opened rest : List ℕ) → length head ≡ 29 → file ≡ (head ++ opened) ++ rest → drop 29 file ≡ opened ++ rest
 behind_header file head opened rest size split = ap (drop 29) (split ∙ append_assoc head opened rest) ∙ drop_at head (opened ++ rest) 29 size
 
-no_snapshot : (snapshot : List ℕ) (records : List (List ℕ)) (s : State) → after_all meaning (state_of_snapshot snapshot) records ≡ Some s → snapshot ≡ []
-no_snapshot [] records s e = refl
-no_snapshot (b ∷ bs) records s e = absurd (none_some s e)
+no_snapshot : (snapshot : List ℕ) (records : List (List ℕ)) (s : State) → Reaches meaning snapshot records s → snapshot ≡ []
+no_snapshot [] records s r = refl
+no_snapshot (b ∷ bs) records s r = absurd r.1
+
+-- without a snapshot they lead from the opening state
+from_opening : (snapshot : List ℕ) (records : List (List ℕ)) (s : State) → snapshot ≡ [] → Reaches meaning snapshot records s → LeadsTo meaning opening records s
+from_opening [] records s e r = subst (λ (v : State). LeadsTo meaning v records s) r.1 r.2
+from_opening (b ∷ bs) records s e r = absurd r.1
 
 record HeldReads (i : Image) (records : List (List ℕ)) (s : State) : Type 0 where
   reads : Reads opening (drop 29 i.a)
@@ -134,7 +126,7 @@ held_in_a : (i : Image) (c : Content) (s : State) → HoldNow c s i → ((is_liv
 held_in_a i c s h = by_content h.hold.content
   where
     opening_state : c ≡ files.opening → s ≡ opening
-    opening_state e = sym (some_is opening s (sym (ap (λ (d : Content). after_all meaning (meaning.opens d.snapshot) d.records) e) ∙ h.hold.state))
+    opening_state e = from_opening [] [] s refl (subst (λ (d : Content). Reaches meaning d.snapshot d.records s) e h.hold.state)
 
     in_a : (end : ℕ) → Holds A c end i → HeldReads i c.records s
     in_a end holds =
@@ -152,7 +144,7 @@ held_in_a i c s h = by_content h.hold.content
             split = behind_header i.a head at.opened (at.gate ∷ at.behind) size at.split;
             are_open = at.are_open;
             end = s;
-            meant = sym (ap (λ (l : List ℕ). after_all meaning (state_of_snapshot l) c.records) none) ∙ h.hold.state;
+            meant = from_opening c.snapshot c.records s none h.hold.state;
             stops = closed_stops s (at.gate ∷ at.behind) closed;
           };
           records_are = refl;
@@ -193,8 +185,8 @@ module _ (i : Image) (place : ℕ) (live : is_live i.a ≡ true) (empty : snapsh
   head_long : length (head_of i.a) ≡ 29
   head_long = ap length head ∙ omega (arith, live_long i.a live, length-take 29 i.a)
 
-  meant_from : (records : List (List ℕ)) (s : State) → after_all meaning (meaning.opens (snapshot_of i.a)) records ≡ Some s → after_all meaning (Some opening) records ≡ Some s
-  meant_from records s e = sym (ap (λ (n : ℕ). after_all meaning (state_of_snapshot (take n (drop 29 i.a))) records) empty) ∙ e
+  meant_from : (records : List (List ℕ)) (s : State) → Reaches meaning (snapshot_of i.a) records s → LeadsTo meaning opening records s
+  meant_from records s r = from_opening (snapshot_of i.a) records s (ap (λ (n : ℕ). take n (drop 29 i.a)) empty) r
 
   placed : (opened : List ℕ) → length (head_of i.a ++ opened) ≡ place → 29 + length opened ≡ place
   placed opened e = omega (arith, e, length-append (head_of i.a) opened, head_long)

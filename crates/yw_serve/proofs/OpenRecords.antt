@@ -1,18 +1,17 @@
 -- How the reading of the records goes on, and where it stops.
-use Rattle.std.proofs.Common.{◌≡◌, ℕ, ◌+◌, ◌≤◌, List, [], ◌∷◌, ◌++◌, length, take, drop, Option, None, Some, inl, inr, refl, sym, ap, ◌∙◌, arith, append_assoc, length-append, length-take, length-drop, take-append-drop}
+use Rattle.std.proofs.Common.{◌≡◌, ℕ, ◌+◌, ◌≤◌, List, [], ◌∷◌, ◌++◌, length, take, drop, inl, inr, refl, sym, ap, ◌∙◌, subst, arith, append_assoc, length-append, length-take, length-drop, take-append-drop}
 use Rattle.std.proofs.lemmas.List.{append-nil, drop-drop}
 use Rattle.yw_outside.specs.declared.desk.File.TheVariants.{A}
-use Rattle.yw_journal.specs.Files.{Meaning, after_all, head_of, snapshot_of, snapshot_size_of}
+use Rattle.yw_journal.specs.Files.{Meaning, LeadsTo, Reaches, head_of, snapshot_of, snapshot_size_of}
 use Rattle.yw_journal.specs.Records.{IsFrame, AreOpen, IsAt}
 use Rattle.yw_model.specs.State.{State, opening}
-use Rattle.yw_serve.specs.Damage.{after_bytes, meaning, state_of_snapshot}
+use Rattle.yw_serve.specs.Damage.{EntryLeads, IsSnapshot, meaning}
 use Rattle.yw_serve.specs.Opening.{IsClosedHere, IsCutHere, IsDamagedAt, IsOpenHere, IsReached}
 
 -- entries and then more
-pub after_all-append : {S : Type 0} (m : Meaning S) (s : Option S) (xs ys : List (List ℕ)) → after_all m s (xs ++ ys) ≡ after_all m (after_all m s xs) ys
-after_all-append m None xs ys = refl
-after_all-append m (Some s) [] ys = refl
-after_all-append m (Some s) (x ∷ xs) ys = after_all-append m (m.after s x) xs ys
+pub LeadsTo-append : {S : Type 0} (m : Meaning S) (s : S) (xs : List (List ℕ)) (mid : S) (ys : List (List ℕ)) (t : S) → LeadsTo m s xs mid → LeadsTo m mid ys t → LeadsTo m s (xs ++ ys) t
+LeadsTo-append m s [] mid ys t first next = subst (λ x. LeadsTo m x ys t) first next
+LeadsTo-append m s (x ∷ xs) mid ys t first next = (first.0, first.1, LeadsTo-append m first.0 xs mid ys t first.2 next)
 
 -- a record more
 are_open_more : (opened : List ℕ) (records : List (List ℕ)) (frame bytes : List ℕ) → AreOpen opened records → IsFrame frame bytes → AreOpen (opened ++ 1 ∷ frame) (records ++ bytes ∷ [])
@@ -56,8 +55,8 @@ module _ (file : List ℕ) (at : ℕ) (records : List (List ℕ)) (s : State) (i
   head : head_of file ≡ take 29 file
   head = ap (λ (n : ℕ). take (29 + n) file) is.no_snapshot
 
-  meant : after_all meaning (meaning.opens (snapshot_of file)) records ≡ Some s
-  meant = ap (λ (n : ℕ). after_all meaning (state_of_snapshot (take n (drop 29 file))) records) is.no_snapshot ∙ is.state
+  meant : Reaches meaning (snapshot_of file) records s
+  meant = (opening, subst (λ (n : ℕ). IsSnapshot (take n (drop 29 file)) opening) (sym is.no_snapshot) refl, is.state)
 
   placed : length (head_of file ++ is.opened) ≡ at
   placed = ap (λ (l : List ℕ). length (l ++ is.opened)) head ∙ is.place
@@ -79,7 +78,7 @@ module _ (file : List ℕ) (at : ℕ) (records : List (List ℕ)) (s : State) (i
   }
 
   -- the record has no meaning
-  pub none_at : (size : ℕ) → IsFrameHere size (drop at file) → after_bytes s (take size (drop 5 (drop at file))) ≡ None → IsDamagedAt file A at
+  pub none_at : (size : ℕ) → IsFrameHere size (drop at file) → ((t : State) → EntryLeads s (take size (drop 5 (drop at file))) t → ⊥) → IsDamagedAt file A at
   none_at size here none = record {
     which = refl;
     here = inr (record {
@@ -100,7 +99,7 @@ module _ (file : List ℕ) (at : ℕ) (records : List (List ℕ)) (s : State) (i
   }
 
   -- the record has its meaning
-  pub reached_further : (size : ℕ) (t : State) → IsFrameHere size (drop at file) → after_bytes s (take size (drop 5 (drop at file))) ≡ Some t
+  pub reached_further : (size : ℕ) (t : State) → IsFrameHere size (drop at file) → EntryLeads s (take size (drop 5 (drop at file))) t
       → IsReached file (at + 5 + size) (records ++ take size (drop 5 (drop at file)) ∷ []) t
   reached_further size t here some =
       let bytes = take size (drop 5 (drop at file)) in
@@ -114,7 +113,7 @@ module _ (file : List ℕ) (at : ℕ) (records : List (List ℕ)) (s : State) (i
             ∙ ap (λ (l : List ℕ). (take 29 file ++ (is.opened ++ 1 ∷ here.frame)) ++ l) (drop-drop (5 + size) at file ∙ ap (λ (n : ℕ). drop n file) (omega arith));
         are_open = are_open_more is.opened records here.frame bytes is.are_open here.is_frame;
         place = omega (arith, is.place, here.all, length-append (take 29 file) (is.opened ++ 1 ∷ here.frame), length-append is.opened (1 ∷ here.frame), length-append (take 29 file) is.opened);
-        state = after_all-append meaning (Some opening) records (bytes ∷ []) ∙ ap (λ (o : Option State). after_all meaning o (bytes ∷ [])) is.state ∙ ap (λ (o : Option State). after_all meaning o []) some;
+        state = LeadsTo-append meaning opening records s (bytes ∷ []) t is.state (t, some, refl);
       }
 
   -- a closed gate ends them

@@ -12,7 +12,7 @@ use Rattle.yw_journal.specs.declared.journal.Journal.{Journal}
 use Rattle.yw_model.specs.Lines.{whole_lines, all_lines, lines}
 use Rattle.yw_model.specs.Run.{Run}
 use Rattle.yw_model.specs.State.{State}
-use Rattle.yw_model.proofs.RunLemmas.{Run-append}
+use Rattle.yw_model.proofs.RunLemmas.{Run-append, has_run}
 use Rattle.yw_serve.specs.declared.session.Session.{Session}
 use Rattle.yw_serve.specs.declared.session.Stop.{Stop}
 use Rattle.yw_serve.specs.Kept.{most_kept}
@@ -93,8 +93,9 @@ module _ {D : Type 0} (moment : D → ℕ) (left_since : D → ℕ → Image →
     within = within;
     answered = subst (λ (bs : List ℕ). SomeAnswered moment left_since state may_leave c s session.journal.limit stop (whole_lines bs) (lines taken (has_ended rest piece)) start new) e (record {
       extra = z.lines;
-      more = z.more;
-      split = z.split ∙ sym (append_assoc (whole_lines seen) z.lines z.more);
+      next = z.next;
+      later = z.later;
+      split = z.split ∙ sym (append_assoc (whole_lines seen) z.lines (z.next ++ z.later));
       steps = h.steps ++ z.steps;
       reached = z.reached;
       run = Run-append s 1 (whole_lines seen) h.steps (state_of session) z.lines z.steps z.reached h.run (subst (λ (n : ℕ). Run (state_of session) n z.lines z.steps z.reached) h.number z.run);
@@ -103,7 +104,8 @@ module _ {D : Type 0} (moment : D → ℕ) (left_since : D → ℕ → Image →
       are_done = done_both moment left_since state may_leave c h.steps z.steps session.journal z.journal start mid z.mid z.file h.are_done z.are_done;
       work = z.work;
       after = z.after;
-      run_on = subst (λ (n : ℕ). Run z.reached n z.more z.work z.after) (ap (λ n. n + length z.lines) h.number ∙ summed (whole_lines seen) z.lines) z.run_on;
+      run_on = subst (λ (n : ℕ). Run z.reached n z.next z.work z.after) (ap (λ n. n + length z.lines) h.number ∙ summed (whole_lines seen) z.lines) z.run_on;
+      goes_on = has_run z.after (1 + length (whole_lines seen ++ z.lines) + length z.next) z.later;
       moments = subst (λ (x : Content). LeavesOnly moment left_since z.mid new (OfSteps z.journal.file x z.work (state z.mid))) (with_steps-append c h.steps z.steps) z.moments;
       why = z.why;
       limited = z.limit;

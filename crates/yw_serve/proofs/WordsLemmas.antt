@@ -1,7 +1,18 @@
--- The words of a run give one limit.
-use Rattle.std.proofs.Common.{◌≡◌, ℕ, List, [], ◌∷◌, String, Global, inl, inr, sym, ap, ◌∙◌}
+-- The words of a run give one limit, and are not those of a check.
+use Rattle.std.proofs.Common.{◌≡◌, ℕ, List, [], ◌∷◌, length, get_or, Bool, true, String, Global, inl, inr, sym, ap, ◌∙◌, arith}
+use Rattle.std.specs.Prelude.{codes, map, string_bytes}
+use Rattle.std.specs.Str.{bytes_eq}
+use Rattle.std.proofs.lemmas.Slice.Eq.{bytes_eq-Decides}
 use Rattle.std.specs.Str.Parse.{digits_value}
-use Rattle.yw_serve.specs.Words.{IsRun}
+use Rattle.yw_serve.specs.Words.{IsCheck, IsRun}
+
+pub one_word : (xs : List (String Global)) (w : String Global) → length xs ≡ 1 → w ≡ get_or xs 0 w → xs ≡ w ∷ []
+one_word [] w e h = absurd (omega arith)
+one_word (x ∷ []) w e h = ap (λ y. y ∷ []) (sym h)
+one_word (x ∷ y ∷ xs) w e h = absurd (omega arith)
+
+pub same_text : (b : Bool) (xs ys : List ℕ) → b ≡ bytes_eq xs ys → b ≡ true → xs ≡ ys
+same_text b xs ys e t = (bytes_eq-Decides xs ys).0 (sym e ∙ t)
 
 third : (x y z a b c : List ℕ) → x ∷ y ∷ z ∷ [] ≡ a ∷ b ∷ c ∷ [] → z ≡ c
 third x y z a b c e = cc
@@ -21,3 +32,13 @@ one_limit words m n first second =
         | inr again ↦ sym given.2.spelled.value ∙ ap (digits_value 10) (third _ _ _ _ _ _ (sym given.1 ∙ again.1)) ∙ again.2.spelled.value
       ]
     ]
+
+run_is : (xs : List (List ℕ)) (text : List ℕ) → xs ≡ codes "run" ∷ [] → xs ≡ codes "check" ∷ [] → ⊥
+run_is xs text e f = cc
+
+longer_is : (xs : List (List ℕ)) (text : List ℕ) → xs ≡ codes "run" ∷ codes "--limit" ∷ text ∷ [] → xs ≡ codes "check" ∷ [] → ⊥
+longer_is xs text e f = cc
+
+pub not_both : (words : List (String Global)) (limit : ℕ) → IsRun words limit → IsCheck words → ⊥
+not_both words limit (inl alone) check = run_is (map string_bytes words) [] alone.0 check
+not_both words limit (inr given) check = longer_is (map string_bytes words) given.0 given.1 check

@@ -1,90 +1,33 @@
 -- What the entries of a file mean, and which damages of the files are looked for now, before a file is ever compacted.
-use Rattle.std.specs.Prelude.{◌≡◌, ◌⊎◌, ◌==◌, ◌&&◌, ℕ, zero, suc, List, [], ◌∷◌, length, take, drop, Bool, true, false, not, nat_le, nat_lt, if◌then◌else◌, Option, None, Some, option_and_then, option_map}
-use Rattle.byteorder.specs.Endian.{big_number}
-use Rattle.yw_base.specs.Spelling.{is_name}
+use Rattle.std.specs.Prelude.{◌≡◌, ◌⊎◌, ◌==◌, ◌&&◌, ℕ, List, [], ◌∷◌, Bool, true, false, not, if◌then◌else◌, Option, None, Some}
 use Rattle.yw_outside.specs.declared.desk.File.{File}
 use Rattle.yw_outside.specs.declared.desk.File.TheVariants.{A, B}
 use Rattle.yw_outside.specs.declared.image.Image.{Image}
 use Rattle.yw_journal.specs.Files.{Content, Meaning, HoldState, IsCut, HasNoMeaning, is_live, header_damage, snapshot_size_of}
-use Rattle.yw_model.specs.Meaning.{are_roles}
+use Rattle.yw_codec.specs.Entries.{IsEntry}
 use Rattle.yw_model.specs.Run.{Entry}
-use Rattle.yw_model.specs.State.{State, opening, after}
-use Rattle.yw_model.specs.declared.speech.Event.{Event}
-use Rattle.yw_model.specs.declared.speech.Event.TheVariants.{Person}
+use Rattle.yw_model.specs.State.{State, opening, after, after_all, IsAllowed}
+use Rattle.yw_model.specs.declared.event.Event.{Event}
 
--- The entry that bytes spell. Each of the following reads at the front of bytes, and gives what it read and the bytes behind it.
+-- each event is allowed in its turn
+abbrev pub AreAllowed : State → List Event → Type 0
+AreAllowed s [] = Unit {0}
+AreAllowed s (e ∷ es) = IsAllowed s e × AreAllowed (after s e) es
 
--- a length byte, and a name of so many bytes
-abbrev pub name_at : List ℕ → Option (List ℕ × List ℕ)
-name_at [] = None
-name_at (n ∷ rest) = if nat_le n (length rest) && is_name (take n rest) then Some (take n rest, drop n rest) else None
-
--- so many names
-abbrev pub names_at : ℕ → List ℕ → Option (List (List ℕ) × List ℕ)
-names_at zero bytes = Some ([], bytes)
-names_at (suc n) bytes = option_and_then (λ first. option_map (λ others. (first.0 ∷ others.0, others.1)) (names_at n first.1)) (name_at bytes)
-
--- a count byte, and so many names
-abbrev pub name_list_at : List ℕ → Option (List (List ℕ) × List ℕ)
-name_list_at [] = None
-name_list_at (n ∷ rest) = if nat_lt n 256 then names_at n rest else None
-
--- a person's name and roles
-abbrev pub person_at : List ℕ → Option (Event × List ℕ)
-person_at bytes = option_and_then (λ name. option_map (λ roles. (Person name.0 roles.0, roles.1)) (name_list_at name.1)) (name_at bytes)
-
--- the tag of a person, and one
-abbrev pub event_at : List ℕ → Option (Event × List ℕ)
-event_at [] = None
-event_at (tag ∷ rest) = if tag == 1 then person_at rest else None
-
--- so many events
-abbrev pub events_at : ℕ → List ℕ → Option (List Event × List ℕ)
-events_at zero bytes = Some ([], bytes)
-events_at (suc n) bytes = option_and_then (λ first. option_map (λ others. (first.0 ∷ others.0, others.1)) (events_at n first.1)) (event_at bytes)
-
-abbrev pub most_events : ℕ
-most_events = 4097
-
-abbrev pub is_event_count : ℕ → Bool
-is_event_count n = nat_le 1 n && nat_le n most_events
-
--- a count in two bytes, which is 1 to 4097, and so many events
-unfoldable pub entry_at : List ℕ → Option (Entry × List ℕ)
-entry_at bytes =
-    if nat_le 2 (length bytes) && is_event_count (big_number 2 bytes)
-    then events_at (big_number 2 bytes) (drop 2 bytes)
-    else None
-
--- what was read, where nothing stands behind it
-abbrev pub whole : Option (Entry × List ℕ) → Option Entry
-whole None = None
-whole (Some (entry, [])) = Some entry
-whole (Some (entry, b ∷ bs)) = None
-
--- the entry whose bytes these are
-abbrev pub entry_of : List ℕ → Option Entry
-entry_of bytes = whole (entry_at bytes)
-
--- the state after an event, where it is allowed
-abbrev pub after_event : State → Event → Option State
-after_event s (Person name roles) = if are_roles roles then Some (after s (Person name roles)) else None
-
--- the state after events, where each is allowed in its turn
-abbrev pub after_events : State → List Event → Option State
-after_events s [] = Some s
-after_events s (e ∷ es) = option_and_then (λ t. after_events t es) (after_event s e)
-
-unfoldable pub after_bytes : State → List ℕ → Option State
-after_bytes s bytes = option_and_then (after_events s) (entry_of bytes)
+-- The bytes are an entry's, whose events are allowed in their turn and lead from the one state to the other.
+pub record EntryLeads (s : State) (bytes : List ℕ) (t : State) : Type 0 where
+  pub entry : Entry
+  pub is : IsEntry entry bytes
+  pub allowed : AreAllowed s entry
+  pub reaches : t ≡ after_all s entry
 
 -- an empty snapshot is the opening state, and no other is built yet
-abbrev pub state_of_snapshot : List ℕ → Option State
-state_of_snapshot [] = Some opening
-state_of_snapshot (b ∷ bs) = None
+abbrev pub IsSnapshot : List ℕ → State → Type 0
+IsSnapshot [] s = s ≡ opening
+IsSnapshot (b ∷ bs) s = ⊥
 
 abbrev pub meaning : Meaning State
-meaning = record { opens = state_of_snapshot; after = after_bytes }
+meaning = record { Opens = IsSnapshot; After = EntryLeads }
 
 -- Both files hold this state, after this content, and file B isn't live, as long as nothing makes it.
 pub record HoldNow (c : Content) (s : State) (i : Image) : Type 0 where

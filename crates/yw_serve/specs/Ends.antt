@@ -8,7 +8,7 @@ use Rattle.yw_journal.specs.Files.{Content}
 use Rattle.yw_journal.specs.declared.journal.Journal.{Journal}
 use Rattle.yw_model.specs.Lines.{whole_lines, lines}
 use Rattle.yw_model.specs.State.{State}
-use Rattle.yw_model.specs.Run.{Step, Run}
+use Rattle.yw_model.specs.Run.{Step, Run, HasRun}
 use Rattle.yw_serve.specs.Session.{with_steps, OfSteps, AreDone, Why}
 use Rattle.yw_serve.specs.declared.run.Ending.{Ending}
 use Rattle.yw_serve.specs.declared.run.Ending.TheVariants.{Whole, Unread, Past, Stopped}
@@ -41,18 +41,22 @@ pub record AllAnswered {D : Type 0} (moment : D → ℕ) (left_since : D → ℕ
 pub record SomeAnswered {D : Type 0} (moment : D → ℕ) (left_since : D → ℕ → Image → Type 0) (state : D → Image) (may_leave : D → Image → Type 0)
     (c : Content) (s : State) (limit : ℕ) (stop : Stop) (sure all : List (List ℕ)) (old new : D) : Type 0 where
   pub extra : List (List ℕ)
-  pub more : List (List ℕ)
-  pub split : all ≡ (sure ++ extra) ++ more
+  -- the line at work, or none where nothing was found out of it
+  pub next : List (List ℕ)
+  pub later : List (List ℕ)
+  pub split : all ≡ (sure ++ extra) ++ (next ++ later)
   pub steps : List Step
   pub reached : State
   pub run : Run s 1 (sure ++ extra) steps reached
   pub mid : D
   pub journal : Journal
   pub are_done : AreDone moment left_since state may_leave c steps journal old mid
-  -- what may come of the line at which it stopped, and of the further lines
+  -- what comes of the line at work
   pub work : List Step
   pub after : State
-  pub run_on : Run reached (1 + length (sure ++ extra)) more work after
+  pub run_on : Run reached (1 + length (sure ++ extra)) next work after
+  -- and something comes of the further lines
+  pub goes_on : HasRun after (1 + length (sure ++ extra) + length next) later
   pub moments : LeavesOnly moment left_since mid new (OfSteps journal.file (with_steps c steps) work (state mid))
   pub why : Why stop journal work mid new
   pub limited : journal.limit ≡ limit

@@ -1,4 +1,3 @@
-pub mod Persons
 pub mod Kept
 pub mod Desks
 pub mod Session
@@ -11,3 +10,4 @@ pub mod Opening
 pub mod Notices
 pub mod Served
 pub mod Headline
+pub mod Checked

@@ -6,11 +6,13 @@ use Rattle.yw_outside.specs.Moments.{LeavesOnly}
 use Rattle.yw_outside.specs.declared.desk.File.{File}
 use Rattle.yw_outside.specs.declared.desk.File.TheVariants.{A}
 use Rattle.yw_outside.specs.declared.image.Image.{Image}
-use Rattle.yw_journal.specs.Files.{Content, IsCut, HasNoMeaning, is_live, snapshot_size_of, after_all}
+use Rattle.yw_journal.specs.Files.{Content, IsCut, HasNoMeaning, LeadsTo, is_live, snapshot_size_of}
 use Rattle.yw_journal.specs.Journal.{IsCurrent}
 use Rattle.yw_journal.specs.Records.{AreOpen, IsNoRecord}
-use Rattle.yw_model.specs.State.{State, opening}
-use Rattle.yw_serve.specs.Damage.{HoldNow, heads_damage, meaning}
+use Rattle.yw_library.specs.Holdings as library
+use Rattle.yw_model.specs.State.{State, opening, after, after_all, IsAllowed}
+use Rattle.yw_model.specs.declared.event.Event.{Event}
+use Rattle.yw_serve.specs.Damage.{AreAllowed, HoldNow, heads_damage, meaning}
 use Rattle.yw_serve.specs.declared.header.Head.{Head}
 use Rattle.yw_serve.specs.declared.opening.OpenFault.{OpenFault}
 use Rattle.yw_serve.specs.declared.opening.OpenFault.TheVariants.{Disk, Damaged, Memory}
@@ -19,7 +21,7 @@ use Rattle.yw_serve.specs.declared.opening_entries.Gate.{Gate}
 use Rattle.yw_serve.specs.declared.opening_entries.Gate.TheVariants.{Closed, Open, Cut}
 
 abbrev pub opened_state : Opened → State
-opened_state opened = record { persons = opened.persons }
+opened_state opened = library.state_of opened.library
 
 -- Only reads and syncs came between two states of a desk: it holds what it held, and a crash leaves nothing new.
 pub record OnlyLooked {D : Type 0} (moment : D → ℕ) (left_since : D → ℕ → Image → Type 0) (state : D → Image) (may_leave : D → Image → Type 0)
@@ -71,6 +73,16 @@ StandsHere rest Closed = IsClosedHere rest
 StandsHere rest (Open size) = IsOpenHere size rest
 StandsHere rest Cut = IsCutHere rest
 
+-- The event is allowed, and the state is then that after it, or it isn't.
+abbrev pub IsApplied : State → Event → Bool → State → Type 0
+IsApplied s e true t = IsAllowed s e × (t ≡ after s e)
+IsApplied s e false t = IsAllowed s e → ⊥
+
+-- Each of the events is allowed in its turn, and the state is then that after all, or one isn't.
+abbrev pub AreApplied : State → List Event → Bool → State → Type 0
+AreApplied s es true t = AreAllowed s es × (t ≡ after_all s es)
+AreApplied s es false t = AreAllowed s es → ⊥
+
 -- Behind the header, up to this gate, stand records that lead to this state.
 pub record IsReached (file : List ℕ) (at : ℕ) (records : List (List ℕ)) (s : State) : Type 0 where
   pub long : 30 ≤ length file
@@ -79,7 +91,7 @@ pub record IsReached (file : List ℕ) (at : ℕ) (records : List (List ℕ)) (s
   pub split : file ≡ (take 29 file ++ opened) ++ drop at file
   pub are_open : AreOpen opened records
   pub place : length (take 29 file ++ opened) ≡ at
-  pub state : after_all meaning (Some opening) records ≡ Some s
+  pub state : LeadsTo meaning opening records s
 
 -- Behind a sound header of file A this is the first damage.
 pub record IsDamagedAt (file : List ℕ) (f : File) (place : ℕ) : Type 0 where

@@ -120,6 +120,3 @@ IsOfRun Full = Unit {0}
 IsOfRun InputLimit = Unit {0}
 IsOfRun Findings = ⊥
 IsOfRun Usage = ⊥
-
-abbrev pub IsAnswered : Status → Type 0
-IsAnswered status = (status ≡ Usage) ⊎ IsOfRun status

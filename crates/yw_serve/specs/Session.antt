@@ -8,16 +8,17 @@ use Rattle.yw_journal.specs.Files.{Content, Holds}
 use Rattle.yw_journal.specs.Journal.{IsCurrent}
 use Rattle.yw_journal.specs.declared.journal.Journal.{Journal}
 use Rattle.yw_codec.specs.Entries.{entry_bytes, framed}
+use Rattle.yw_library.specs.Holdings as library
 use Rattle.yw_model.specs.Lines.{whole_lines, last_part}
 use Rattle.yw_model.specs.State.{State}
-use Rattle.yw_model.specs.Run.{Entry, Step, Answers, Run, taken_by, said_by}
+use Rattle.yw_model.specs.Run.{Entry, Step, Answers, Run, HasRun, taken_by, said_by}
 use Rattle.yw_serve.specs.Kept.{kept_of}
 use Rattle.yw_serve.specs.declared.session.Session.{Session}
 use Rattle.yw_serve.specs.declared.session.Stop.{Stop}
 use Rattle.yw_serve.specs.declared.session.Stop.TheVariants.{Disk, Write, Memory, Full}
 
 abbrev pub state_of : Session → State
-state_of session = record { persons = session.persons }
+state_of session = library.state_of session.library
 
 -- a content with these entries behind its own
 abbrev pub with_entries : Content → List Entry → Content
@@ -85,18 +86,22 @@ Why Write journal work old new = Unit {0}
 pub record StopsWithin {D : Type 0} (moment : D → ℕ) (left_since : D → ℕ → Image → Type 0) (state : D → Image) (may_leave : D → Image → Type 0)
     (c : Content) (stop : Stop) (session : Session) (done all : List (List ℕ)) (old new : D) : Type 0 where
   pub lines : List (List ℕ)
-  pub more : List (List ℕ)
-  pub split : all ≡ done ++ (lines ++ more)
+  -- the line at work, or none where nothing was found out of it
+  pub next : List (List ℕ)
+  pub later : List (List ℕ)
+  pub split : all ≡ done ++ (lines ++ (next ++ later))
   pub steps : List Step
   pub reached : State
   pub run : Run (state_of session) session.number lines steps reached
   pub mid : D
   pub journal : Journal
   pub are_done : AreDone moment left_since state may_leave c steps journal old mid
-  -- what may come of the line at which it stopped, and of the further lines
+  -- what comes of the line at work
   pub work : List Step
   pub after : State
-  pub run_on : Run reached (session.number + length lines) more work after
+  pub run_on : Run reached (session.number + length lines) next work after
+  -- and something comes of the further lines
+  pub goes_on : HasRun after (session.number + length lines + length next) later
   pub moments : LeavesOnly moment left_since mid new (OfSteps journal.file (with_steps c steps) work (state mid))
   pub why : Why stop journal work mid new
   pub limit : journal.limit ≡ session.journal.limit
@@ -122,11 +127,15 @@ pub record EndsLine {D : Type 0} (moment : D → ℕ) (left_since : D → ℕ �
   pub front : now.front.items ≡ []
   pub number : now.number ≡ before.number + 1
 
--- The session stopped at the line that is kept.
-pub record CutsLine {D : Type 0} (moment : D → ℕ) (left_since : D → ℕ → Image → Type 0) (state : D → Image) (may_leave : D → Image → Type 0)
+-- The session stopped at the line that is kept, of which this comes.
+pub record CutsStep {D : Type 0} (moment : D → ℕ) (left_since : D → ℕ → Image → Type 0) (state : D → Image) (may_leave : D → Image → Type 0)
     (c : Content) (stop : Stop) (before : Session) (old new : D) : Type 0 where
   pub step : Step
   pub after : State
   pub answers : Answers (state_of before) before.number before.front.items step after
   pub moments : LeavesOnly moment left_since old new (OfSteps before.journal.file c (step ∷ []) (state old))
   pub why : Why stop before.journal (step ∷ []) old new
+
+-- It stopped there, or no memory was left to find out what comes of the line.
+abbrev pub CutsLine : {D : Type 0} → (D → ℕ) → (D → ℕ → Image → Type 0) → (D → Image) → (D → Image → Type 0) → Content → Stop → Session → D → D → Type 0
+CutsLine m l v y c stop before old new = ((stop ≡ Memory) × (new ≡ old)) ⊎ CutsStep m l v y c stop before old new

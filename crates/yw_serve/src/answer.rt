@@ -20,7 +20,7 @@ use yw_journal::{AppendFault, Journal};
 use yw_outside::{Desk, Failed};
 
 /// Says a text. At `Write` a front of it may have been said.
-pub fn tell<D: Desk>(desk: &mut D, text: &str) -> Result<(), Stop>
+pub fn tell<D: Desk>(desk: &mut D, text: &[u8]) -> Result<(), Stop>
     ensures said { OnOk result (IsTrue (D.tells desk.old) → (D.state desk.new).said ≡ (D.state desk.old).said ++ text.now) }
     ensures a { (D.state desk.new).a ≡ (D.state desk.old).a }
     ensures b { (D.state desk.new).b ≡ (D.state desk.old).b }
@@ -32,7 +32,7 @@ pub fn tell<D: Desk>(desk: &mut D, text: &str) -> Result<(), Stop>
     ensures counts { KeepsCounts D.tells D.disk_faults D.say_faults desk.old desk.new }
     ensures write { IfErr result (λ stop. (stop ≡ Stop.Write) × Rose (D.say_faults desk.old) (D.say_faults desk.new)) }
 {
-    match desk.say(text.as_bytes()) {
+    match desk.say(text) {
         Ok(()) => Ok(()),
         Err(Failed) => Err(Stop::Write),
     }
@@ -57,9 +57,9 @@ fn carry_out<D: Desk>(journal: &mut Journal, plan: &Plan, desk: &mut D) -> Resul
     ensures write { result ≡ Err Stop.Write → Rose (D.say_faults desk.old) (D.say_faults desk.new) }
 {
     match plan {
-        Plan::Refuse(reply) => tell(desk, reply.as_str()),
-        Plan::Accept(entry, reply) => match journal.append(desk, entry) {
-            Ok(()) => tell(desk, reply.as_str()),
+        Plan::Refuse(reply) => tell(desk, reply.as_slice()),
+        Plan::Accept(entry, reply) => match journal.append(desk, entry.as_slice()) {
+            Ok(()) => tell(desk, reply.as_slice()),
             Err(AppendFault::Disk) => Err(Stop::Disk),
             Err(AppendFault::Full(end)) => Err(Stop::Full(end)),
         },
@@ -83,7 +83,7 @@ fn end_line<D: Desk>(alloc: Global, session: &mut Session, desk: &mut D) -> Resu
     ensures disk { result ≡ Err Stop.Disk → Rose (D.disk_faults desk.old) (D.disk_faults desk.new) }
     ensures write { result ≡ Err Stop.Write → Rose (D.say_faults desk.old) (D.say_faults desk.new) }
 {
-    let plan = match plan_line(alloc, &mut session.persons, session.number, &session.front) {
+    let plan = match plan_line(alloc, &mut session.library, session.number, &session.front) {
         Ok(plan) => plan,
         Err(AllocError) => return Err(Stop::Memory),
     };

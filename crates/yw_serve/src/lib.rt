@@ -1,16 +1,15 @@
-//! The server: it reads lines from a source, keeps what they do in two files, and says a reply to each on a desk.
+//! The server: it reads lines from a source, keeps what they do in two files, and says a reply to each on a desk; or it checks
+//! one specification.
 #![tactic(auto)]
 
 mod answer;
+mod check;
 mod header;
-mod meaning;
 mod notice;
 mod opening;
 mod opening_entries;
-mod persons;
 mod pieces;
 mod plan;
-mod reply;
 mod run;
 mod session;
 #[cfg(test)]

@@ -14,10 +14,10 @@ mod tests;
 
 use crate::header::{Head, header_fault, read_head, u64_in};
 use crate::opening_entries::read_entries;
-use crate::persons::Persons;
 use std::alloc::{AllocError, Global};
 use thiserror::Error;
 use yw_journal::{AppendFault, Journal};
+use yw_library::Library;
 use yw_outside::{Desk, Failed, File};
 
 /// Why the files weren't opened.
@@ -56,11 +56,11 @@ impl From<AllocError> for OpenFault {
     }
 }
 
-/// What the files hold when they are opened: the journal that goes on, and the persons.
+/// What the files hold when they are opened: the journal that goes on, and the persons and specifications.
 #[derive(Drop)]
 pub struct Opened {
     pub journal: Journal,
-    pub persons: Persons,
+    pub library: Library,
 }
 
 /// Syncs both files, so that a crash leaves of them what a read gives.
@@ -138,8 +138,8 @@ fn resume<D: Desk>(
     ensures looked { OnlyLooked D.moment D.left_since D.state D.may_leave D.tells D.disk_faults D.say_faults desk.old desk.new }
     ensures fault { IfErr result (HasFaultCause (λ f place. IsTrue (D.tells desk.old) → IsDamagedNow (D.state desk.old) f place) (D.disk_faults desk.old) (D.disk_faults desk.new)) }
 {
-    let mut persons = Persons::new(alloc);
-    let tail = read_entries(alloc, desk, head.len, &mut persons)?;
+    let mut library = Library::new(alloc);
+    let tail = read_entries(alloc, desk, head.len, &mut library)?;
     let journal = Journal {
         file: File::A,
         generation: u64_in(&head.bytes, 5),
@@ -147,7 +147,7 @@ fn resume<D: Desk>(
         limit,
         number: u64_in(&head.bytes, 13) + tail.records,
     };
-    Ok(Opened { journal, persons })
+    Ok(Opened { journal, library })
 }
 
 /// Makes file A, where no file is live.
@@ -169,7 +169,7 @@ fn begin<D: Desk>(alloc: Global, limit: u64, desk: &mut D) -> Result<Opened, Ope
     match Journal::make(desk, File::A, 1, 0, &[0; 9], limit) {
         Ok(journal) => Ok(Opened {
             journal,
-            persons: Persons::new(alloc),
+            library: Library::new(alloc),
         }),
         Err(AppendFault::Disk) => Err(OpenFault::Disk),
         Err(AppendFault::Full(_)) => unreachable!(),
@@ -180,7 +180,7 @@ fn begin<D: Desk>(alloc: Global, limit: u64, desk: &mut D) -> Result<Opened, Ope
 /// entries one after another. `Damaged` names the first damage, and comes exactly where the synced files hold no
 /// state that is read; not one byte is changed then. `Disk` comes only where a call of the files failed, and
 /// `Memory` where no memory was left. A crash at any moment leaves files that a crash might have left before, or
-/// files that hold the same state. The memory that it takes is that of the persons and of the longest entry.
+/// files that hold the same state. The memory that it takes is that of the persons and specifications and of the longest entry.
 pub fn open<D: Desk>(alloc: Global, limit: u64, desk: &mut D) -> Result<Opened, OpenFault>
     requires some { 64 ≤ limit }
     requires limit { limit ≤ 2 ^ 62 }

@@ -1,15 +1,18 @@
 // The entries of file A, one gate after another.
 ghost use Rattle.std.specs.Prelude.{◌≡◌, ◌≤◌, ◌<◌, ◌+◌, ◌^◌, ◌++◌, ◌∷◌, [], List, ℕ, IsTrue, IfOk, OnOk, IfErr, IfSome, MatchOption, Some, None, length, take, drop};
 ghost use Rattle.std.specs.Bool.{MatchBool};
-ghost use Rattle.yw_model.specs.State.{opening};
+ghost use Rattle.yw_model.specs.State.{State, opening};
+ghost use Rattle.yw_model.specs.declared.event.Event.TheVariants as events;
+ghost use Rattle.yw_library.specs.Holdings as kept;
 ghost use Rattle.yw_outside.specs.Causes.{HasCause};
-ghost use Rattle.yw_serve.specs.Damage.{after_event, after_events, after_bytes};
-ghost use Rattle.yw_serve.specs.Opening.{HasFaultCause, IsClosedHere, IsDamagedAt, IsReached, OnlyLooked, StandsHere};
+ghost use Rattle.yw_serve.specs.Damage.{EntryLeads};
+ghost use Rattle.yw_serve.specs.Opening.{AreApplied, HasFaultCause, IsApplied, IsClosedHere, IsDamagedAt, IsReached, OnlyLooked, StandsHere};
 
 use crate::opening::OpenFault;
-use crate::persons::Persons;
 use std::alloc::{AllocError, Global};
+use yw_base::{Name, NameList};
 use yw_codec::{CodecFault, read_entry};
+use yw_library::{Library, LibraryFault};
 use yw_model::Event;
 use yw_outside::{Desk, Failed, File};
 
@@ -84,45 +87,62 @@ fn record_at<D: Desk>(alloc: Global, desk: &mut D, at: u64, size: u32) -> Result
     Ok(bytes)
 }
 
-/// Whether an event is allowed. The persons are then those after it. An `Err` says that no memory was left.
-fn apply_event(persons: &mut Persons, event: Event) -> Result<bool, AllocError>
-    ensures { IfOk result (λ allowed. MatchBool allowed (after_event (record { persons = persons.old }) event ≡ Some (record { persons = persons.new }))
-        (after_event (record { persons = persons.old }) event ≡ None)) }
+/// Whether a person may have these roles. The library is then that after it. An `Err` says that no memory was
+/// left.
+fn apply_person(library: &mut Library, name: Name, roles: NameList) -> Result<bool, AllocError>
+    ensures { IfOk result (λ allowed. IsApplied (kept.state_of library.old) (events.Person name roles) allowed (kept.state_of library.new)) }
 {
-    match event {
-        Event::Person { name, roles } => {
-            if roles.len() > MOST_ROLES || !roles.are_distinct() {
-                return Ok(false);
-            }
-            persons.put(name, roles)?;
-            Ok(true)
-        }
+    if roles.len() > MOST_ROLES || !roles.are_distinct() {
+        return Ok(false);
+    }
+    library.person(name, roles)?;
+    Ok(true)
+}
+
+/// Whether a text may be loaded under a name. The library is then that after it. An `Err` says that no memory
+/// was left.
+fn apply_load(library: &mut Library, name: &Name, text: &str) -> Result<bool, AllocError>
+    ensures { IfOk result (λ allowed. IsApplied (kept.state_of library.old) (events.Load name.now text.now) allowed (kept.state_of library.new)) }
+{
+    match library.load(text) {
+        Ok(loaded) => Ok(loaded.as_str() == name.as_str()),
+        Err(LibraryFault::Refused(_)) => Ok(false),
+        Err(LibraryFault::Memory) => Err(AllocError),
     }
 }
 
-/// Whether each event is allowed in its turn. The persons are then those after all.
-fn apply_events(persons: &mut Persons, events: Vec<Event>) -> Result<bool, AllocError>
-    ensures { IfOk result (λ allowed. MatchBool allowed (after_events (record { persons = persons.old }) events.items ≡ Some (record { persons = persons.new }))
-        (after_events (record { persons = persons.old }) events.items ≡ None)) }
+/// Whether an event is allowed. The library is then that after it. An `Err` says that no memory was left.
+fn apply_event(library: &mut Library, event: Event) -> Result<bool, AllocError>
+    ensures { IfOk result (λ allowed. IsApplied (kept.state_of library.old) event allowed (kept.state_of library.new)) }
+{
+    match event {
+        Event::Person { name, roles } => apply_person(library, name, roles),
+        Event::Load { name, text } => apply_load(library, &name, text.as_str()),
+    }
+}
+
+/// Whether each event is allowed in its turn. The library is then that after all.
+fn apply_events(library: &mut Library, events: Vec<Event>) -> Result<bool, AllocError>
+    ensures { IfOk result (λ allowed. AreApplied (kept.state_of library.old) events.items allowed (kept.state_of library.new)) }
 {
     for event in events {
-        if !apply_event(persons, event)? {
+        if !apply_event(library, event)? {
             return Ok(false);
         }
     }
     Ok(true)
 }
 
-/// Whether these are an entry's bytes, each event of which is allowed in its turn. The persons are then those
+/// Whether these are an entry's bytes, each event of which is allowed in its turn. The library is then that
 /// after it.
-fn apply_entry(alloc: Global, persons: &mut Persons, bytes: &[u8]) -> Result<bool, AllocError>
-    ensures { IfOk result (λ allowed. MatchBool allowed (after_bytes (record { persons = persons.old }) bytes.now ≡ Some (record { persons = persons.new }))
-        (after_bytes (record { persons = persons.old }) bytes.now ≡ None)) }
+fn apply_entry(alloc: Global, library: &mut Library, bytes: &[u8]) -> Result<bool, AllocError>
+    ensures { IfOk result (λ allowed. MatchBool allowed (EntryLeads (kept.state_of library.old) bytes.now (kept.state_of library.new))
+        ((t : State) → EntryLeads (kept.state_of library.old) bytes.now t → ⊥)) }
 {
     match read_entry(alloc, bytes) {
         Ok((events, size)) => {
             if size == bytes.len() {
-                apply_events(persons, events.into_vec())
+                apply_events(library, events.into_vec())
             } else {
                 Ok(false)
             }
@@ -133,25 +153,25 @@ fn apply_entry(alloc: Global, persons: &mut Persons, bytes: &[u8]) -> Result<boo
 }
 
 /// Reads the entry behind the gate at an offset of file A, and answers the offset of the next gate, or `None`
-/// where this one is closed. The persons are then those after the entry.
+/// where this one is closed. The library is then that after the entry.
 fn next_entry<D: Desk>(
     alloc: Global,
     desk: &mut D,
     len: u64,
     at: u64,
-    persons: &mut Persons,
+    library: &mut Library,
 ) -> Result<Option<u64>, OpenFault>
     requires len { IsTrue (D.tells desk.old) → len ≡ length (D.state desk.old).a }
     requires bound { len < 2 ^ 63 }
     requires within { at ≤ len }
-    ensures reached { IsTrue (D.tells desk.old) → (records : List (List ℕ)) → IsReached (D.state desk.old).a at records (record { persons = persons.old })
+    ensures reached { IsTrue (D.tells desk.old) → (records : List (List ℕ)) → IsReached (D.state desk.old).a at records (kept.state_of library.old)
         → IfOk result (λ next. MatchOption next (IsClosedHere (drop at (D.state desk.old).a))
-        (λ behind. (bytes : List ℕ) × IsReached (D.state desk.old).a behind (records ++ bytes ∷ []) (record { persons = persons.new }))) }
-    ensures same { result ≡ Ok None → persons.new ≡ persons.old }
+        (λ behind. (bytes : List ℕ) × IsReached (D.state desk.old).a behind (records ++ bytes ∷ []) (kept.state_of library.new))) }
+    ensures same { result ≡ Ok None → library.new ≡ library.old }
     ensures progress { IfOk result (λ next. IfSome next (λ behind. (at < behind) × (behind ≤ len))) }
     ensures looked { OnlyLooked D.moment D.left_since D.state D.may_leave D.tells D.disk_faults D.say_faults desk.old desk.new }
     ensures fault { (records : List (List ℕ)) → IfErr result (HasFaultCause
-        (λ f place. IsTrue (D.tells desk.old) → IsReached (D.state desk.old).a at records (record { persons = persons.old }) → IsDamagedAt (D.state desk.old).a f place)
+        (λ f place. IsTrue (D.tells desk.old) → IsReached (D.state desk.old).a at records (kept.state_of library.old) → IsDamagedAt (D.state desk.old).a f place)
         (D.disk_faults desk.old) (D.disk_faults desk.new)) }
 {
     match gate_at(desk, len, at)? {
@@ -159,7 +179,7 @@ fn next_entry<D: Desk>(
         Gate::Cut => Err(OpenFault::Damaged(File::A, at)),
         Gate::Open(size) => {
             let bytes = record_at(alloc, desk, at, size)?;
-            if apply_entry(alloc, persons, &bytes)? {
+            if apply_entry(alloc, library, &bytes)? {
                 Ok(Some(at + 5 + u64::from(size)))
             } else {
                 Err(OpenFault::Damaged(File::A, at))
@@ -175,28 +195,28 @@ pub struct Tail {
     pub records: u64,
 }
 
-/// Reads all entries of file A, which has so many bytes and no snapshot. The persons are then those after them.
+/// Reads all entries of file A, which has so many bytes and no snapshot. The library is then that after them.
 pub fn read_entries<D: Desk>(
     alloc: Global,
     desk: &mut D,
     len: u64,
-    persons: &mut Persons,
+    library: &mut Library,
 ) -> Result<Tail, OpenFault>
     requires len { IsTrue (D.tells desk.old) → len ≡ length (D.state desk.old).a }
     requires bound { len < 2 ^ 63 }
     requires within { 29 ≤ len }
-    ensures reached { IsTrue (D.tells desk.old) → IsReached (D.state desk.old).a 29 [] (record { persons = persons.old })
+    ensures reached { IsTrue (D.tells desk.old) → IsReached (D.state desk.old).a 29 [] (kept.state_of library.old)
         → IfOk result (λ tail. IsClosedHere (drop tail.gate (D.state desk.old).a)
-        × ((records : List (List ℕ)) × IsReached (D.state desk.old).a tail.gate records (record { persons = persons.new }) × (length records ≡ tail.records))) }
+        × ((records : List (List ℕ)) × IsReached (D.state desk.old).a tail.gate records (kept.state_of library.new) × (length records ≡ tail.records))) }
     ensures bound { IfOk result (λ tail. (29 ≤ tail.gate) × (tail.gate ≤ len) × (tail.records ≤ tail.gate)) }
     ensures looked { OnlyLooked D.moment D.left_since D.state D.may_leave D.tells D.disk_faults D.say_faults desk.old desk.new }
     ensures fault { IfErr result (HasFaultCause
-        (λ f place. IsTrue (D.tells desk.old) → IsReached (D.state desk.old).a 29 [] (record { persons = persons.old }) → IsDamagedAt (D.state desk.old).a f place)
+        (λ f place. IsTrue (D.tells desk.old) → IsReached (D.state desk.old).a 29 [] (kept.state_of library.old) → IsDamagedAt (D.state desk.old).a f place)
         (D.disk_faults desk.old) (D.disk_faults desk.new)) }
 {
     let mut gate: u64 = 29;
     let mut records: u64 = 0;
-    while let Some(behind) = next_entry(alloc, desk, len, gate, persons)? {
+    while let Some(behind) = next_entry(alloc, desk, len, gate, library)? {
         gate = behind;
         records += 1;
     }

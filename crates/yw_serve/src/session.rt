@@ -1,9 +1,9 @@
 // A session: lines come, and each is answered when it has ended.
 ghost use Rattle.std.specs.Prelude.{◌≡◌, ◌≤◌, [], vec_len};
 
-use crate::persons::Persons;
 use std::alloc::Global;
 use yw_journal::Journal;
+use yw_library::Library;
 
 /// Why a session ends before its input does.
 #[derive(Clone, Copy, Debug, PartialEq, Eq)]
@@ -25,27 +25,28 @@ pub struct Session {
     pub front: Vec<u8>,
     /// The number of the next line, from 1.
     pub number: u64,
-    /// The roles of each person.
-    pub persons: Persons,
+    /// Persons and specifications.
+    pub library: Library,
     /// Where entries are appended.
     pub journal: Journal,
     ghost bounded: { vec_len front ≤ 1048577 },
 }
 
 impl Session {
+    ghost use Rattle.yw_library.specs.Holdings as kept;
     ghost use Rattle.yw_serve.specs.Session.{state_of};
 
     /// A session before its first line, with the state that the files hold. It takes no memory.
-    pub fn new(alloc: Global, persons: Persons, journal: Journal) -> Session
+    pub fn new(alloc: Global, library: Library, journal: Journal) -> Session
         ensures front { result.front.items ≡ [] }
         ensures number { result.number ≡ 1 }
-        ensures state { state_of result ≡ record { persons = persons } }
+        ensures state { state_of result ≡ kept.state_of library }
         ensures journal { result.journal ≡ journal }
     {
         Session {
             front: Vec::new(alloc),
             number: 1,
-            persons,
+            library,
             journal,
         }
     }

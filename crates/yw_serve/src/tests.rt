@@ -3,6 +3,7 @@ mod damage;
 mod failing;
 mod files;
 mod lines;
+mod loads;
 
 use crate::{Status, serve};
 use std::process::Abort;

@@ -13,24 +13,30 @@ ghost use Rattle.yw_serve.specs.Damage.{HoldNow};
 ghost use Rattle.yw_serve.specs.Desks.{Stands, KeepsCounts};
 ghost use Rattle.yw_serve.specs.Headline.{Serves, HoldsFront};
 ghost use Rattle.yw_serve.specs.Notices.{damage_line, full_line};
-ghost use Rattle.yw_serve.specs.Served.{RunEnds, RunsFrom, OpeningEnds, IsTold, IsOfRun, IsAnswered};
-ghost use Rattle.yw_serve.specs.Words.{IsRun};
+ghost use Rattle.yw_serve.specs.Served.{RunEnds, RunsFrom, OpeningEnds, IsTold, IsOfRun};
+ghost use Rattle.yw_serve.specs.Words.{IsCheck, IsRun};
+ghost use Rattle.yw_serve.specs.Checked.{Checks, IsOfCheck, status_of};
+ghost use Rattle.yw_verdict.specs.declared.finding.Finding.{Finding};
+ghost use Rattle.yw_verdict.specs.Ends.{KeepsFiles, verdict_of};
+ghost use Rattle.yw_verdict.specs.Found.{IsFound};
 
 use crate::answer::tell;
+use crate::check::serve_check;
 use crate::notice::{write_damage, write_full};
 use crate::opening::{OpenFault, Opened, open};
 use crate::run::{Ending, new_piece, run};
 use crate::session::{Session, Stop};
-use crate::words::file_limit;
+use crate::words::{file_limit, is_check};
 use std::alloc::{AllocError, Global};
+use yw_base::Bytes;
 use yw_outside::{Desk, File, Source};
 
 /// How the program ends. The program's exit status is the number, from 0.
 #[derive(Clone, Copy, Debug, PartialEq, Eq)]
 pub enum Status {
-    /// The input was read to its end, and every line answered.
+    /// The input was read to its end, and every line answered; or the text that was checked is accepted.
     Ok,
-    /// A text was looked at and found wanting. No words built so far look at one.
+    /// The text that was checked isn't accepted, and the line that says why was said.
     Findings,
     /// The words have none of the forms. Nothing was read, said or written.
     Usage,
@@ -54,16 +60,16 @@ pub enum Status {
 pub const INPUT_LIMIT: usize = 4_294_967_296;
 
 /// Says a line beside the replies, and answers this status where that could be done.
-fn tell_notice<D: Desk>(line: Result<String, AllocError>, status: Status, desk: &mut D) -> Status
+fn tell_notice<D: Desk>(line: Result<Bytes, AllocError>, status: Status, desk: &mut D) -> Status
     ensures told { IsTrue (D.tells desk.old) → MatchResult line
-        (λ text. IsTold D.moment D.left_since D.state D.may_leave result status (string_bytes text) desk.old desk.new)
+        (λ text. IsTold D.moment D.left_since D.state D.may_leave result status text desk.old desk.new)
         (λ _. (result ≡ Status.Memory) × (desk.new ≡ desk.old)) }
     ensures statuses { (result ≡ status) ⊎ (result ≡ Status.Write) ⊎ (result ≡ Status.Memory) }
     ensures counts { KeepsCounts D.tells D.disk_faults D.say_faults desk.old desk.new }
     ensures write { result ≡ Status.Write → (status ≡ Status.Write) ⊎ Rose (D.say_faults desk.old) (D.say_faults desk.new) }
 {
     match line {
-        Ok(line) => match tell(desk, line.as_str()) {
+        Ok(line) => match tell(desk, line.as_slice()) {
             Ok(()) => status,
             Err(_) => Status::Write,
         },
@@ -148,8 +154,8 @@ fn serve_lines<S: Source, D: Desk>(
     ensures disk { result ≡ Status.Disk → Rose (D.disk_faults desk.old) (D.disk_faults desk.new) }
     ensures write { result ≡ Status.Write → Rose (D.say_faults desk.old) (D.say_faults desk.new) }
 {
-    let Opened { journal, persons } = opened;
-    let mut session = Session::new(alloc, persons, journal);
+    let Opened { journal, library } = opened;
+    let mut session = Session::new(alloc, library, journal);
     let ending = run(alloc, INPUT_LIMIT, &mut session, piece, source, desk);
     status_of(alloc, ending, desk)
 }
@@ -189,11 +195,14 @@ fn serve_files<S: Source, D: Desk>(
 /// the disk before its reply is said. The answers and the files' entries are a run over the lines, as `yw_model`
 /// defines it, from the state on that the files held.
 ///
+/// Or the words are `check`: the source gives the TOML text of one specification, and one line says whether it is
+/// accepted, or else the first fault, as `judge_input` of `yw_verdict` says it. No file is touched.
+///
 /// It answers `Usage` exactly where the words are others, and then calls neither source nor desk; `Disk` only
 /// where a call of the files failed, `Read` only where one of the source did, `Write` only where a say did;
 /// `Damaged` exactly where the synced files hold no state; `Full` exactly where an entry would end past N;
-/// `InputLimit` exactly where more than `INPUT_LIMIT` bytes came; `Memory` where no memory was left; and no other
-/// status but `Ok`.
+/// `InputLimit` exactly where more than `INPUT_LIMIT` bytes came; `Findings` exactly where a text isn't accepted
+/// that was checked; `Memory` where no memory was left; and no other status but `Ok`.
 pub fn serve<S: Source, D: Desk>(
     alloc: Global,
     words: &[String],
@@ -206,8 +215,9 @@ pub fn serve<S: Source, D: Desk>(
         ⊎ RunsFrom D.moment D.left_since D.state D.may_leave (λ c s opened. RunEnds D.moment D.left_since D.state D.may_leave result c s limit INPUT_LIMIT bytes (S.left source.new) (S.piece source.new) opened desk.new) desk.old }
 
     // Each answer has its cause.
-    ensures answered { IsAnswered result }
-    ensures usage { (result ≡ Status.Usage) ↔ ((limit : ℕ) → ¬ (IsRun words.now limit)) }
+    ensures of_run { (limit : ℕ) → IsRun words.now limit → IsOfRun result }
+    ensures of_check { IsCheck words.now → IsOfCheck result }
+    ensures usage { (result ≡ Status.Usage) ↔ (((limit : ℕ) → ¬ (IsRun words.now limit)) × ¬ (IsCheck words.now)) }
     ensures usage_calls_nothing { result ≡ Status.Usage → (source.new ≡ source.old) × (desk.new ≡ desk.old) }
     ensures disk_cause { result ≡ Status.Disk → Rose (D.disk_faults desk.old) (D.disk_faults desk.new) }
     ensures read_cause { result ≡ Status.Read → Rose (S.faults source.old) (S.faults source.new) }
@@ -230,9 +240,21 @@ pub fn serve<S: Source, D: Desk>(
     ensures crash { IsTrue (D.tells desk.old) → (limit : ℕ) (bytes : List ℕ) (c : Content) (s : State) → IsRun words.now limit → S.left source.old ≡ Some bytes
         → HoldNow c s (D.state desk.old) → (k : Image) → D.left_since desk.new (D.moment desk.old) k
         → LeftByOpening (D.may_leave desk.old) (D.state desk.old) k ⊎ HoldsFront s (lines bytes true) (D.state desk.old).said k }
+
+    // A text that is checked has the verdict that is said, and no other; also where the desk doesn't tell what was said.
+    ensures checks { IsTrue (D.tells desk.old) → (bytes : List ℕ) → IsCheck words.now → S.left source.old ≡ Some bytes
+        → Checks D.moment D.left_since D.state D.may_leave result bytes (S.left source.new) desk.old desk.new }
+    ensures judges { (bytes : List ℕ) (finding : Finding) → IsCheck words.now → S.left source.old ≡ Some bytes → IsFound bytes finding
+        → (result ≡ status_of (verdict_of finding)) ⊎ (result ≡ Status.Memory) ⊎ (result ≡ Status.Read) ⊎ (result ≡ Status.Write) }
+    ensures check_keeps_files { IsCheck words.now → KeepsFiles D.moment D.left_since D.state D.may_leave D.disk_faults desk.old desk.new }
+    ensures check_complete { IsCheck words.now → ¬ (Rose (S.faults source.old) (S.faults source.new)) → ¬ (Rose (D.say_faults desk.old) (D.say_faults desk.new))
+        → (result ≡ Status.Ok) ⊎ (result ≡ Status.Findings) ⊎ (result ≡ Status.Memory) }
 {
-    match file_limit(words) {
-        Some(limit) => serve_files(alloc, limit, source, desk),
-        None => Status::Usage,
+    if let Some(limit) = file_limit(words) {
+        return serve_files(alloc, limit, source, desk);
     }
+    if is_check(words) {
+        return serve_check(alloc, source, desk);
+    }
+    Status::Usage
 }

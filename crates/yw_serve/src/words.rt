@@ -1,6 +1,6 @@
 // The program's words.
-ghost use Rattle.std.specs.Prelude.{◌≡◌, ◌≤◌, ◌<◌, ◌^◌, ◌∷◌, [], ℕ, map, codes, IfSome, IsNone, IsTrue, string_bytes};
-ghost use Rattle.yw_serve.specs.Words.{Spells, IsLimit, IsRun};
+ghost use Rattle.std.specs.Prelude.{◌≡◌, ◌↔◌, ◌≤◌, ◌<◌, ◌^◌, ◌∷◌, [], ℕ, map, codes, IfSome, IsNone, IsTrue, string_bytes};
+ghost use Rattle.yw_serve.specs.Words.{Spells, IsCheck, IsLimit, IsRun};
 
 const LEAST_LIMIT: u64 = 64;
 
@@ -33,7 +33,7 @@ fn limit_in(text: &str) -> Option<u64>
     }
 }
 
-/// The limit of a file's length that the words give, and `None` exactly where they have none of the forms.
+/// The limit of a file's length that the words give, and `None` exactly where they aren't those of a run.
 pub fn file_limit(words: &[String]) -> Option<u64>
     ensures some { IfSome result (IsRun words.now) }
     ensures none { IsNone result → (limit : ℕ) → ¬ IsRun words.now limit }
@@ -55,5 +55,15 @@ pub fn file_limit(words: &[String]) -> Option<u64>
             }
         }
         _ => None,
+    }
+}
+
+/// The words are `check` alone.
+pub fn is_check(words: &[String]) -> bool
+    ensures { IsTrue result ↔ IsCheck words.now }
+{
+    match words {
+        [word] => word.as_str() == "check",
+        _ => false,
     }
 }

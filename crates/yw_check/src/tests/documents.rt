@@ -171,3 +171,55 @@ max = 5
 threshold = 2
 "#
 }
+
+/// Two nets, the lower one first, with conditions, removals, values of each sort, branches in another order
+/// than flows, and tasks of several items with and without bounds.
+pub fn rich() -> &'static str {
+    r#"
+name = "rich"
+top = "main"
+[[net]]
+name = "child"
+input = "x"
+output = "y"
+vars = [{name="m",sort="text",use="inout"},{name="k",sort="ints",use="out",init=[3,-4]}]
+flows = [["x","t"],["t","y"]]
+[[net.task]]
+name = "t"
+[[net]]
+name = "main"
+input = "i"
+output = "o"
+conditions = ["c","d"]
+vars = [{name="flag",sort="bool",use="in",init=true},{name="no",sort="bool"},{name="count",sort="int",init=-7},{name="word",sort="text",init="w"},{name="numbers",sort="ints"},{name="words",sort="texts",use="out",init=["p","q"]}]
+flows = [["i","a"],["a","b"],["a","c"],["c","b"],["b","d"],["d","e"],["b","e"],["e","o"]]
+[[net.task]]
+name = "a"
+split = "or"
+branch = [{to="c",when="flag"},{to="b"}]
+ins = [{name="p",sort="int",value="count"},{name="q",sort="text"}]
+outs = [{name="r",sort="int"}]
+set = [{var="numbers",value="r"}]
+each = "words"
+item = "q"
+min = 2
+max = 3
+threshold = 1
+[[net.task]]
+name = "b"
+kind = "sub"
+net = "child"
+join = "or"
+ins = [{name="m",sort="text"}]
+outs = [{name="m",sort="text"}]
+set = [{var="words",value="m"},{var="count",value="len(m) + count"}]
+each = "words"
+item = "m"
+dynamic = true
+[[net.task]]
+name = "e"
+kind = "empty"
+join = "xor"
+remove = ["b->e","a","c","b","a->b"]
+"#
+}

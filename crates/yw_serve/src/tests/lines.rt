@@ -96,7 +96,7 @@ fn cuts_no_long_line(rt: HostRuntime) -> Result<(), Fail> {
         serve(rt.alloc(), &words, &mut source, &mut desk),
         Status::Ok
     );
-    let want = r#"{"at":"","n":1,"ok":false,"rule":"NotBuilt"}
+    let want = r#"{"at":"","n":1,"ok":false,"rule":"LineTooLong"}
 {"n":2,"ok":true,"quiet":true,"steps":["person ann"]}
 "#;
     assert_eq!(rt; image_of(&desk)?.said.as_slice(), want.as_bytes());
@@ -118,7 +118,7 @@ fn serves_what_never_fails(rt: HostRuntime) -> Result<(), Fail> {
 
 #[test]
 fn knows_its_words(rt: HostRuntime) -> Result<(), Fail> {
-    let cases: [&[&str]; 9] = [
+    let cases: [&[&str]; 11] = [
         &[],
         &["run", "--limit", "63"],
         &["run", "--limit", "1073741825"],
@@ -128,6 +128,8 @@ fn knows_its_words(rt: HostRuntime) -> Result<(), Fail> {
         &["run", "run"],
         &["Run"],
         &["--help"],
+        &["check", "run"],
+        &["Check"],
     ];
     for case in cases {
         let mut desk = desk_of(&rt, &[], &[], &[1])?;

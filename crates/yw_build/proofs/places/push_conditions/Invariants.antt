@@ -1,5 +1,5 @@
 use Rattle.std.proofs.Common.{◌≡◌, ◌++◌, take, map}
-use Rattle.yw_model.specs.declared.spec.Place.TheVariants as places
+use Rattle.yw_spec.specs.declared.spec.Place.TheVariants as places
 use Rattle.yw_build.proofs.places.push_conditions.Given as goal
 
 abbrev pub invariant-loop-name : goal.invariant-loop-name

@@ -19,7 +19,7 @@ returns-then-at-bytes-clause-bad c = λ bad event rest is split.
     let n = c.in_ok-name.name in
     let name = subst (λ (l : List ℕ). l ≡ name_bytes n ++ drop (1 + length n) l) (take_rest bytes 1) c.in_ok-name.ensures.ok in
     let short : length bytes ≤ 2 + length n = omega (arith, c.if-at-bytes.true, ap length c.as_str.ensures.text) in
-    no_count event rest bytes n is split name short
+    no_count event rest bytes n is split c.requires.tag name short
 
 pub returns-in_err-roles-clause-bad : goal.returns-in_err-roles-clause-bad
 returns-in_err-roles-clause-bad c =
@@ -30,7 +30,7 @@ returns-in_err-roles-clause-bad c =
     let at = 2 + length c.as_str.result.now in
     let name = subst (λ (l : List ℕ). l ≡ name_bytes n ++ drop (1 + length n) l) (take_rest bytes 1) c.in_ok-name.ensures.ok in
     let place : at ≡ 2 + length n = ap (λ (l : List ℕ). 2 + length l) c.as_str.ensures.text in
-    let roles = counted_roles event rest bytes n at is split name place c.if-at-bytes.false in
+    let roles = counted_roles event rest bytes n at is split c.requires.tag name place c.if-at-bytes.false in
     c.in_err-roles.ensures.bad bad roles.0 rest roles.1 roles.2 (take_rest bytes (at + 1) ∙ roles.3))
 
 pub returns-clause-ok : goal.returns-clause-ok

@@ -35,7 +35,7 @@ returns-in-Refuse-clause-ok g c = IfOk-weaker c.tell.result _ _ (λ x said tells
     let told = c.tell.ensures in
     let first = leaves_nothing D.moment D.left_since D.state D.may_leave old (OfSteps journal.file content (step ∷ []) (D.state old)) settled (g.met.D.Desk.said_by_now old) (g.met.D.Desk.only_now old)
     (not_begun journal.file content step (D.state old) (D.state old) (journal.end, current.holds) refl refl) in
-    done_by_telling D.moment D.left_since D.state D.may_leave content step journal old old c.tell.new.desk c.as_str.result.now (c.as_str.ensures.value ∙ sym d.1)
+    done_by_telling D.moment D.left_since D.state D.may_leave content step journal old old c.tell.new.desk c.as_slice.result.now (c.as_slice.ensures ∙ sym d.1)
     (current_none journal content step (D.state old) d.0 current) refl refl first (told.any_moment tells settled) told.a told.b (said tells) (told.settled tells settled)) c.tell.ensures.said
 
 pub returns-in-Refuse-clause-moments : goal.returns-in-Refuse-clause-moments
@@ -47,7 +47,7 @@ returns-in-Refuse-clause-moments g c = IfErr-weaker c.tell.result _ _ (λ x writ
     let settled = c.requires.stands.settled tells in
     let first = leaves_nothing D.moment D.left_since D.state D.may_leave old (OfSteps journal.file content (step ∷ []) (D.state old)) settled (g.met.D.Desk.said_by_now old) (g.met.D.Desk.only_now old)
     (not_begun journal.file content step (D.state old) (D.state old) (journal.end, current.holds) refl refl) in
-    leaves_telling D.moment D.left_since D.state D.may_leave content step journal old old c.tell.new.desk c.as_str.result.now (c.as_str.ensures.value ∙ sym d.1)
+    leaves_telling D.moment D.left_since D.state D.may_leave content step journal old old c.tell.new.desk c.as_slice.result.now (c.as_slice.ensures ∙ sym d.1)
     (current_none journal content step (D.state old) d.0 current) refl refl first (c.tell.ensures.any_moment tells settled)) c.tell.ensures.write
 
 pub returns-in-Ok-clause-ok : goal.returns-in-Ok-clause-ok
@@ -59,7 +59,7 @@ returns-in-Ok-clause-ok g c = IfOk-weaker c.tell-in-Ok.result _ _ (λ x said tel
     let journal = c.append.new.self in
     let d = does_as c.args.plan.now (Accept c.in-Accept.entry c.in-Accept.reply) step c.in-Accept.is does in
     let bytes : List ℕ = entry_bytes d.0 in
-    let whole : IsFramed c.deref.result.now bytes = framed_as c.deref.result.now bytes (framed d.0) (c.deref.ensures.value ∙ d.2) d.3 in
+    let whole : IsFramed c.as_slice-in-Accept.result.now bytes = framed_as c.as_slice-in-Accept.result.now bytes (framed d.0) (c.as_slice-in-Accept.ensures ∙ d.2) d.3 in
     let kept = c.in-Ok.ensures in
     let file : journal.file ≡ before.file = ap (λ j. j.file) kept.journal in
     let tells_mid = kept.tells ∙ tells in
@@ -68,7 +68,7 @@ returns-in-Ok-clause-ok g c = IfOk-weaker c.tell-in-Ok.result _ _ (λ x said tel
     (λ i h. subst (λ (f : File). OfSteps f content (step ∷ []) (D.state old) i) (sym file) (of_append before.file content step d.0 (D.state old) i d.1 h)) in
     let other : other_in journal.file (D.state mid) ≡ other_in journal.file (D.state old) = subst (λ (f : File). other_in f (D.state mid) ≡ other_in f (D.state old)) (sym file) (kept.other tells) in
     let told = c.tell-in-Ok.ensures in
-    done_by_telling D.moment D.left_since D.state D.may_leave content step journal old mid c.tell-in-Ok.new.desk c.as_str-in-Ok.result.now (c.as_str-in-Ok.ensures.value ∙ sym d.4)
+    done_by_telling D.moment D.left_since D.state D.may_leave content step journal old mid c.tell-in-Ok.new.desk c.as_slice-in-Ok.result.now (c.as_slice-in-Ok.ensures ∙ sym d.4)
     (current_one journal content step d.0 (D.state mid) d.1 (kept.ok tells content bytes current whole)) (kept.said tells) other first (told.any_moment tells_mid settled) told.a told.b (said tells_mid) (told.settled tells_mid settled))
     c.tell-in-Ok.ensures.said
 
@@ -81,14 +81,14 @@ returns-in-Ok-clause-moments g c = IfErr-weaker c.tell-in-Ok.result _ _ (λ x wr
     let journal = c.append.new.self in
     let d = does_as c.args.plan.now (Accept c.in-Accept.entry c.in-Accept.reply) step c.in-Accept.is does in
     let bytes : List ℕ = entry_bytes d.0 in
-    let whole : IsFramed c.deref.result.now bytes = framed_as c.deref.result.now bytes (framed d.0) (c.deref.ensures.value ∙ d.2) d.3 in
+    let whole : IsFramed c.as_slice-in-Accept.result.now bytes = framed_as c.as_slice-in-Accept.result.now bytes (framed d.0) (c.as_slice-in-Accept.ensures ∙ d.2) d.3 in
     let kept = c.in-Ok.ensures in
     let file : journal.file ≡ before.file = ap (λ j. j.file) kept.journal in
     let first = weakened D.moment D.left_since old mid (IsBeforeOrAfter before.file content bytes (D.state old)) (OfSteps journal.file content (step ∷ []) (D.state old)) (kept.any_moment tells content bytes current whole)
     (λ i h. subst (λ (f : File). OfSteps f content (step ∷ []) (D.state old) i) (sym file) (of_append before.file content step d.0 (D.state old) i d.1 h)) in
     let other : other_in journal.file (D.state mid) ≡ other_in journal.file (D.state old) = subst (λ (f : File). other_in f (D.state mid) ≡ other_in f (D.state old)) (sym file) (kept.other tells) in
     subst (λ (f : File). LeavesOnly D.moment D.left_since old c.tell-in-Ok.new.desk (OfSteps f content (step ∷ []) (D.state old))) file
-    (leaves_telling D.moment D.left_since D.state D.may_leave content step journal old mid c.tell-in-Ok.new.desk c.as_str-in-Ok.result.now (c.as_str-in-Ok.ensures.value ∙ sym d.4)
+    (leaves_telling D.moment D.left_since D.state D.may_leave content step journal old mid c.tell-in-Ok.new.desk c.as_slice-in-Ok.result.now (c.as_slice-in-Ok.ensures ∙ sym d.4)
     (current_one journal content step d.0 (D.state mid) d.1 (kept.ok tells content bytes current whole)) (kept.said tells) other first (c.tell-in-Ok.ensures.any_moment (kept.tells ∙ tells) (kept.settled tells))))
     c.tell-in-Ok.ensures.write
 
@@ -100,7 +100,7 @@ returns-in-Ok-clause-stands g c = IfOk-weaker c.tell-in-Ok.result _ _ (λ x said
     let kept = c.in-Ok.ensures in
     let told = c.tell-in-Ok.ensures in
     let framed = can_append c.args.plan.now (Accept c.in-Accept.entry c.in-Accept.reply) c.in-Accept.is c.requires.framed in
-    let whole : IsFramed c.deref.result.now framed.0 = subst (λ (l : List ℕ). IsFramed l framed.0) (sym c.deref.ensures.value) framed.1 in
+    let whole : IsFramed c.as_slice-in-Accept.result.now framed.0 = subst (λ (l : List ℕ). IsFramed l framed.0) (sym c.as_slice-in-Accept.ensures) framed.1 in
     record {
       ready = kept.ready;
       current = λ telling.
@@ -120,7 +120,7 @@ returns-in-Err-Disk-clause-moments g c = λ tells content step current does.
     let before = c.args.journal.now in
     let d = does_as c.args.plan.now (Accept c.in-Accept.entry c.in-Accept.reply) step c.in-Accept.is does in
     let bytes : List ℕ = entry_bytes d.0 in
-    let whole : IsFramed c.deref.result.now bytes = framed_as c.deref.result.now bytes (framed d.0) (c.deref.ensures.value ∙ d.2) d.3 in
+    let whole : IsFramed c.as_slice-in-Accept.result.now bytes = framed_as c.as_slice-in-Accept.result.now bytes (framed d.0) (c.as_slice-in-Accept.ensures ∙ d.2) d.3 in
     weakened D.moment D.left_since old c.append.new.desk (IsBeforeOrAfter before.file content bytes (D.state old)) (OfSteps before.file content (step ∷ []) (D.state old)) (c.append.ensures.any_moment tells content bytes current whole)
     (λ i h. of_append before.file content step d.0 (D.state old) i d.1 h)
 
@@ -131,6 +131,6 @@ returns-in-Err-Full-clause-moments g c = λ tells content step current does.
     let before = c.args.journal.now in
     let d = does_as c.args.plan.now (Accept c.in-Accept.entry c.in-Accept.reply) step c.in-Accept.is does in
     let bytes : List ℕ = entry_bytes d.0 in
-    let whole : IsFramed c.deref.result.now bytes = framed_as c.deref.result.now bytes (framed d.0) (c.deref.ensures.value ∙ d.2) d.3 in
+    let whole : IsFramed c.as_slice-in-Accept.result.now bytes = framed_as c.as_slice-in-Accept.result.now bytes (framed d.0) (c.as_slice-in-Accept.ensures ∙ d.2) d.3 in
     weakened D.moment D.left_since old c.append.new.desk (IsBeforeOrAfter before.file content bytes (D.state old)) (OfSteps before.file content (step ∷ []) (D.state old)) (c.append.ensures.any_moment tells content bytes current whole)
     (λ i h. of_append before.file content step d.0 (D.state old) i d.1 h)

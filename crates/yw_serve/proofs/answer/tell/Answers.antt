@@ -1,6 +1,3 @@
-use Rattle.std.proofs.Common.{List, ℕ, subst}
-use Rattle.yw_outside.specs.Image.{Speaks}
-use Rattle.yw_outside.specs.Moments.{After, LeavesOnly}
 use Rattle.yw_serve.proofs.Telling.{told, told_after}
 use Rattle.yw_serve.proofs.answer.tell.Goals as goal
 
@@ -9,29 +6,25 @@ returns-in-Ok-clause-any_moment g c = λ tells settled.
     let D = g.D.Desk in
     let old = c.args.desk.now in
     let new = c.say.new.self in
-    subst (λ (text : List ℕ). LeavesOnly D.moment D.left_since old new (Speaks text (D.state old))) c.as_bytes.ensures.value
-    (told D.moment D.left_since old new (D.state old) (D.may_leave old) (D.may_leave new) c.as_bytes.result.now settled (g.met.D.Desk.said_by_now old) (g.met.D.Desk.only_now old) c.in-Ok.ensures.time)
+    told D.moment D.left_since old new (D.state old) (D.may_leave old) (D.may_leave new) c.args.text.now settled (g.met.D.Desk.said_by_now old) (g.met.D.Desk.only_now old) c.in-Ok.ensures.time
 
 pub returns-in-Err-clause-any_moment : goal.returns-in-Err-clause-any_moment
 returns-in-Err-clause-any_moment g c = λ tells settled.
     let D = g.D.Desk in
     let old = c.args.desk.now in
     let new = c.say.new.self in
-    subst (λ (text : List ℕ). LeavesOnly D.moment D.left_since old new (Speaks text (D.state old))) c.as_bytes.ensures.value
-    (told D.moment D.left_since old new (D.state old) (D.may_leave old) (D.may_leave new) c.as_bytes.result.now settled (g.met.D.Desk.said_by_now old) (g.met.D.Desk.only_now old) c.in-Err.ensures.time)
+    told D.moment D.left_since old new (D.state old) (D.may_leave old) (D.may_leave new) c.args.text.now settled (g.met.D.Desk.said_by_now old) (g.met.D.Desk.only_now old) c.in-Err.ensures.time
 
 pub returns-in-Ok-clause-passes : goal.returns-in-Ok-clause-passes
 returns-in-Ok-clause-passes g c = λ tells.
     let D = g.D.Desk in
     let old = c.args.desk.now in
     let new = c.say.new.self in
-    subst (λ (text : List ℕ). LeavesOnly D.moment D.left_since old new (After (Speaks text) (D.may_leave old))) c.as_bytes.ensures.value
-    (told_after D.moment D.left_since old new (D.may_leave old) (D.may_leave new) c.as_bytes.result.now (g.met.D.Desk.only_now old) c.in-Ok.ensures.time)
+    told_after D.moment D.left_since old new (D.may_leave old) (D.may_leave new) c.args.text.now (g.met.D.Desk.only_now old) c.in-Ok.ensures.time
 
 pub returns-in-Err-clause-passes : goal.returns-in-Err-clause-passes
 returns-in-Err-clause-passes g c = λ tells.
     let D = g.D.Desk in
     let old = c.args.desk.now in
     let new = c.say.new.self in
-    subst (λ (text : List ℕ). LeavesOnly D.moment D.left_since old new (After (Speaks text) (D.may_leave old))) c.as_bytes.ensures.value
-    (told_after D.moment D.left_since old new (D.may_leave old) (D.may_leave new) c.as_bytes.result.now (g.met.D.Desk.only_now old) c.in-Err.ensures.time)
+    told_after D.moment D.left_since old new (D.may_leave old) (D.may_leave new) c.args.text.now (g.met.D.Desk.only_now old) c.in-Err.ensures.time

@@ -4,6 +4,7 @@ use Rattle.yw_outside.specs.declared.desk.File.TheVariants.{A}
 use Rattle.yw_journal.specs.Files as files
 use Rattle.yw_journal.specs.Journal.{IsCurrent, IsBeforeOrMade}
 use Rattle.yw_journal.proofs.Passing.{weakened}
+use Rattle.yw_library.specs.Holdings as library
 use Rattle.yw_model.specs.State.{State, opening}
 use Rattle.yw_serve.specs.Damage.{HoldNow}
 use Rattle.yw_serve.specs.Opening.{LeftByOpening}
@@ -22,8 +23,8 @@ returns-in-Ok-clause-opened g c = λ tells.
     let current : IsCurrent c.in-Ok.journal fresh j = here.current tells files.opening [] (inl (none_live i chosen, refl)) framed_nothing in
     let a : c.in-Ok.journal.file ≡ A = search rules in
     let holds : files.Holds A fresh c.in-Ok.journal.end j = subst (λ (f : File). files.Holds f fresh c.in-Ok.journal.end j) a current.holds in
-    let s : State = record { persons = c.new.result } in
-    let nobody : s ≡ opening = cc in
+    let s : State = library.state_of c.new.result in
+    let nobody : s ≡ opening = c.new.ensures.state in
     record {
       before = files.opening;
       held = subst (λ (s : State). HoldNow files.opening s i) (sym nobody) (held_nothing i chosen);

@@ -1,10 +1,13 @@
-use Rattle.std.proofs.Common.{◌≡◌}
+use Rattle.std.proofs.Common.{◌≡◌, Bool}
 use Rattle.std.specs.Vec.Iter.{into_iter_items}
-use Rattle.yw_serve.specs.Damage.{after_events}
+use Rattle.yw_library.specs.Holdings as library
+use Rattle.yw_model.specs.State.{State}
+use Rattle.yw_serve.specs.Opening.{AreApplied}
 use Rattle.yw_serve.proofs.opening_entries.apply_events.Given as goal
 
+-- what comes of the further events from here on comes of all from the start
 abbrev pub invariant-loop-event : goal.invariant-loop-event
 invariant-loop-event l =
     (goal.iterator-loop-event).can_next l.event-iterator ×
     (goal.iterator-loop-event).is_finite l.event-iterator ×
-    (after_events (record { persons = l.fn.persons }) l.fn.events.items ≡ after_events (record { persons = l.persons }) (into_iter_items l.event-iterator))
+    ((allowed : Bool) (t : State) → AreApplied (library.state_of l.library) (into_iter_items l.event-iterator) allowed t → AreApplied (library.state_of l.fn.library) l.fn.events.items allowed t)

@@ -1,6 +1,7 @@
 use Rattle.std.proofs.Common.{◌≡◌, ◌+◌, ℕ, List, [], ◌∷◌, ◌++◌, IsTrue, None, Result, Ok, Err, IfErr, drop, sym, ap, ◌∙◌, subst, rules, length-append}
 use Rattle.yw_outside.specs.declared.desk.File.{File}
 use Rattle.yw_outside.specs.declared.image.Image.{Image}
+use Rattle.yw_library.specs.Holdings as library
 use Rattle.yw_model.specs.State.{State}
 use Rattle.yw_serve.specs.Opening.{HasFaultCause, IsClosedHere, IsDamagedAt, IsReached}
 use Rattle.yw_serve.specs.declared.opening.OpenFault.{OpenFault}
@@ -15,8 +16,8 @@ returns-in_err-behind-clause-fault g c =
     let mid = c.loop-behind.desk in
     let new = c.next_entry.new.desk in
     let inv = c.loop-behind.invariant in
-    let s : State = record { persons = c.args.persons.now } in
-    let t : State = record { persons = c.loop-behind.persons } in
+    let s : State = library.state_of c.args.library.now in
+    let t : State = library.state_of c.loop-behind.library in
     let whole = λ (f : File) (place : ℕ). IsTrue (D.tells old) → IsReached (D.state old).a 29 [] s → IsDamagedAt (D.state old).a f place in
     let found = λ (records : List (List ℕ)) (f : File) (place : ℕ). IsTrue (D.tells mid) → IsReached (D.state mid).a c.loop-behind.gate records t → IsDamagedAt (D.state mid).a f place in
     let fault : OpenFault = c.in_err-behind.field-0.0 in
@@ -37,9 +38,9 @@ loop-behind-preserved g c =
     let mid = c.loop-behind.desk in
     let new = c.next_entry.new.desk in
     let inv = c.loop-behind.invariant in
-    let s : State = record { persons = c.args.persons.now } in
-    let t : State = record { persons = c.loop-behind.persons } in
-    let u : State = record { persons = c.next_entry.new.persons } in
+    let s : State = library.state_of c.args.library.now in
+    let t : State = library.state_of c.loop-behind.library in
+    let u : State = library.state_of c.next_entry.new.library in
     record {
       looked = looked_on D.moment D.left_since D.state D.may_leave D.tells D.disk_faults D.say_faults old mid new inv.looked c.in_ok-behind.ensures.looked;
       low = search rules;
@@ -61,15 +62,15 @@ returns-clause-reached g c = λ tells start.
     let D = g.D.Desk in
     let mid = c.loop-behind.desk in
     let inv = c.loop-behind.invariant in
-    let t : State = record { persons = c.loop-behind.persons } in
-    let u : State = record { persons = c.next_entry.new.persons } in
+    let t : State = library.state_of c.loop-behind.library in
+    let u : State = library.state_of c.next_entry.new.library in
     let reached = inv.reached tells start in
     let none : c.in_ok-behind.field-0 ≡ None = search rules in
     let next = c.in_ok-behind.ensures.reached (inv.looked.telling ∙ tells) reached.0 (subst (λ (i : Image). IsReached i.a c.loop-behind.gate reached.0 t) (sym inv.looked.same) reached.1) in
     let here = none_case c.in_ok-behind.field-0 (IsClosedHere (drop c.loop-behind.gate (D.state mid).a))
     (λ (behind : ℕ). (bytes : List ℕ) × IsReached (D.state mid).a behind (reached.0 ++ bytes ∷ []) u) none next in
-    let same : c.next_entry.new.persons ≡ c.loop-behind.persons = c.in_ok-behind.ensures.same (ap Ok none) in
-    let as_before : t ≡ u = cc in (
+    let same : c.next_entry.new.library ≡ c.loop-behind.library = c.in_ok-behind.ensures.same (ap Ok none) in
+    let as_before : t ≡ u = ap library.state_of (sym same) in (
       subst (λ (i : Image). IsClosedHere (drop c.loop-behind.gate i.a)) inv.looked.same here,
       (reached.0, subst (λ (p : State). IsReached (D.state c.args.desk.now).a c.loop-behind.gate reached.0 p) as_before reached.1, reached.2),
     )

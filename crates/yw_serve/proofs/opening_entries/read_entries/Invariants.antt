@@ -1,4 +1,5 @@
 use Rattle.std.proofs.Common.{◌≡◌, ◌≤◌, ◌+◌, ◌-◌, ℕ, List, [], length, IsTrue}
+use Rattle.yw_library.specs.Holdings as library
 use Rattle.yw_serve.specs.Opening.{IsReached, OnlyLooked}
 use Rattle.yw_serve.proofs.opening_entries.read_entries.Given as goal
 
@@ -9,8 +10,8 @@ invariant-loop-behind g l =
       low : 29 ≤ l.gate;
       within : l.gate ≤ l.len;
       few : l.records + 29 ≤ l.gate;
-      reached : IsTrue (D.tells l.initial.desk) → IsReached (D.state l.initial.desk).a 29 [] (record { persons = l.initial.persons })
-          → (records : List (List ℕ)) × IsReached (D.state l.initial.desk).a l.gate records (record { persons = l.persons }) × (length records ≡ l.records);
+      reached : IsTrue (D.tells l.initial.desk) → IsReached (D.state l.initial.desk).a 29 [] (library.state_of l.initial.library)
+          → (records : List (List ℕ)) × IsReached (D.state l.initial.desk).a l.gate records (library.state_of l.library) × (length records ≡ l.records);
     }
 
 abbrev pub decreases-loop-behind : goal.decreases-loop-behind

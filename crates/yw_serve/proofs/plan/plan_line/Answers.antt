@@ -1,31 +1,17 @@
-use Rattle.std.proofs.Common.{◌≡◌, [], string_bytes, refl, sym, ◌∙◌, subst}
+use Rattle.std.proofs.Common.{Ok, ap, refl, ◌∙◌}
 use Rattle.std.proofs.lemmas.Result.{IfOk-weaker}
-use Rattle.yw_model.specs.Run.{Step, MeaningAnswers}
-use Rattle.yw_model.specs.State.{State}
-use Rattle.yw_model.specs.Meaning.{meaning}
-use Rattle.yw_model.specs.declared.speech.Meaning.{Meaning}
-use Rattle.yw_model.specs.declared.speech.Meaning.TheVariants.{Bad, Asks}
-use Rattle.yw_model.proofs.MeaningLemmas.{proper}
+use Rattle.yw_library.specs.Holdings as library
+use Rattle.yw_wire.specs.Faults.{rule_of}
+use Rattle.yw_serve.proofs.Planning.{fault_line, query_line}
 use Rattle.yw_serve.proofs.plan.plan_line.Goals as goal
 
-pub accept-requires : goal.accept-requires
-accept-requires c = proper c.in_ok-rule.field-0 c.args.line.now c.in-Asks.command c.in_ok-rule.ensures c.in-Asks.is
+pub returns-in-Ok-Query-clause-plan : goal.returns-in-Ok-Query-clause-plan
+returns-in-Ok-Query-clause-plan c =
+    let s = library.state_of c.args.library.now in
+    let q = c.in-Ok-Query.field-0-0 in
+    IfOk-weaker c.refuse_by.result _ _ (λ plan plans. query_line s s c.args.n c.args.line.now q plan (c.in-Ok-Query.ensures.ok ∙ ap Ok c.in-Ok-Query.field-0-is) plans refl) c.refuse_by.ensures
 
-pub returns-in_ok-refuse-in-Bad-clause-plan : goal.returns-in_ok-refuse-in-Bad-clause-plan
-returns-in_ok-refuse-in-Bad-clause-plan c =
-    let means : Bad c.in-Bad.rule ≡ meaning c.args.line.now = sym c.in-Bad.is ∙ c.in_ok-rule.ensures in
-    let s : State = record { persons = c.args.persons.now } in
-    let step : Step = record { taken = []; reply = string_bytes c.in_ok-refuse-in-Bad.field-0 } in
-    record {
-      step = step;
-      answers = subst (λ (m : Meaning). MeaningAnswers m s c.args.n step s) means (record { nothing = refl; told = c.in_ok-refuse-in-Bad.ensures; same = refl });
-      does = (refl, refl);
-    }
-
-pub returns-in-Asks-clause-plan : goal.returns-in-Asks-clause-plan
-returns-in-Asks-clause-plan c =
-    let means : Asks c.in-Asks.command ≡ meaning c.args.line.now = sym c.in-Asks.is ∙ c.in_ok-rule.ensures in
-    let s : State = record { persons = c.args.persons.now } in
-    let t : State = record { persons = c.accept.new.persons } in
-    IfOk-weaker c.accept.result _ _ (λ plan p.
-    record { step = p.step; answers = subst (λ (m : Meaning). MeaningAnswers m s c.args.n p.step t) means p.answers; does = p.does }) c.accept.ensures.plan
+pub returns-clause-plan : goal.returns-clause-plan
+returns-clause-plan c =
+    let s = library.state_of c.args.library.now in
+    IfOk-weaker c.plan_fault.result _ _ (λ plan plans. fault_line s c.args.n c.args.line.now (rule_of c.in-Err.fault) plan c.in-Err.ensures.err plans) c.plan_fault.ensures

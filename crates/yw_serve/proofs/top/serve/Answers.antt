@@ -1,9 +1,9 @@
-use Rattle.std.proofs.Common.{◌⊎◌, ℕ, inl, inr, refl, subst}
+use Rattle.std.proofs.Common.{◌≡◌, ◌⊎◌, ℕ, true, false, inl, inr, refl, subst}
 use Rattle.yw_outside.specs.Causes.{Rose}
 use Rattle.yw_serve.proofs.HeadlineLemmas.{crash_left, served}
 use Rattle.yw_serve.proofs.OpenLaws.{held_or_damaged}
 use Rattle.yw_serve.proofs.ServedLemmas.{completed, completed_opening}
-use Rattle.yw_serve.proofs.WordsLemmas.{one_limit}
+use Rattle.yw_serve.proofs.WordsLemmas.{not_both, one_limit}
 use Rattle.yw_serve.specs.Served.{IsOfRun, OpeningEnds, RunEnds, RunsFrom}
 use Rattle.yw_serve.specs.declared.top.Status.{Status}
 use Rattle.yw_serve.specs.declared.top.TheConstants.{INPUT_LIMIT}
@@ -21,7 +21,7 @@ returns-in-Some-clause-ends g c = λ tells limit bytes run left.
 
 pub returns-in-Some-clause-usage : goal.returns-in-Some-clause-usage
 returns-in-Some-clause-usage g c =
-    (λ e. absurd (subst (λ (r : Status). IsOfRun r) e c.serve_files.ensures.told), λ none. absurd (none c.in-Some.limit c.in-Some.ensures.some))
+    (λ e. absurd (subst (λ (r : Status). IsOfRun r) e c.serve_files.ensures.told), λ none. absurd (none.0 c.in-Some.limit c.in-Some.ensures.some))
 
 pub returns-in-Some-clause-complete : goal.returns-in-Some-clause-complete
 returns-in-Some-clause-complete g c = λ tells limit bytes content s run left hold small no_read no_disk no_say.
@@ -57,14 +57,23 @@ returns-in-Some-clause-crash g c = λ tells limit bytes content s run left hold.
     let leaves = crash_left D.moment D.left_since D.state D.may_leave g.met.D.Desk.said_by_now content s c.args.desk.now hold bytes c.serve_files.result new c.in-Some.limit INPUT_LIMIT still piece (c.serve_files.ensures.ends tells bytes left) in
     leaves.each
 
-pub returns-in-None-clause-ends : goal.returns-in-None-clause-ends
-returns-in-None-clause-ends g c = λ tells limit bytes run left. absurd (c.in-None.ensures.none refl limit run)
+pub returns-in-Some-clause-of_check : goal.returns-in-Some-clause-of_check
+returns-in-Some-clause-of_check g c = λ check. absurd (not_both c.args.words.now c.in-Some.limit c.in-Some.ensures.some check)
 
-pub returns-in-None-clause-usage : goal.returns-in-None-clause-usage
-returns-in-None-clause-usage g c = (λ e. c.in-None.ensures.none refl, λ none. refl)
+pub returns-in-Some-clause-checks : goal.returns-in-Some-clause-checks
+returns-in-Some-clause-checks g c = λ tells bytes check left. absurd (not_both c.args.words.now c.in-Some.limit c.in-Some.ensures.some check)
 
-pub returns-in-None-clause-complete : goal.returns-in-None-clause-complete
-returns-in-None-clause-complete g c = λ tells limit bytes content s run left hold small no_read no_disk no_say. absurd (c.in-None.ensures.none refl limit run)
+pub returns-then-is_check-clause-judges : goal.returns-then-is_check-clause-judges
+returns-then-is_check-clause-judges g c = λ bytes finding check left found. c.serve_check.ensures.judges bytes finding left found
 
-pub returns-in-None-clause-crash : goal.returns-in-None-clause-crash
-returns-in-None-clause-crash g c = λ tells limit bytes content s run left hold k might. absurd (c.in-None.ensures.none refl limit run)
+pub returns-clause-ends : goal.returns-clause-ends
+returns-clause-ends g c = λ tells limit bytes run left. absurd (c.in_default.ensures.none refl limit run)
+
+pub returns-clause-of_run : goal.returns-clause-of_run
+returns-clause-of_run g c = λ limit run. absurd (c.in_default.ensures.none refl limit run)
+
+pub returns-clause-usage : goal.returns-clause-usage
+returns-clause-usage g c = (λ e. (c.in_default.ensures.none refl, λ check. let yes : false ≡ true = c.if-is_check.ensures.1 check in cc), λ none. refl)
+
+pub returns-clause-complete : goal.returns-clause-complete
+returns-clause-complete g c = λ tells limit bytes content s run left hold small no_read no_disk no_say. absurd (c.in_default.ensures.none refl limit run)

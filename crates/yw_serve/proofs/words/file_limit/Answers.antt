@@ -2,13 +2,8 @@ use Rattle.std.proofs.Common.{◌≡◌, ℕ, List, [], ◌∷◌, length, get_o
 use Rattle.std.specs.Prelude.{IfSome, codes}
 use Rattle.std.specs.Str.{bytes_eq}
 use Rattle.yw_serve.specs.Words.{greatest_limit, IsLimit}
-use Rattle.std.proofs.lemmas.Slice.Eq.{bytes_eq-Decides}
+use Rattle.yw_serve.proofs.WordsLemmas.{one_word, same_text}
 use Rattle.yw_serve.proofs.words.file_limit.Goals as goal
-
-one_word : (xs : List (String Global)) (w : String Global) → length xs ≡ 1 → w ≡ get_or xs 0 w → xs ≡ w ∷ []
-one_word [] w e h = absurd (omega arith)
-one_word (x ∷ []) w e h = ap (λ y. y ∷ []) (sym h)
-one_word (x ∷ y ∷ xs) w e h = absurd (omega arith)
 
 three_words : (xs : List (String Global)) (u v w : String Global) → length xs ≡ 3 → u ≡ get_or xs 0 u → v ≡ get_or xs 1 v → w ≡ get_or xs 2 w → xs ≡ u ∷ v ∷ w ∷ []
 three_words [] u v w e a b c = absurd (omega arith)
@@ -16,9 +11,6 @@ three_words (x ∷ []) u v w e a b c = absurd (omega arith)
 three_words (x ∷ y ∷ []) u v w e a b c = absurd (omega arith)
 three_words (x ∷ y ∷ z ∷ []) u v w e a b c = ap (λ l. l ∷ y ∷ z ∷ []) (sym a) ∙ ap (λ l. u ∷ l ∷ z ∷ []) (sym b) ∙ ap (λ l. u ∷ v ∷ l ∷ []) (sym c)
 three_words (x ∷ y ∷ z ∷ t ∷ xs) u v w e a b c = absurd (omega arith)
-
-same_text : (b : Bool) (xs ys : List ℕ) → b ≡ bytes_eq xs ys → b ≡ true → xs ≡ ys
-same_text b xs ys e t = (bytes_eq-Decides xs ys).0 (sym e ∙ t)
 
 some_as : (o : Option ℕ) (P Q : ℕ → Type 0) → IfSome o P → ((n : ℕ) → P n → Q n) → IfSome o Q
 some_as None P Q h f = tt

@@ -1,0 +1,221 @@
+-- What a library's lists stand for, after a change.
+use Rattle.std.proofs.Common.{◌≡◌, ◌⊎◌, inl, inr, ℕ, suc, zero, List, [], ◌∷◌, ◌++◌, Bool, true, false, cond, Option, Some, None, nat_cmp, refl, sym, ap, subst, ◌∙◌}
+use Rattle.std.specs.Prelude.{All, length, map, is_some, slice_get, slice_set}
+use Rattle.std.specs.Cmp.Lexicographic.{slice_cmp}
+use Rattle.std.specs.FinMap.{FinMap, contains_key, find, from_entries, from_entries_push, get, get-from_entries, get-insert, insert, same_map, slice_cmp-IsAntisymmetric, nat_cmp-IsAntisymmetric}
+use Rattle.std.specs.Str.{bytes_eq}
+use Rattle.std.proofs.lemmas.Cmp.{nat_list_cmp_total}
+use Rattle.std.proofs.lemmas.List.{map-append}
+use Rattle.std.proofs.lemmas.List.Elements.{All-nil, All-push}
+use Rattle.std.proofs.lemmas.Option.{slice_get_within, get_or_from_slice_get}
+use Rattle.std.proofs.lemmas.Slice.Eq.{bytes_eq-Decides}
+use Rattle.yw_model.specs.State.{State, after, Persons, Specs}
+use Rattle.yw_model.specs.declared.event.Event.TheVariants as events
+use Rattle.yw_library.specs.Holdings.{Holdings, IsKeptRight, SaysItsText, person_name, put_person, roles_under, spec_name, state_of, text_under, with_person, with_spec}
+use Rattle.yw_library.specs.Numbers.{NumberedNames, AreFound, IsNumberOf, NoneNamed}
+use Rattle.yw_library.specs.declared.items.Loaded.{Loaded}
+use Rattle.yw_library.specs.declared.items.Person.{Person}
+use Rattle.yw_library.proofs.NamedLemmas.{is_same, same_from_true, get_where_found, get_where_none, key_where_none, key_where_one, none_from_key, found-push, found-set, found-stale}
+
+abbrev roles_in : List Person → List ℕ → Option (List (List ℕ))
+roles_in ps q = find (slice_cmp nat_cmp) q (map roles_under ps)
+
+differ : (a b : List ℕ) → bytes_eq a b ≡ false → a ≡ b → ⊥
+differ a b e same = let t = (bytes_eq-Decides a b).1 same in cc
+
+-- ---- what is found
+
+pub roles-none : (library : Holdings) (name : List ℕ) → NoneNamed person_name library.persons name → get (state_of library).persons name ≡ None
+unfolding state_of
+roles-none library name none = get_where_none person_name (λ (p : Person). p.roles) library.persons name none
+
+pub roles-found : (library : Holdings) (numbers : NumberedNames) (name : List ℕ) (i : ℕ) (p : Person) → AreFound person_name library.persons numbers
+    → slice_get library.persons i ≡ Some p → IsNumberOf person_name library.persons name (Some i) → get (state_of library).persons name ≡ Some p.roles
+unfolding state_of
+roles-found library numbers name i p found at (one, there, has) =
+    let same : one ≡ p = cc in
+    get_where_found person_name (λ (p : Person). p.roles) library.persons numbers name i p found at (ap person_name (sym same) ∙ has)
+
+pub text-none : (library : Holdings) (name : List ℕ) → NoneNamed spec_name library.specs name → get (state_of library).specs name ≡ None
+unfolding state_of
+text-none library name none = get_where_none spec_name (λ (l : Loaded). l.text) library.specs name none
+
+pub text-found : (library : Holdings) (numbers : NumberedNames) (name : List ℕ) (i : ℕ) (l : Loaded) → AreFound spec_name library.specs numbers
+    → slice_get library.specs i ≡ Some l → IsNumberOf spec_name library.specs name (Some i) → get (state_of library).specs name ≡ Some l.text
+unfolding state_of
+text-found library numbers name i l found at (one, there, has) =
+    let same : one ≡ l = cc in
+    get_where_found spec_name (λ (l : Loaded). l.text) library.specs numbers name i l found at (ap spec_name (sym same) ∙ has)
+
+pub spec-free : (library : Holdings) (name : List ℕ) → NoneNamed spec_name library.specs name → contains_key (state_of library).specs name ≡ false
+unfolding state_of
+spec-free library name none = key_where_none spec_name (λ (l : Loaded). l.text) library.specs name none
+
+pub spec-known : (library : Holdings) (name : List ℕ) (i : ℕ) → IsNumberOf spec_name library.specs name (Some i) → contains_key (state_of library).specs name ≡ true
+unfolding state_of
+spec-known library name i one = key_where_one spec_name (λ (l : Loaded). l.text) library.specs name i one
+
+pub spec-none : (library : Holdings) (name : List ℕ) → contains_key (state_of library).specs name ≡ false → NoneNamed spec_name library.specs name
+unfolding state_of
+spec-none library name free = none_from_key spec_name (λ (l : Loaded). l.text) library.specs name free
+
+-- ---- persons
+
+pub put_person-push : (new : Person) (ps : List Person) → NoneNamed person_name ps new.name → put_person new ps ≡ ps ++ new ∷ []
+put_person-push new [] none = refl
+put_person-push new (p ∷ ps) none = by (bytes_eq p.name new.name) refl (put_person-push new ps (λ i x. none (suc i) x))
+  where
+    by : (b : Bool) → bytes_eq p.name new.name ≡ b → put_person new ps ≡ ps ++ new ∷ [] → put_person new (p ∷ ps) ≡ p ∷ (ps ++ new ∷ [])
+    by true e rest = absurd (none 0 p refl ((bytes_eq-Decides p.name new.name).0 e))
+    by false e rest = ap (λ (b : Bool). cond b (new ∷ ps) (p ∷ put_person new ps)) e ∙ ap (λ (qs : List Person). p ∷ qs) rest
+
+-- the place into which a person of this name comes
+record IsReplaced (new : Person) (ps : List Person) : Type 0 where
+  pub place : ℕ
+  pub one : Person
+  pub stands : slice_get ps place ≡ Some one
+  pub has : one.name ≡ new.name
+  pub is : put_person new ps ≡ slice_set ps place new
+
+replaced : (new : Person) (ps : List Person) → NoneNamed person_name ps new.name ⊎ IsReplaced new ps
+replaced new [] = inl (λ i x e h. cc)
+replaced new (p ∷ ps) = by (bytes_eq p.name new.name) refl (replaced new ps)
+  where
+    none : bytes_eq p.name new.name ≡ false → NoneNamed person_name ps new.name → NoneNamed person_name (p ∷ ps) new.name
+    none e rest zero x is h = let same : p ≡ x = cc in differ p.name new.name e (ap person_name same ∙ h)
+    none e rest (suc i) x is h = rest i x is h
+
+    by : (b : Bool) → bytes_eq p.name new.name ≡ b → NoneNamed person_name ps new.name ⊎ IsReplaced new ps → NoneNamed person_name (p ∷ ps) new.name ⊎ IsReplaced new (p ∷ ps)
+    by true e rest = inr (record {
+      place = 0;
+      one = p;
+      stands = refl;
+      has = (bytes_eq-Decides p.name new.name).0 e;
+      is = ap (λ (b : Bool). cond b (new ∷ ps) (p ∷ put_person new ps)) e;
+    })
+    by false e (inl rest) = inl (none e rest)
+    by false e (inr r) = inr (record {
+      place = suc r.place;
+      one = r.one;
+      stands = r.stands;
+      has = r.has;
+      is = ap (λ (b : Bool). cond b (new ∷ ps) (p ∷ put_person new ps)) e ∙ ap (λ (qs : List Person). p ∷ qs) r.is;
+    })
+
+pub put_person-set : (new : Person) (ps : List Person) (numbers : NumberedNames) (n : ℕ)
+    → AreFound person_name ps numbers → IsNumberOf person_name ps new.name (Some n) → put_person new ps ≡ slice_set ps n new
+put_person-set new ps numbers n found (p, at, has) = by (replaced new ps)
+  where
+    by : NoneNamed person_name ps new.name ⊎ IsReplaced new ps → put_person new ps ≡ slice_set ps n new
+    by (inl none) = absurd (none n p at has)
+    by (inr r) =
+        let here = found.found n p at in
+        let there = found.found r.place r.one r.stands in
+        let names : r.one.name ≡ p.name = r.has ∙ sym has in
+        let places : r.place ≡ n = cc in
+        r.is ∙ ap (λ (k : ℕ). slice_set ps k new) places
+
+hidden : {V : Type 0} (c d : Bool) (a b x : Option V) → d ≡ c → cond c a x ≡ cond c a (cond d b x)
+hidden true d a b x e = refl
+hidden false true a b x e = cc
+hidden false false a b x e = refl
+
+swapped : {V : Type 0} (c d : Bool) (a b x : Option V) → (c ≡ true → d ≡ true → ⊥) → cond d b (cond c a x) ≡ cond c a (cond d b x)
+swapped true true a b x apart = absurd (apart refl refl)
+swapped true false a b x apart = refl
+swapped false true a b x apart = refl
+swapped false false a b x apart = refl
+
+roles_in-put_person : (new : Person) (ps : List Person) (q : List ℕ) → roles_in (put_person new ps) q ≡ cond (is_same q new.name) (Some new.roles) (roles_in ps q)
+roles_in-put_person new [] q = refl
+roles_in-put_person new (p ∷ ps) q = by (bytes_eq p.name new.name) refl (roles_in-put_person new ps q)
+  where
+    by : (b : Bool) → bytes_eq p.name new.name ≡ b → roles_in (put_person new ps) q ≡ cond (is_same q new.name) (Some new.roles) (roles_in ps q)
+        → roles_in (put_person new (p ∷ ps)) q ≡ cond (is_same q new.name) (Some new.roles) (roles_in (p ∷ ps) q)
+    by true e rest =
+        ap (λ (b : Bool). roles_in (cond b (new ∷ ps) (p ∷ put_person new ps)) q) e
+        ∙ hidden (is_same q new.name) (is_same q p.name) (Some new.roles) (Some p.roles) (roles_in ps q) (ap (is_same q) ((bytes_eq-Decides p.name new.name).0 e))
+    by false e rest =
+        ap (λ (b : Bool). roles_in (cond b (new ∷ ps) (p ∷ put_person new ps)) q) e
+        ∙ ap (cond (is_same q p.name) (Some p.roles)) rest
+        ∙ swapped (is_same q new.name) (is_same q p.name) (Some new.roles) (Some p.roles) (roles_in ps q)
+        (λ a b. differ p.name new.name e (sym (same_from_true q p.name b) ∙ same_from_true q new.name a))
+
+pub state-with_person : (library : Holdings) (new : Person) → state_of (with_person library new) ≡ after (state_of library) (events.Person new.name new.roles)
+unfolding state_of
+state-with_person library new =
+    let texts : Specs = from_entries (map text_under library.specs) in
+    ap (λ (m : Persons). record { persons = m; specs = texts }) (same_map nat_list_cmp_total (slice_cmp-IsAntisymmetric nat_cmp-IsAntisymmetric) _ _ (λ q.
+    get-from_entries nat_list_cmp_total (map roles_under (put_person new library.persons)) q
+    ∙ roles_in-put_person new library.persons q
+    ∙ sym (get-insert nat_list_cmp_total (from_entries (map roles_under library.persons)) new.name new.roles q
+    ∙ ap (cond (is_same q new.name) (Some new.roles)) (get-from_entries nat_list_cmp_total (map roles_under library.persons) q))))
+
+-- ---- specifications
+
+none_from_some : {V : Type 0} (o : Option V) → is_some o ≡ false → o ≡ None
+none_from_some None e = refl
+none_from_some (Some x) e = cc
+
+pub state-with_spec : (library : Holdings) (loaded : Loaded) → contains_key (state_of library).specs loaded.spec.name ≡ false
+    → state_of (with_spec library loaded) ≡ after (state_of library) (events.Load loaded.spec.name loaded.text)
+unfolding state_of
+state-with_spec library loaded free =
+    let roles : Persons = from_entries (map roles_under library.persons) in
+    let texts = map text_under library.specs in
+    let none = sym (get-from_entries nat_list_cmp_total texts loaded.spec.name) ∙ none_from_some (get (from_entries texts) loaded.spec.name) free in
+    ap (λ (m : Specs). record { persons = roles; specs = m })
+    (ap (λ (es : List (List ℕ × List ℕ)). from_entries es) (map-append text_under library.specs (loaded ∷ []))
+    ∙ from_entries_push nat_list_cmp_total (slice_cmp-IsAntisymmetric nat_cmp-IsAntisymmetric) texts loaded.spec.name loaded.text none)
+
+pub all_at : {A : Type 0} (P : A → Type 0) (xs : List A) (i : ℕ) (x : A) → All P xs → slice_get xs i ≡ Some x → P x
+all_at P xs i x all at = subst P (get_or_from_slice_get xs i x x at) (all i x (slice_get_within xs i x at))
+
+-- ---- what stays so
+
+pub kept-nothing : (persons specs : NumberedNames) → IsKeptRight [] persons [] specs
+kept-nothing persons specs = record {
+  persons_found = record { found = λ i x e. cc };
+  specs_found = record { found = λ i x e. cc };
+  accepted = All-nil SaysItsText;
+}
+
+pub kept-stale_person : (ps : List Person) (pn : NumberedNames) (ss : List Loaded) (sn : NumberedNames) (name : List ℕ) (n : ℕ)
+    → IsKeptRight ps pn ss sn → NoneNamed person_name ps name → IsKeptRight ps (insert pn name n) ss sn
+kept-stale_person ps pn ss sn name n k none = record {
+  persons_found = found-stale person_name ps pn name n k.persons_found none;
+  specs_found = k.specs_found;
+  accepted = k.accepted;
+}
+
+pub kept-push_person : (ps : List Person) (pn : NumberedNames) (ss : List Loaded) (sn : NumberedNames) (new : Person)
+    → IsKeptRight ps pn ss sn → NoneNamed person_name ps new.name → IsKeptRight (ps ++ new ∷ []) (insert pn new.name (length ps)) ss sn
+kept-push_person ps pn ss sn new k none = record {
+  persons_found = found-push person_name ps pn new k.persons_found none;
+  specs_found = k.specs_found;
+  accepted = k.accepted;
+}
+
+pub kept-set_person : (ps : List Person) (pn : NumberedNames) (ss : List Loaded) (sn : NumberedNames) (new : Person) (n : ℕ)
+    → IsKeptRight ps pn ss sn → IsNumberOf person_name ps new.name (Some n) → IsKeptRight (slice_set ps n new) pn ss sn
+kept-set_person ps pn ss sn new n k (old, at, has) = record {
+  persons_found = found-set person_name ps pn n old new k.persons_found at has;
+  specs_found = k.specs_found;
+  accepted = k.accepted;
+}
+
+pub kept-stale_spec : (ps : List Person) (pn : NumberedNames) (ss : List Loaded) (sn : NumberedNames) (name : List ℕ) (n : ℕ)
+    → IsKeptRight ps pn ss sn → NoneNamed spec_name ss name → IsKeptRight ps pn ss (insert sn name n)
+kept-stale_spec ps pn ss sn name n k none = record {
+  persons_found = k.persons_found;
+  specs_found = found-stale spec_name ss sn name n k.specs_found none;
+  accepted = k.accepted;
+}
+
+pub kept-push_spec : (ps : List Person) (pn : NumberedNames) (ss : List Loaded) (sn : NumberedNames) (new : Loaded)
+    → IsKeptRight ps pn ss sn → NoneNamed spec_name ss new.spec.name → SaysItsText new → IsKeptRight ps pn (ss ++ new ∷ []) (insert sn new.spec.name (length ss))
+kept-push_spec ps pn ss sn new k none says = record {
+  persons_found = k.persons_found;
+  specs_found = found-push spec_name ss sn new k.specs_found none;
+  accepted = All-push SaysItsText ss new k.accepted says;
+}

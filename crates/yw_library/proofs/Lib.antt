@@ -1,0 +1,4 @@
+pub mod TableLemmas
+pub mod NamedLemmas
+pub mod HoldingsLemmas
+pub mod AcceptsLemmas

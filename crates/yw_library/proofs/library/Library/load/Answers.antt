@@ -1,0 +1,63 @@
+use Rattle.std.proofs.Common.{ℕ, List, Some, true, false, refl, sym, ap, subst, ◌∙◌}
+use Rattle.std.proofs.lemmas.Result.{err_from_is_err_and}
+use Rattle.yw_model.specs.State.{IsLoadable, LoadBreaks, after}
+use Rattle.yw_model.specs.declared.event.Event.TheVariants as events
+use Rattle.yw_model.specs.declared.rule.Refusal.{Refusal}
+use Rattle.yw_library.specs.Holdings.{spec_name, state_of}
+use Rattle.yw_library.specs.Numbers.{IsNumberOf, NoneNamed}
+use Rattle.yw_library.proofs.AcceptsLemmas.{accepted-breaks, accepted-loadable, unfit-breaks, unfit-only}
+use Rattle.yw_library.proofs.HoldingsLemmas.{spec-free, spec-known, state-with_spec}
+use Rattle.yw_library.proofs.library.Library.load.Goals as goal
+
+pub returns-in_err-spec-clause-refused : goal.returns-in_err-spec-clause-refused
+returns-in_err-spec-clause-refused c =
+    let p = err_from_is_err_and c.from_residual.result c.from_residual.ensures.1 in
+    rw (p.1, p.2) (unfit-breaks (state_of c.args.self.now) c.args.text.now _ c.in_err-spec.ensures.refused)
+
+pub returns-in_err-spec-clause-only : goal.returns-in_err-spec-clause-only
+returns-in_err-spec-clause-only c =
+    let p = err_from_is_err_and c.from_residual.result c.from_residual.ensures.1 in
+    rw (p.1, p.2) (unfit-only (state_of c.args.self.now) c.args.text.now _ c.in_err-spec.ensures.refused)
+
+pub returns-in-Some-clause-refused : goal.returns-in-Some-clause-refused
+returns-in-Some-clause-refused c =
+    let library = c.args.self.now in
+    let spec = c.in_ok-spec.spec in
+    let one = subst (λ (name : List ℕ). IsNumberOf spec_name library.specs name (Some c.in-Some.field-0)) c.as_str.ensures.text c.in-Some.ensures in
+    let b = accepted-breaks (state_of library) c.args.text.now spec true c.in_ok-spec.ensures.ok (spec-known library spec.name c.in-Some.field-0 one) in
+    (subst (λ (r : Refusal). LoadBreaks (state_of library) c.args.text.now (Some r)) (sym c.placeless.ensures) b.breaks, refl)
+
+pub returns-in-Some-clause-only : goal.returns-in-Some-clause-only
+returns-in-Some-clause-only c = λ found h.
+    let library = c.args.self.now in
+    let spec = c.in_ok-spec.spec in
+    let one = subst (λ (name : List ℕ). IsNumberOf spec_name library.specs name (Some c.in-Some.field-0)) c.as_str.ensures.text c.in-Some.ensures in
+    let b = accepted-breaks (state_of library) c.args.text.now spec true c.in_ok-spec.ensures.ok (spec-known library spec.name c.in-Some.field-0 one) in
+    b.only found h ∙ ap Some (sym c.placeless.ensures)
+
+pub keep-requires-clause-new : goal.keep-requires-clause-new
+keep-requires-clause-new c =
+    let library = c.args.self.now in
+    spec-free library c.in_ok-spec.spec.name (subst (λ (name : List ℕ). NoneNamed spec_name library.specs name) c.as_str.ensures.text c.in-None.ensures)
+
+pub returns-in_ok-keep-in-None-clause-ok : goal.returns-in_ok-keep-in-None-clause-ok
+returns-in_ok-keep-in-None-clause-ok c =
+    let library = c.args.self.now in
+    let s = state_of library in
+    let text = c.args.text.now in
+    let spec = c.in_ok-spec.spec in
+    let name = c.in_ok-name-in-None.name in
+    let free = spec-free library spec.name (subst (λ (name : List ℕ). NoneNamed spec_name library.specs name) c.as_str.ensures.text c.in-None.ensures) in (
+      subst (λ (n : List ℕ). IsLoadable s n text) (sym c.in_ok-name-in-None.ensures) (accepted-loadable s text spec c.in_ok-spec.ensures.ok free),
+      ap state_of c.in_ok-keep-in-None.ensures.ok
+          ∙ state-with_spec library (record { text = c.in_ok-text-in-None.text; spec = spec }) free
+          ∙ ap (λ (t : List ℕ). after s (events.Load spec.name t)) c.in_ok-text-in-None.ensures
+          ∙ ap (λ (n : List ℕ). after s (events.Load n text)) (sym c.in_ok-name-in-None.ensures),
+    )
+
+pub returns-in_ok-keep-in-None-clause-only : goal.returns-in_ok-keep-in-None-clause-only
+returns-in_ok-keep-in-None-clause-only c = λ found h.
+    let library = c.args.self.now in
+    let spec = c.in_ok-spec.spec in
+    let free = spec-free library spec.name (subst (λ (name : List ℕ). NoneNamed spec_name library.specs name) c.as_str.ensures.text c.in-None.ensures) in
+    (accepted-breaks (state_of library) c.args.text.now spec false c.in_ok-spec.ensures.ok free).only found h

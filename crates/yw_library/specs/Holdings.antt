@@ -1,0 +1,76 @@
+-- What a library holds, in order, and the state that it stands for.
+use Rattle.std.specs.Prelude.{◌≡◌, ℕ, List, [], ◌∷◌, ◌++◌, map, Option, Some, All, slice_get, if◌then◌else◌}
+use Rattle.std.specs.FinMap.{from_entries, get}
+use Rattle.std.specs.Str.{bytes_eq}
+use Rattle.yw_spec.specs.declared.spec.Spec.{Spec}
+use Rattle.yw_model.specs.State.{State}
+use Rattle.yw_library.specs.declared.items.Loaded.{Loaded}
+use Rattle.yw_library.specs.declared.items.Person.{Person}
+use Rattle.yw_library.specs.Accepts.{IsAccepted}
+use Rattle.yw_library.specs.Numbers.{NumberedNames, AreFound}
+
+-- Persons in the order of their first coming, and specifications in the order of loading.
+pub record Holdings : Type 0 where
+  pub persons : List Person
+  pub specs : List Loaded
+
+abbrev pub nothing : Holdings
+nothing = record { persons = []; specs = [] }
+
+abbrev pub person_name : Person → List ℕ
+person_name p = p.name
+
+abbrev pub spec_name : Loaded → List ℕ
+spec_name l = l.spec.name
+
+abbrev pub roles_under : Person → List ℕ × List (List ℕ)
+roles_under p = (p.name, p.roles)
+
+abbrev pub text_under : Loaded → List ℕ × List ℕ
+text_under l = (l.spec.name, l.text)
+
+-- the roles of persons by name, and the texts of specifications by name
+unfoldable pub state_of : Holdings → State
+state_of library = record { persons = from_entries (map roles_under library.persons); specs = from_entries (map text_under library.specs) }
+
+-- ---- what stays so
+
+-- the specification is the one that its text says, and the text is accepted
+abbrev pub SaysItsText : Loaded → Type 0
+SaysItsText l = IsAccepted l.text l.spec
+
+-- Each person and each specification is found under its name by its number, and each specification is the one that its text says.
+pub record IsKeptRight (persons : List Person) (person_numbers : NumberedNames) (specs : List Loaded) (spec_numbers : NumberedNames) : Type 0 where
+  pub persons_found : AreFound person_name persons person_numbers
+  pub specs_found : AreFound spec_name specs spec_numbers
+  pub accepted : All SaysItsText specs
+
+-- ---- changes
+
+-- the person in the place of the first with this name, and else behind all others
+abbrev pub put_person : Person → List Person → List Person
+put_person new [] = new ∷ []
+put_person new (p ∷ ps) = if bytes_eq p.name new.name then new ∷ ps else p ∷ put_person new ps
+
+abbrev pub with_person : Holdings → Person → Holdings
+with_person library new = record { persons = put_person new library.persons; specs = library.specs }
+
+-- one specification more, behind all others
+abbrev pub with_spec : Holdings → Loaded → Holdings
+with_spec library loaded = record { persons = library.persons; specs = library.specs ++ loaded ∷ [] }
+
+-- the persons are the same, and behind the specifications stands one more, with this name and this text
+pub record AddsSpec (old new : Holdings) (name text : List ℕ) : Type 0 where
+  pub loaded : Loaded
+  pub behind : new ≡ with_spec old loaded
+  pub named : loaded.spec.name ≡ name
+  pub texted : loaded.text ≡ text
+
+-- ---- what is found
+
+-- Under the name a text is loaded that says this specification. It is the one with this number.
+pub record IsKept (library : Holdings) (name : List ℕ) (spec : Spec) (number : ℕ) : Type 0 where
+  pub text : List ℕ
+  pub kept : get (state_of library).specs name ≡ Some text
+  pub stands : slice_get library.specs number ≡ Some (record { text = text; spec = spec })
+  pub accepted : IsAccepted text spec

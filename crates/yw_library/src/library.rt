@@ -1,0 +1,227 @@
+// Persons with their roles, and the specifications that are loaded.
+ghost use Rattle.std.specs.Prelude.{◌≡◌, ◌<◌, List, ℕ, Option, Some, None, false, length, slice_get, slice_set, All, IfOk, OnOk, OnErr, MatchOption};
+ghost use Rattle.std.specs.FinMap.{contains_key, get};
+ghost use Rattle.std.specs.Option.{option_copied};
+ghost use Rattle.yw_model.specs.declared.event.Event.TheVariants as events;
+ghost use Rattle.yw_model.specs.declared.rule.Refusal.{Refusal};
+ghost use Rattle.yw_model.specs.State.{IsLoadable, LoadBreaks, after, opening};
+ghost use Rattle.yw_library.specs.Accepts.{Answers, IfRefused, IsAccepted};
+ghost use Rattle.yw_library.specs.Holdings.{AddsSpec, IsKept, SaysItsText, nothing, person_name, spec_name, state_of, with_person, with_spec};
+ghost use Rattle.yw_library.specs.Numbers.{IsNumberOf, NoneNamed};
+
+use crate::accepted::{accepted, placeless};
+use crate::numbers::Numbers;
+use crate::{LibraryFault, Loaded, LoadedList, Person, PersonList};
+use std::alloc::{AllocError, Global};
+use std::marker::Model;
+use std::mem;
+use yw_base::{Items, Name, NameFault, NameList, Text};
+use yw_model::Rule;
+use yw_spec::Spec;
+
+/// The persons with their roles, and the specifications that are loaded. Both are found by name without a
+/// scan. A contract sees two lists, and by `state_of` the state that they stand for.
+#[derive(Drop)]
+pub struct Library {
+    alloc: Global,
+    persons: PersonList,
+    person_numbers: Numbers,
+    specs: LoadedList,
+    spec_numbers: Numbers,
+}
+
+impl Model for Library {
+    ghost use Rattle.yw_library.specs.Holdings.{Holdings, IsKeptRight};
+
+    ghost Value = { Holdings };
+
+    ghost use Rattle.std.specs.Coded.{codes};
+    ghost use Rattle.yw_library.specs.contracts.items.Loaded as loaded;
+
+    ghost coded = { Prim.hlevel (codes, loaded.the_row.coded) };
+
+    ghost view = { λ l. record { persons = l.persons; specs = l.specs } };
+
+    ghost invariant = { λ l. IsKeptRight l.persons l.person_numbers l.specs l.spec_numbers };
+}
+
+/// A copy of a name.
+fn copy_of(alloc: Global, name: &Name) -> Result<Name, AllocError>
+    ensures { IfOk result (λ copy. copy ≡ name.now) }
+{
+    match Name::read(alloc, name.as_str()) {
+        Ok(copy) => Ok(copy),
+        Err(NameFault::Memory) => Err(AllocError),
+        Err(NameFault::Shape) => unreachable!(),
+    }
+}
+
+/// The persons, with this one in place of the one with this number.
+fn replaced(persons: PersonList, number: usize, person: Person) -> PersonList
+    requires { number < length persons }
+    ensures { result ≡ slice_set persons number person }
+{
+    let mut persons = persons.into_vec();
+    persons[number] = person;
+    Items::from_vec(persons)
+}
+
+impl Library {
+    /// Nobody, and no specification. It takes no memory.
+    pub fn new(alloc: Global) -> Library
+        ensures empty { result ≡ nothing }
+        ensures state { state_of result ≡ opening }
+    {
+        Library {
+            alloc,
+            persons: Items::new(alloc),
+            person_numbers: Numbers::new(alloc),
+            specs: Items::new(alloc),
+            spec_numbers: Numbers::new(alloc),
+        }
+    }
+
+    /// The number of the person with this name. A name may have a number where memory ran out before its
+    /// person came, so the name at the number is compared.
+    fn person_number(&self, name: &str) -> Option<usize>
+        ensures { IsNumberOf person_name self.now.persons name.now result }
+    {
+        let number = self.person_numbers.get(name)?;
+        match self.persons.get(number) {
+            Some(person) if person.name.as_str() == name => Some(number),
+            _ => None,
+        }
+    }
+
+    /// The number of the specification with this name, found as a person's is.
+    fn spec_number(&self, name: &str) -> Option<usize>
+        ensures { IsNumberOf spec_name self.now.specs name.now result }
+    {
+        let number = self.spec_numbers.get(name)?;
+        match self.specs.get(number) {
+            Some(loaded) if loaded.spec.name.as_str() == name => Some(number),
+            _ => None,
+        }
+    }
+
+    /// This person in the place of the one with this number, who has the same name. It takes no memory.
+    fn replace(&mut self, number: usize, person: Person)
+        requires { IsNumberOf person_name self.old.persons person.name (Some number) }
+        ensures { self.new ≡ with_person self.old person }
+    {
+        let persons = mem::replace(&mut self.persons, Items::new(self.alloc));
+        self.persons = replaced(persons, number, person);
+    }
+
+    /// A person whose name no one has, behind all others. An `Err` says that no memory was left, and changes
+    /// nothing.
+    fn add(&mut self, person: Person) -> Result<(), AllocError>
+        requires { NoneNamed person_name self.old.persons person.name }
+        ensures ok { OnOk result (self.new ≡ with_person self.old person) }
+        ensures err { OnErr result (self.new ≡ self.old) }
+    {
+        let number = self.persons.len();
+        self.person_numbers
+            .put(self.alloc, person.name.as_str(), number)?;
+        self.persons.push(person)?;
+        Ok(())
+    }
+
+    /// The person has these roles from now on, and no others. Who was there keeps the place among the persons,
+    /// and who comes first stands behind all others. An `Err` says that no memory was left, and changes nothing.
+    pub fn person(&mut self, name: Name, roles: NameList) -> Result<(), AllocError>
+        ensures ok { OnOk result (state_of self.new ≡ after (state_of self.old) (events.Person name roles)) }
+        ensures place { OnOk result (self.new ≡ with_person self.old (record { name = name; roles = roles })) }
+        ensures err { OnErr result (self.new ≡ self.old) }
+    {
+        let person = Person { name, roles };
+        match self.person_number(person.name.as_str()) {
+            Some(number) => self.replace(number, person),
+            None => self.add(person)?,
+        }
+        Ok(())
+    }
+
+    /// One specification more, behind all others. An `Err` says that no memory was left, and changes nothing.
+    fn keep(&mut self, loaded: Loaded) -> Result<(), AllocError>
+        requires accepted { SaysItsText loaded }
+        requires new { contains_key (state_of self.old).specs loaded.spec.name ≡ false }
+        ensures ok { OnOk result (self.new ≡ with_spec self.old loaded) }
+        ensures err { OnErr result (self.new ≡ self.old) }
+    {
+        let number = self.specs.len();
+        self.spec_numbers
+            .put(self.alloc, loaded.spec.name.as_str(), number)?;
+        self.specs.push(loaded)?;
+        Ok(())
+    }
+
+    /// Loads the specification that a TOML text says, and gives its name. It stands behind all others, so its
+    /// number is how many were loaded before.
+    ///
+    /// `Refused` comes exactly where the text breaks a rule, with the first: `SpecText` where it is no TOML
+    /// document; `SpecShape` where the document hasn't the shape of a specification, with the path of the first
+    /// fault; `SpecCheck` where one of the twelve checks fails, with the first that does and what it names;
+    /// `NotBuilt` where it uses what isn't built; `SpecExists` where one of its name is loaded. `Memory` comes
+    /// only where no memory was left. An `Err` changes nothing. The rules and their order are our own.
+    pub fn load(&mut self, text: &str) -> Result<Name, LibraryFault>
+        ensures ok { IfOk result (λ name. IsLoadable (state_of self.old) name text.now
+            × (state_of self.new ≡ after (state_of self.old) (events.Load name text.now))) }
+        ensures place { IfOk result (λ name. AddsSpec self.old self.new name text.now) }
+        ensures refused { IfRefused result (λ refusal. LoadBreaks (state_of self.old) text.now (Some refusal)
+            × (state_of self.new ≡ state_of self.old)) }
+
+        // What is answered is the only answer that the definitions allow.
+        ensures only { (found : Option Refusal) → LoadBreaks (state_of self.old) text.now found → Answers result found }
+        ensures err { OnErr result (self.new ≡ self.old) }
+    {
+        let spec = accepted(self.alloc, text)?;
+        match self.spec_number(spec.name.as_str()) {
+            Some(_) => Err(LibraryFault::Refused(placeless(self.alloc, Rule::SpecExists))),
+            None => {
+                let name = copy_of(self.alloc, &spec.name)?;
+                let text = Text::copy_of(self.alloc, text)?;
+                self.keep(Loaded { text, spec })?;
+                Ok(name)
+            }
+        }
+    }
+
+    /// The specification with this name and its number in `specs`, or `None` where none of this name is loaded.
+    /// It takes no memory.
+    pub fn spec(&self, name: &Name) -> Option<(&Spec, usize)>
+        ensures { MatchOption result (get (state_of self.now).specs name.now ≡ None) (λ found. IsKept self.now name.now found.0.now found.1) }
+    {
+        let number = self.spec_number(name.as_str())?;
+        match self.specs.get(number) {
+            Some(loaded) => Some((&loaded.spec, number)),
+            None => None,
+        }
+    }
+
+    /// The roles of the person with this name, or `None` where there is none. It takes no memory.
+    pub fn roles(&self, name: &Name) -> Option<&NameList>
+        ensures { option_copied result ≡ get (state_of self.now).persons name.now }
+    {
+        let number = self.person_number(name.as_str())?;
+        match self.persons.get(number) {
+            Some(person) => Some(&person.roles),
+            None => None,
+        }
+    }
+
+    /// The persons in the order in which they came first.
+    pub fn persons(&self) -> &PersonList
+        ensures { result.now ≡ self.now.persons }
+    {
+        &self.persons
+    }
+
+    /// The specifications in the order in which they were loaded, which is that of their numbers.
+    pub fn specs(&self) -> &LoadedList
+        ensures all { result.now ≡ self.now.specs }
+        ensures accepted { All SaysItsText self.now.specs }
+    {
+        &self.specs
+    }
+}

@@ -1,0 +1,299 @@
+-- What a line asks is as lines are written, and no line lacks an answer.
+use Rattle.std.proofs.Common.{◌≡◌, ℕ, ◌+◌, take, ◌∷◌, List, [], Bool, true, false, cond, Option, None, Some, Result, Ok, Err, refl, sym, ap, ◌∙◌, subst}
+use Rattle.std.specs.Prelude.{codes, ◌&&◌, nat_le, nat_lt, option_and_then, option_map, ok_or, length}
+use Rattle.std.specs.List.{list_all}
+use Rattle.std.specs.FinMap.{contains_key}
+use Rattle.std.specs.Str.{is_utf8}
+use Rattle.serde_json.specs.Data.{Data, Items, no_items, item}
+use Rattle.serde_json.specs.Find.{get, as_array, as_str}
+use Rattle.serde_json.specs.Read.{read}
+use Rattle.toml.specs.Data.{Members}
+use Rattle.toml.specs.Parse.{parse_document}
+use Rattle.yw_accept.specs.Verdict.{IsVerdict}
+use Rattle.yw_accept.specs.declared.broken.Broken.{Broken}
+use Rattle.yw_read.specs.Reading.{spec_from, spec_in, with_shape}
+use Rattle.yw_read.specs.Tables.{spec_table}
+use Rattle.yw_read.specs.declared.raw.RawSpec.{RawSpec}
+use Rattle.yw_read.specs.declared.raw.ReadFault.{ReadFault}
+use Rattle.yw_read.specs.declared.raw.ReadFault.TheVariants.{NotToml, Shape, Memory}
+use Rattle.yw_model.specs.declared.command.Asked.{Asked}
+use Rattle.yw_model.specs.declared.command.Asked.TheVariants as asked
+use Rattle.yw_model.specs.declared.command.Command.{Command}
+use Rattle.yw_model.specs.declared.command.Command.TheVariants as commands
+use Rattle.yw_model.specs.declared.event.Event.TheVariants as events
+use Rattle.yw_model.specs.declared.rule.Refusal.{Refusal}
+use Rattle.yw_model.specs.declared.rule.Rule.{Rule}
+use Rattle.yw_model.specs.declared.rule.Rule.TheVariants.{NotCommand, NotBuilt, SpecText, SpecShape, SpecExists}
+use Rattle.yw_model.specs.declared.word.Word.{Word}
+use Rattle.yw_model.specs.declared.word.Word.TheVariants as words
+use Rattle.yw_model.specs.Accepted.{document_in, check_refusal, is_built_spec, JudgesSaid}
+use Rattle.yw_base.specs.Spelling.{is_name}
+use Rattle.yw_model.specs.Fields.{field, only_if, are_roles, has_members, line_text_of, list_of, name_of, one_of, roles_of}
+use Rattle.yw_model.specs.Lines.{line_limit}
+use Rattle.yw_model.specs.Meaning.{meaning, text_meaning, value_meaning, word_meaning}
+use Rattle.yw_model.specs.Replies.{done, refused, placeless}
+use Rattle.yw_model.specs.Run.{built_words, CannotLack, Step, Refuses, FoundAnswers, MeaningAnswers, Answers}
+use Rattle.yw_model.specs.Shapes.{◌>>=◌, person_shape, load_shape}
+use Rattle.yw_model.specs.State.{State, after_all, Breaks, load_after, load_refusal, LoadBreaks}
+use Rattle.yw_model.specs.Values.{each_of}
+use Rattle.yw_model.specs.Words.{word_in}
+use Rattle.yw_model.proofs.Judging.{verdict_finds}
+use Rattle.yw_model.proofs.Lacking.{here, follows}
+use Rattle.yw_model.proofs.MeaningLemmas.{meaning-take}
+
+-- ---- what a line asks, as it is written
+
+-- names are names, roles are roles, and a text is no longer than a line
+abbrev pub IsAsWritten : Command → Type 0
+IsAsWritten (commands.Person name roles) = (is_name name ≡ true) × (list_all is_name roles ≡ true) × (are_roles roles ≡ true)
+IsAsWritten (commands.Load toml) = nat_le (length toml) line_limit ≡ true
+IsAsWritten command = Unit {0}
+
+abbrev pub AsksAsWritten : Asked → Type 0
+AsksAsWritten (asked.Command command) = IsAsWritten command
+AsksAsWritten (asked.Query query) = Unit {0}
+
+-- what is meant is so, where something is
+abbrev IsReadable : Result Asked Rule → Type 0
+IsReadable (Err rule) = Unit {0}
+IsReadable (Ok x) = AsksAsWritten x
+
+abbrev MayBeRead : Option Asked → Type 0
+MayBeRead o = IsReadable (ok_or o NotCommand)
+
+either : (b : Bool) (m n : Result Asked Rule) → IsReadable m → IsReadable n → IsReadable (cond b m n)
+either true m n one other = one
+either false m n one other = other
+
+bound : {A : Type 0} (o : Option A) (f : A → Option Asked) → ((x : A) → o ≡ Some x → MayBeRead (f x)) → MayBeRead (o >>= f)
+bound (Some x) f h = h x refl
+bound None f h = tt
+
+counted : (b : Bool) (x : Asked) → AsksAsWritten x → MayBeRead (cond b (Some x) None)
+counted true x h = h
+counted false x h = tt
+
+-- what passes a test is what was tested, and the test holds of it
+passed : {A : Type 0} (p : A → Bool) (x y : A) (b : Bool) → p x ≡ b → cond b (Some x) None ≡ Some y → (Some x ≡ Some y) × (p y ≡ true)
+passed p x y true e is = let same : x ≡ y = cc in (is, ap p (sym same) ∙ e)
+passed p x y false e is = cc
+
+filtered : {A : Type 0} (p : A → Bool) (o : Option A) (y : A) → option_and_then (only_if p) o ≡ Some y → (o ≡ Some y) × (p y ≡ true)
+filtered p None y is = cc
+filtered p (Some x) y is = passed p x y (p x) refl is
+
+-- a value of a kind that a test makes of another
+of_kind : {A B : Type 0} (p : B → Bool) (kind : A → Option B) (o : Option A) (y : B) → option_and_then (λ d. option_and_then (only_if p) (kind d)) o ≡ Some y → p y ≡ true
+of_kind p kind None y is = cc
+of_kind p kind (Some d) y is = (filtered p (kind d) y is).1
+
+name_read : (d : Data) (name : List ℕ) → name_of d ≡ Some name → is_name name ≡ true
+name_read d name is = (filtered is_name (as_str d) name is).1
+
+named_first : (o : Option (List ℕ)) (os : Option (List (List ℕ))) (names : List (List ℕ)) → ((n : List ℕ) → o ≡ Some n → is_name n ≡ true) → ((ns : List (List ℕ)) → os ≡ Some ns → list_all is_name ns ≡ true)
+    → option_and_then (λ name. option_map (λ ns. name ∷ ns) os) o ≡ Some names → list_all is_name names ≡ true
+named_first None os names h t e = cc
+named_first (Some name) None names h t e = cc
+named_first (Some name) (Some ns) names h t e =
+    let same : names ≡ name ∷ ns = cc in
+    ap (list_all is_name) same ∙ ap (λ (b : Bool). b && list_all is_name ns) (h name refl) ∙ t ns refl
+
+all_named : (ds : Items) (names : List (List ℕ)) → each_of name_of ds ≡ Some names → list_all is_name names ≡ true
+all_named no_items names e = let none : names ≡ [] = cc in ap (list_all is_name) none
+all_named (item d ds) names e = named_first (name_of d) (each_of name_of ds) names (name_read d) (all_named ds) e
+
+listed : (o : Option Items) (names : List (List ℕ)) → option_and_then (each_of name_of) o ≡ Some names → list_all is_name names ≡ true
+listed None names e = cc
+listed (Some ds) names e = all_named ds names e
+
+-- the roles that are read are roles
+pub roles_read : (o : Option Data) (roles : List (List ℕ)) → option_and_then roles_of o ≡ Some roles → (list_all is_name roles ≡ true) × (are_roles roles ≡ true)
+roles_read None roles e = cc
+roles_read (Some d) roles e = let f = filtered are_roles (list_of name_of d) roles e in (listed (as_array d) roles f.0, f.1)
+
+person_read : (d : Data) → MayBeRead (person_shape d)
+unfolding person_shape
+person_read d =
+    bound (field name_of (codes "name") d) _ (λ name named. bound (field roles_of (codes "roles") d) _ (λ roles is.
+    let r = roles_read (get (codes "roles") d) roles is in
+    counted (has_members 3 d) _ (of_kind is_name as_str (get (codes "name") d) name named, r.0, r.1)))
+
+load_read : (d : Data) → MayBeRead (load_shape d)
+unfolding load_shape
+load_read d = bound (field line_text_of (codes "toml") d) _ (λ toml is.
+    counted (has_members 2 d) _ (of_kind (λ text. nat_le (length text) line_limit) as_str (get (codes "toml") d) toml is))
+
+word_read : (d : Data) (o : Option Word) → IsReadable (word_meaning built_words d o)
+word_read d None = tt
+word_read d (Some words.Person) = person_read d
+word_read d (Some words.Load) = load_read d
+word_read d (Some words.Rule) = tt
+word_read d (Some words.Launch) = tt
+word_read d (Some words.Enter) = tt
+word_read d (Some words.Start) = tt
+word_read d (Some words.Complete) = tt
+word_read d (Some words.Add) = tt
+word_read d (Some words.Raise) = tt
+word_read d (Some words.Suspend) = tt
+word_read d (Some words.Continue) = tt
+word_read d (Some words.Cancel) = tt
+word_read d (Some words.Advance) = tt
+word_read d (Some words.List) = tt
+word_read d (Some words.Show) = tt
+word_read d (Some words.Ended) = tt
+word_read d (Some words.Specs) = tt
+
+value_read : (o : Option Data) → IsReadable (value_meaning built_words o)
+value_read None = tt
+value_read (Some d) = word_read d (field (one_of word_in) (codes "cmd") d)
+
+text_read : (line : List ℕ) → IsReadable (text_meaning built_words line)
+unfolding text_meaning
+text_read line = either (is_utf8 line) _ _ (value_read (read line)) tt
+
+line_read : (line : List ℕ) → IsReadable (meaning built_words line)
+unfolding meaning
+line_read line = either (nat_lt line_limit (length line)) _ _ tt (text_read line)
+
+-- ---- answers
+
+abbrev HasAnswer : Result Asked Rule → State → ℕ → Type 0
+HasAnswer m s n = CannotLack ((step : Step) × (t : State) × MeaningAnswers m s n step t)
+
+refusing : (refusal : Refusal) (s : State) (n : ℕ) → (step : Step) × (t : State) × Refuses refusal s n step t
+refusing refusal s n = (record { taken = []; reply = refused n refusal }, s, record { nothing = refl; told = refl; same = refl })
+
+judged : (said : Result RawSpec ReadFault) → ((said ≡ Err Memory) → ⊥) → CannotLack ((fault : Option Refusal) × JudgesSaid said fault)
+judged (Ok raw) h = follows (verdict_finds raw) (λ v. here (option_map check_refusal v.0, (v.0, v.1, refl)))
+judged (Err NotToml) h = here (Some (placeless SpecText), refl)
+judged (Err (Shape path)) h = here (Some (record { rule = SpecShape; at = path }), refl)
+judged (Err Memory) h = absurd (h refl)
+
+-- what may come of an accepted text, by whether what it uses is built and whether its name is loaded
+accepted : (s : State) (n : ℕ) (toml : List ℕ) (raw : RawSpec) → document_in toml ≡ Ok raw → IsVerdict raw None → (built known : Bool) → is_built_spec raw ≡ built
+    → contains_key s.specs raw.name ≡ known → LoadBreaks s toml (load_after built known)
+    → (step : Step) × (t : State) × FoundAnswers (load_after built known) (commands.Load toml) s n step t
+accepted s n toml raw says passes true false is has breaks =
+    let entry = events.Load raw.name toml ∷ [] in (
+      record { taken = entry ∷ []; reply = done n entry true },
+      after_all s entry,
+      record {
+        entry = entry;
+        quiet = true;
+        legal = record {
+          unbroken = breaks;
+          first = events.Load raw.name toml;
+          asked = (raw, says, refl);
+          allowed = record { raw = raw; says = says; accepted = passes; built = is; named = refl; new = has };
+          alone = refl;
+          is_quiet = refl;
+        };
+        one = refl;
+        told = refl;
+        then = refl;
+      },
+    )
+accepted s n toml raw says passes true true is has breaks = refusing (placeless SpecExists) s n
+accepted s n toml raw says passes false known is has breaks = refusing (placeless NotBuilt) s n
+
+-- by what is found wrong with the text
+found : (s : State) (n : ℕ) (toml : List ℕ) (said : Result RawSpec ReadFault) (fault : Option Refusal) → document_in toml ≡ said → JudgesSaid said fault
+    → LoadBreaks s toml (load_refusal s said fault)
+    → (step : Step) × (t : State) × FoundAnswers (load_refusal s said fault) (commands.Load toml) s n step t
+found s n toml said (Some refusal) e j breaks = refusing refusal s n
+found s n toml (Ok raw) None e j breaks = accepted s n toml raw e (passes j.0 j.1 j.2) (is_built_spec raw) (contains_key s.specs raw.name) refl refl breaks
+  where
+    passes : (broken : Option Broken) → IsVerdict raw broken → None ≡ option_map check_refusal broken → IsVerdict raw None
+    passes None v is = v
+    passes (Some broken) v is = cc
+found s n toml (Err NotToml) None e j breaks = cc
+found s n toml (Err (Shape path)) None e j breaks = cc
+found s n toml (Err Memory) None e j breaks = absurd j
+
+shaped : (r : Result RawSpec (List ℕ)) → with_shape r ≡ Err Memory → ⊥
+shaped (Ok raw) is = cc
+shaped (Err path) is = cc
+
+from_table : (o : Option Members) → spec_from o ≡ Err Memory → ⊥
+from_table None is = cc
+from_table (Some table) is = shaped (spec_table table) is
+
+only_text : (b : Bool) (said : Result RawSpec ReadFault) → (said ≡ Err Memory → ⊥) → cond b said (Err NotToml) ≡ Err Memory → ⊥
+only_text true said h is = h is
+only_text false said h is = cc
+
+-- what a text says is no want of memory
+pub says : (text : List ℕ) → document_in text ≡ Err Memory → ⊥
+unfolding document_in spec_in
+says text = only_text (is_utf8 text) (spec_in text) (from_table (parse_document text))
+
+-- a text that says a specification is UTF-8
+pub says_text : (text : List ℕ) (raw : RawSpec) → document_in text ≡ Ok raw → is_utf8 text ≡ true
+unfolding document_in
+says_text text raw is = utf8 (is_utf8 text) (spec_in text) is
+  where
+    utf8 : (b : Bool) (said : Result RawSpec ReadFault) → cond b said (Err NotToml) ≡ Ok raw → b ≡ true
+    utf8 true said e = refl
+    utf8 false said e = cc
+
+load_answered : (s : State) (n : ℕ) (toml : List ℕ) → HasAnswer (Ok (asked.Command (commands.Load toml))) s n
+load_answered s n toml = follows (judged (document_in toml) (says toml)) (λ j.
+    let refusal = load_refusal s (document_in toml) j.0 in
+    let breaks : LoadBreaks s toml refusal = (j.0, j.1, refl) in
+    let a = found s n toml (document_in toml) j.0 refl j.1 breaks in
+    here (a.0, a.1, (refusal, breaks, a.2)))
+
+person_answered : (s : State) (n : ℕ) (name : List ℕ) (roles : List (List ℕ)) → are_roles roles ≡ true → HasAnswer (Ok (asked.Command (commands.Person name roles))) s n
+person_answered s n name roles h =
+    let event = events.Person name roles in
+    let entry = event ∷ [] in here (
+      record { taken = entry ∷ []; reply = done n entry true },
+      after_all s entry,
+      (
+        None,
+        refl,
+        record {
+          entry = entry;
+          quiet = true;
+          legal = record { unbroken = refl; first = event; asked = refl; allowed = h; alone = refl; is_quiet = refl };
+          one = refl;
+          told = refl;
+          then = refl;
+        },
+      ),
+    )
+
+not_built : (s : State) (n : ℕ) (c : Command) → Breaks s c (Some (placeless NotBuilt)) → HasAnswer (Ok (asked.Command c)) s n
+not_built s n c breaks = let r = refusing (placeless NotBuilt) s n in here (r.0, r.1, (Some (placeless NotBuilt), breaks, r.2))
+
+command_answered : (s : State) (n : ℕ) (c : Command) → IsAsWritten c → HasAnswer (Ok (asked.Command c)) s n
+command_answered s n (commands.Person name roles) h = person_answered s n name roles h.2
+command_answered s n (commands.Load toml) h = load_answered s n toml
+command_answered s n (commands.Rule spec net task kind at side when conclusion) h = not_built s n _ refl
+command_answered s n (commands.Launch spec values) h = not_built s n _ refl
+command_answered s n (commands.Enter who net task) h = not_built s n _ refl
+command_answered s n (commands.Start who id) h = not_built s n _ refl
+command_answered s n (commands.Complete who id out) h = not_built s n _ refl
+command_answered s n (commands.Add who net task value) h = not_built s n _ refl
+command_answered s n (commands.Raise at kind) h = not_built s n _ refl
+command_answered s n (commands.Suspend at) h = not_built s n _ refl
+command_answered s n (commands.Continue at) h = not_built s n _ refl
+command_answered s n (commands.Cancel net) h = not_built s n _ refl
+command_answered s n (commands.Advance net) h = not_built s n _ refl
+
+meaning_answered : (m : Result Asked Rule) → IsReadable m → (s : State) (n : ℕ) → HasAnswer m s n
+meaning_answered (Err rule) h s n = here (refusing (placeless rule) s n)
+meaning_answered (Ok (asked.Command c)) h s n = command_answered s n c h
+meaning_answered (Ok (asked.Query q)) h s n = here (refusing (placeless NotBuilt) s n)
+
+-- no line lacks an answer
+pub answered : (s : State) (n : ℕ) (line : List ℕ) → CannotLack ((step : Step) × (t : State) × Answers s n line step t)
+answered s n line = meaning_answered (meaning built_words line) (line_read line) s n
+
+-- a line asks for commands as they are written
+pub as_written : (line : List ℕ) (c : Command) → meaning built_words line ≡ Ok (asked.Command c) → IsAsWritten c
+as_written line c is = subst IsReadable is (line_read line)
+
+-- what is kept of a line that is too long is answered as the line is
+pub Answers-take : (s : State) (n : ℕ) (line : List ℕ) (step : Step) (t : State) → Answers s n (take (line_limit + 1) line) step t → Answers s n line step t
+Answers-take s n line step t a = subst (λ (m : Result Asked Rule). MeaningAnswers m s n step t) (meaning-take built_words line) a

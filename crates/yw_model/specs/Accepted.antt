@@ -1,0 +1,61 @@
+-- Which texts are accepted as specifications, and the first fault of the others. The three kinds of fault and their order
+-- are our own.
+use Rattle.std.specs.Prelude.{◌≡◌, ◌==◌, ◌&&◌, ℕ, List, length, Bool, true, false, not, is_none, Option, Some, Result, Ok, Err, option_map, if◌then◌else◌}
+use Rattle.std.specs.List.{list_all}
+use Rattle.std.specs.Str.{is_utf8}
+use Rattle.yw_read.specs.Reading.{spec_in}
+use Rattle.yw_read.specs.declared.raw.RawGate.{RawGate}
+use Rattle.yw_read.specs.declared.raw.RawGate.TheVariants as gates
+use Rattle.yw_read.specs.declared.raw.RawKind.{RawKind}
+use Rattle.yw_read.specs.declared.raw.RawKind.TheVariants as kinds
+use Rattle.yw_read.specs.declared.raw.RawNet.{RawNet}
+use Rattle.yw_read.specs.declared.raw.RawSpec.{RawSpec}
+use Rattle.yw_read.specs.declared.raw.RawTask.{RawTask}
+use Rattle.yw_read.specs.declared.raw.ReadFault.{ReadFault}
+use Rattle.yw_read.specs.declared.raw.ReadFault.TheVariants.{NotToml, Shape, Memory}
+use Rattle.yw_accept.specs.declared.broken.Broken.{Broken}
+use Rattle.yw_accept.specs.Faults.{broken_text}
+use Rattle.yw_accept.specs.Verdict.{IsVerdict}
+use Rattle.yw_model.specs.declared.rule.Refusal.{Refusal}
+use Rattle.yw_model.specs.declared.rule.Rule.TheVariants.{SpecText, SpecShape, SpecCheck}
+use Rattle.yw_model.specs.Replies.{placeless}
+
+-- what a text says; bytes that aren't UTF-8 are no document
+unfoldable pub document_in : List ℕ → Result RawSpec ReadFault
+document_in text = if is_utf8 text then spec_in text else Err NotToml
+
+abbrev pub check_refusal : Broken → Refusal
+check_refusal broken = record { rule = SpecCheck; at = broken_text broken }
+
+-- what is found wrong with a document: the first check that fails, if one does
+abbrev pub JudgesSaid : Result RawSpec ReadFault → Option Refusal → Type 0
+JudgesSaid (Ok raw) found = (broken : Option Broken) × IsVerdict raw broken × (found ≡ option_map check_refusal broken)
+JudgesSaid (Err NotToml) found = found ≡ Some (placeless SpecText)
+JudgesSaid (Err (Shape path)) found = found ≡ Some (record { rule = SpecShape; at = path })
+JudgesSaid (Err Memory) found = ⊥
+
+-- the first fault of a text, or none where it is accepted
+abbrev pub IsJudged : List ℕ → Option Refusal → Type 0
+IsJudged text found = JudgesSaid (document_in text) found
+
+-- ---- what specifications may use of what is built
+
+abbrev pub is_composite : RawKind → Bool
+is_composite kinds.Sub = true
+is_composite kind = false
+
+abbrev pub is_or : RawGate → Bool
+is_or gates.Or = true
+is_or gate = false
+
+-- it has neither a net nor a removal set, is no OR-join and no OR-split, and hands nothing over
+abbrev pub is_built_task : RawTask → Bool
+is_built_task task =
+    not (is_composite task.kind) && length task.remove == 0 && not (is_or task.join) && not (is_or task.split)
+    && length task.ins == 0 && length task.outs == 0 && length task.set == 0 && is_none task.each
+
+abbrev pub is_built_net : RawNet → Bool
+is_built_net net = list_all is_built_task net.task
+
+unfoldable pub is_built_spec : RawSpec → Bool
+is_built_spec raw = list_all is_built_net raw.net

@@ -1,0 +1,28 @@
+use Rattle.std.proofs.Common.{inl, inr, ap, ◌∙◌}
+use Rattle.yw_serve.specs.Checked.{status_of}
+use Rattle.yw_serve.proofs.check.serve_check.Goals as goal
+
+pub returns-clause-checks : goal.returns-clause-checks
+returns-clause-checks g c = λ tells bytes left.
+    let said = c.judge_input.ensures in
+    record {
+      verdict = c.judge_input.result;
+      is = c.status_of.ensures;
+      ends = said.ends tells bytes left;
+      only = λ finding found. said.only tells bytes finding left found;
+      takes = said.takes bytes left;
+    }
+
+pub returns-clause-judges : goal.returns-clause-judges
+returns-clause-judges g c = λ bytes finding left found.
+    let is = c.status_of.ensures in
+    elim (c.judge_input.ensures.judges bytes finding left found) [
+      | inl judged ↦ inl (is ∙ ap status_of judged)
+      | inr other ↦ elim other [
+        | inl memory ↦ inr (inl (is ∙ ap status_of memory))
+        | inr failed ↦ elim failed [
+          | inl read ↦ inr (inr (inl (is ∙ ap status_of read)))
+          | inr write ↦ inr (inr (inr (is ∙ ap status_of write)))
+        ]
+      ]
+    ]

@@ -1,0 +1,31 @@
+-- A net: its nodes are the places and the tasks, and flows go from places to tasks and from tasks to places.
+-- The paper's extended workflow net, with an implicit place in each flow from a task to a task.
+use Rattle.std.specs.Prelude.{ℕ, List, [], Contains, slice_get}
+use Rattle.std.specs.Option.{option_map_or}
+use Rattle.yw_reach.specs.Walks.{PathAlong}
+use Rattle.yw_spec.specs.declared.spec.Net.{Net}
+use Rattle.yw_spec.specs.declared.task.Task.{Task}
+
+-- a place or a task, by its number in the net
+pub data Node : Type 0 where
+  at_place : (k : ℕ) → Node
+  at_task : (t : ℕ) → Node
+
+-- the places from which flows lead to a task
+abbrev pub before : Net → ℕ → List ℕ
+before net t = option_map_or (λ (task : Task). task.before) (slice_get net.tasks t) []
+
+-- the places to which flows lead from a task
+abbrev pub after : Net → ℕ → List ℕ
+after net t = option_map_or (λ (task : Task). task.after) (slice_get net.tasks t) []
+
+-- a flow goes from one node to the other
+abbrev pub HasFlow : Net → Node → Node → Type 0
+HasFlow net (at_place k) (at_task t) = Contains (before net t) k
+HasFlow net (at_task t) (at_place k) = Contains (after net t) k
+HasFlow net (at_place k) (at_place j) = ⊥
+HasFlow net (at_task t) (at_task u) = ⊥
+
+-- the second node is reached from the first by flows, or is the same
+abbrev pub Path : Net → Node → Node → Type 0
+Path net = PathAlong (HasFlow net)

@@ -1,0 +1,4 @@
+pub mod ReadLemmas
+pub mod FoundLemmas
+pub mod TellLemmas
+pub mod EndLemmas

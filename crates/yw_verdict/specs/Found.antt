@@ -1,0 +1,36 @@
+-- What is found of a text: the name of its specification, or why it isn't accepted.
+use Rattle.std.specs.Prelude.{◌≡◌, ◌⊎◌, ◌<◌, ◌≤◌, ℕ, List, length, Some, None, Result, Ok}
+use Rattle.yw_read.specs.declared.raw.RawSpec.{RawSpec}
+use Rattle.yw_read.specs.declared.raw.ReadFault.{ReadFault}
+use Rattle.yw_model.specs.declared.rule.Rule.TheVariants.{LineTooLong}
+use Rattle.yw_model.specs.Accepted.{document_in, JudgesSaid}
+use Rattle.yw_model.specs.Replies.{placeless}
+use Rattle.yw_verdict.specs.declared.finding.Finding.{Finding}
+use Rattle.yw_verdict.specs.declared.finding.Finding.TheVariants.{Accepted, Refused}
+
+-- the most bytes of a text that is judged
+unfoldable pub text_limit : ℕ
+text_limit = 1048576
+
+-- of what a text says: the first fault, or the name where there is none
+abbrev pub FindsSaid : Result RawSpec ReadFault → Finding → Type 0
+FindsSaid said (Accepted name) = JudgesSaid said None × (raw : RawSpec) × (said ≡ Ok raw) × (name ≡ raw.name)
+FindsSaid said (Refused refusal) = JudgesSaid said (Some refusal)
+
+-- the text isn't longer than what is judged
+pub record IsJudgedWithin (limit : ℕ) (text : List ℕ) (finding : Finding) : Type 0 where
+  pub within : length text ≤ limit
+  pub finds : FindsSaid (document_in text) finding
+
+-- the text is longer, and isn't looked into
+pub record IsPast (limit : ℕ) (text : List ℕ) (finding : Finding) : Type 0 where
+  pub past : limit < length text
+  pub refused : finding ≡ Refused (placeless LineTooLong)
+
+-- what is found of a text of which at most so many bytes are judged
+abbrev pub IsFoundBy : ℕ → List ℕ → Finding → Type 0
+IsFoundBy limit text finding = IsJudgedWithin limit text finding ⊎ IsPast limit text finding
+
+-- what is found of a text
+abbrev pub IsFound : List ℕ → Finding → Type 0
+IsFound = IsFoundBy text_limit

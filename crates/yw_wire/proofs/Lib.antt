@@ -1,0 +1,3 @@
+pub mod IdentityLemmas
+pub mod ListLemmas
+pub mod ProperLemmas

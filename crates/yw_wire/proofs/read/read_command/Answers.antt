@@ -1,0 +1,16 @@
+use Rattle.std.proofs.Common.{◌≡◌, Result, Ok, Err}
+use Rattle.std.specs.Prelude.{IfOk}
+use Rattle.yw_model.specs.Meaning.{AsksProperly}
+use Rattle.yw_model.specs.declared.command.Asked.{Asked}
+use Rattle.yw_model.specs.declared.rule.Rule.{Rule}
+use Rattle.yw_wire.proofs.ProperLemmas.{asks_properly}
+use Rattle.yw_wire.specs.Faults.{Gives}
+use Rattle.yw_wire.specs.declared.fault.WireFault.{WireFault}
+use Rattle.yw_wire.proofs.read.read_command.Goals as goal
+
+properly : (result : Result Asked WireFault) (said : Result Asked Rule) → Gives result said → ((asked : Asked) → said ≡ Ok asked → AsksProperly asked) → IfOk result AsksProperly
+properly (Ok asked) said gives h = h asked gives
+properly (Err fault) said gives h = tt
+
+pub returns-clause-proper : goal.returns-clause-proper
+returns-clause-proper c = properly c.line_asked.result _ c.line_asked.ensures (asks_properly c.args.built.now c.args.line.now)

@@ -1,0 +1,18 @@
+//! Lines of JSON in, reply lines out.
+#![tactic(auto)]
+
+mod conclusions;
+mod fault;
+mod fields;
+mod kinds;
+mod read;
+mod reply;
+mod shapes;
+mod values;
+
+pub use fault::WireFault;
+pub use read::read_command;
+pub use reply::{reply_done, reply_refused, value_line};
+
+#[cfg(test)]
+mod tests;
