@@ -3,7 +3,7 @@ use Rattle.std.proofs.Common.{◌≡◌, ℕ, ◌+◌, ◌≤◌, true, List, �
 use Rattle.std.specs.List.{list_all, flat_map}
 use Rattle.std.proofs.lemmas.List.{take_at, drop_at, get_or-take, get_or_append_left, append_cancel_right}
 use Rattle.byteorder.specs.Endian.{big_number}
-use Rattle.yw_model.specs.declared.event.Event.{Event}
+use Rattle.yw_state.specs.declared.event.Event.{Event}
 use Rattle.yw_codec.specs.Entries.{event_bytes, is_event, IsEntry}
 use Rattle.yw_codec.proofs.Events.{same_events}
 

@@ -4,11 +4,44 @@ use Rattle.std.specs.List.{list_all, flat_map}
 use Rattle.std.proofs.lemmas.List.{drop_more, drop-drop, append-nil, take-append-drop}
 use Rattle.std.proofs.lemmas.List.Folds.{list_all-append}
 use Rattle.yw_base.specs.Spelling.{is_name}
-use Rattle.yw_model.specs.declared.event.Event.{Event}
-use Rattle.yw_model.specs.declared.event.Event.TheVariants.{Person, Load}
+use Rattle.yw_state.specs.declared.event.Event.{Event}
+use Rattle.yw_state.specs.declared.event.Event.TheVariants as events
+use Rattle.yw_state.specs.declared.event.Event.TheVariants.{Person, Load}
 use Rattle.yw_codec.specs.Entries.{name_bytes, is_text, text_bytes, event_bytes, is_event}
 use Rattle.yw_codec.proofs.Names.{and_left, and_right, same_name, same_names}
 use Rattle.yw_codec.proofs.Texts.{same_text}
+
+-- what holds of a person's events and of loaded specifications' holds of each that has bytes
+with_bytes : (P : Event → Type 0) → ((m : List ℕ) (rs : List (List ℕ)) → P (Person m rs)) → ((m text : List ℕ) → P (Load m text)) → (event : Event) → is_event event ≡ true → P event
+with_bytes P person load (Person m rs) is = person m rs
+with_bytes P person load (Load m text) is = load m text
+with_bytes P person load (events.AddRule place at side when conclusion number) is = cc
+with_bytes P person load (events.Launch n spec vals) is = cc
+with_bytes P person load (events.Enter i t places first count) is = cc
+with_bytes P person load (events.Start j who) is = cc
+with_bytes P person load (events.Complete j out) is = cc
+with_bytes P person load (events.Exit i t places) is = cc
+with_bytes P person load (events.Add i t value n) is = cc
+with_bytes P person load (events.Finish n) is = cc
+with_bytes P person load (events.Cancel n) is = cc
+with_bytes P person load (events.StartSub j) is = cc
+with_bytes P person load (events.CompleteSub j) is = cc
+with_bytes P person load (events.CompleteEmpty j) is = cc
+with_bytes P person load (events.Pass j check) is = cc
+with_bytes P person load (events.Except j check node n) is = cc
+with_bytes P person load (events.Substitute j worklet) is = cc
+with_bytes P person load (events.CompleteWorklet j) is = cc
+with_bytes P person load (events.Raise j kind node n) is = cc
+with_bytes P person load (events.Prim r p) is = cc
+with_bytes P person load (events.Compensated r) is = cc
+with_bytes P person load (events.Suspend j) is = cc
+with_bytes P person load (events.Continue j) is = cc
+with_bytes P person load (events.Advance n) is = cc
+
+-- an event that has bytes is a person's or a loaded specification's
+pub only_two : (event : Event) → is_event event ≡ true → ((m : List ℕ) (rs : List (List ℕ)) → event ≡ Person m rs → ⊥) → ((m text : List ℕ) → event ≡ Load m text → ⊥) → ⊥
+only_two event is = with_bytes (λ (e : Event). ((m : List ℕ) (rs : List (List ℕ)) → e ≡ Person m rs → ⊥) → ((m text : List ℕ) → e ≡ Load m text → ⊥) → ⊥)
+    (λ m rs person load. person m rs refl) (λ m text person load. load m text refl) event is
 
 -- behind a person's tag
 after_person : (m : List ℕ) (rs : List (List ℕ)) (rest bytes : List ℕ) → bytes ≡ event_bytes (Person m rs) ++ rest → drop 1 bytes ≡ name_bytes m ++ (length rs ∷ (flat_map name_bytes rs ++ rest))
@@ -23,34 +56,54 @@ tag_in_front : (tag : ℕ) (fields rest bytes : List ℕ) → bytes ≡ (tag ∷
 tag_in_front tag fields rest bytes e = ap (λ (l : List ℕ). get_or l 0 0) e
 
 -- an event's bytes begin, behind the tag, with a name
+abbrev BeginsWithName : List ℕ → List ℕ → Event → Type 0
+BeginsWithName rest bytes event =
+    is_event event ≡ true → bytes ≡ event_bytes event ++ rest → (m : List ℕ) × (behind : List ℕ) × (is_name m ≡ true) × (drop 1 bytes ≡ name_bytes m ++ behind)
+
 pub name_of : (event : Event) (rest bytes : List ℕ) → is_event event ≡ true → bytes ≡ event_bytes event ++ rest → (m : List ℕ) × (behind : List ℕ) × (is_name m ≡ true) × (drop 1 bytes ≡ name_bytes m ++ behind)
-name_of (Person m rs) rest bytes is e = (
-  m,
-  length rs ∷ (flat_map name_bytes rs ++ rest),
-  and_left (is_name m) (list_all is_name rs) (and_left (is_name m && list_all is_name rs) (nat_lt (length rs) 256) is),
-  after_person m rs rest bytes e,
-)
-name_of (Load m text) rest bytes is e = (m, text_bytes text ++ rest, and_left (is_name m) (is_text text) is, after_load m text rest bytes e)
+name_of event rest bytes is e = with_bytes (BeginsWithName rest bytes)
+    (λ m rs is e. (
+      m,
+      length rs ∷ (flat_map name_bytes rs ++ rest),
+      and_left (is_name m) (list_all is_name rs) (and_left (is_name m && list_all is_name rs) (nat_lt (length rs) 256) is),
+      after_person m rs rest bytes e,
+    ))
+    (λ m text is e. (m, text_bytes text ++ rest, and_left (is_name m) (is_text text) is, after_load m text rest bytes e))
+    event is is e
 
 -- and behind that name a person's with the roles
+abbrev GoesOnWithRoles : List ℕ → List ℕ → List ℕ → List ℕ → Event → Type 0
+GoesOnWithRoles rest bytes n behind event =
+    is_event event ≡ true → bytes ≡ event_bytes event ++ rest → get_or bytes 0 0 ≡ 1 → drop 1 bytes ≡ name_bytes n ++ behind
+    → (rs : List (List ℕ)) × (list_all is_name rs ≡ true) × (behind ≡ length rs ∷ (flat_map name_bytes rs ++ rest))
+
 pub roles_of : (event : Event) (rest bytes n behind : List ℕ) → is_event event ≡ true → bytes ≡ event_bytes event ++ rest → get_or bytes 0 0 ≡ 1 → drop 1 bytes ≡ name_bytes n ++ behind
     → (rs : List (List ℕ)) × (list_all is_name rs ≡ true) × (behind ≡ length rs ∷ (flat_map name_bytes rs ++ rest))
-roles_of (Person m rs) rest bytes n behind is e tag split = (
-  rs,
-  and_right (is_name m) (list_all is_name rs) (and_left (is_name m && list_all is_name rs) (nat_lt (length rs) 256) is),
-  (same_name n m behind (length rs ∷ (flat_map name_bytes rs ++ rest)) (sym split ∙ after_person m rs rest bytes e)).1,
-)
-roles_of (Load m text) rest bytes n behind is e tag split = absurd (omega (arith, tag_in_front 2 (name_bytes m ++ text_bytes text) rest bytes e))
+roles_of event rest bytes n behind is e tag split = with_bytes (GoesOnWithRoles rest bytes n behind)
+    (λ m rs is e tag split. (
+      rs,
+      and_right (is_name m) (list_all is_name rs) (and_left (is_name m && list_all is_name rs) (nat_lt (length rs) 256) is),
+      (same_name n m behind (length rs ∷ (flat_map name_bytes rs ++ rest)) (sym split ∙ after_person m rs rest bytes e)).1,
+    ))
+    (λ m text is e tag split. absurd (omega (arith, tag_in_front 2 (name_bytes m ++ text_bytes text) rest bytes e)))
+    event is is e tag split
 
 -- a loaded specification's with the text
+abbrev GoesOnWithText : List ℕ → List ℕ → List ℕ → List ℕ → Event → Type 0
+GoesOnWithText rest bytes n behind event =
+    is_event event ≡ true → bytes ≡ event_bytes event ++ rest → get_or bytes 0 0 ≡ 2 → drop 1 bytes ≡ name_bytes n ++ behind
+    → (text : List ℕ) × (is_text text ≡ true) × (behind ≡ text_bytes text ++ rest)
+
 pub text_of : (event : Event) (rest bytes n behind : List ℕ) → is_event event ≡ true → bytes ≡ event_bytes event ++ rest → get_or bytes 0 0 ≡ 2 → drop 1 bytes ≡ name_bytes n ++ behind
     → (text : List ℕ) × (is_text text ≡ true) × (behind ≡ text_bytes text ++ rest)
-text_of (Person m rs) rest bytes n behind is e tag split = absurd (omega (arith, tag_in_front 1 (name_bytes m ++ (length rs ∷ flat_map name_bytes rs)) rest bytes e))
-text_of (Load m text) rest bytes n behind is e tag split = (
-  text,
-  and_right (is_name m) (is_text text) is,
-  (same_name n m behind (text_bytes text ++ rest) (sym split ∙ after_load m text rest bytes e)).1,
-)
+text_of event rest bytes n behind is e tag split = with_bytes (GoesOnWithText rest bytes n behind)
+    (λ m rs is e tag split. absurd (omega (arith, tag_in_front 1 (name_bytes m ++ (length rs ∷ flat_map name_bytes rs)) rest bytes e)))
+    (λ m text is e tag split. (
+      text,
+      and_right (is_name m) (is_text text) is,
+      (same_name n m behind (text_bytes text ++ rest) (sym split ∙ after_load m text rest bytes e)).1,
+    ))
+    event is is e tag split
 
 -- what stands behind the name
 pub behind_name : (bytes n : List ℕ) → drop (1 + length n) (drop 1 bytes) ≡ drop (2 + length n) bytes
@@ -97,19 +150,33 @@ load_split bytes n text at end some tag split place size is =
         ∙ ap (λ (l : List ℕ). text_bytes text ++ l) (drop-drop (4 + length text) at bytes ∙ ap (λ (k : ℕ). drop k bytes) (omega arith))
 
 -- two events at one front are one
-pub same_event : (e f : Event) (x y : List ℕ) → is_event e ≡ true → is_event f ≡ true → event_bytes e ++ x ≡ event_bytes f ++ y → (e ≡ f) × (x ≡ y)
-same_event (Person m rs) (Person n ss) x y is_e is_f eq =
+abbrev IsSameAs : List ℕ → List ℕ → Event → Event → Type 0
+IsSameAs x y e f = is_event e ≡ true → is_event f ≡ true → event_bytes e ++ x ≡ event_bytes f ++ y → (e ≡ f) × (x ≡ y)
+
+same_persons : (m : List ℕ) (rs : List (List ℕ)) (n : List ℕ) (ss : List (List ℕ)) (x y : List ℕ) → IsSameAs x y (Person m rs) (Person n ss)
+same_persons m rs n ss x y is_e is_f eq =
     let first = same_name m n (length rs ∷ (flat_map name_bytes rs ++ x)) (length ss ∷ (flat_map name_bytes ss ++ y))
     (sym (after_person m rs x (event_bytes (Person m rs) ++ x) refl) ∙ after_person n ss y (event_bytes (Person m rs) ++ x) eq) in
     let others = same_names rs ss x y (ap (λ (l : List ℕ). get_or l 0 0) first.1) (ap (drop 1) first.1) in
     (ap (λ (l : List ℕ). Person l rs) first.0 ∙ ap (λ (l : List (List ℕ)). Person n l) others.0, others.1)
-same_event (Person m rs) (Load n t) x y is_e is_f eq = absurd (omega (arith, ap (λ (l : List ℕ). get_or l 0 0) eq))
-same_event (Load m s) (Person n ss) x y is_e is_f eq = absurd (omega (arith, ap (λ (l : List ℕ). get_or l 0 0) eq))
-same_event (Load m s) (Load n t) x y is_e is_f eq =
+
+same_loads : (m s n t x y : List ℕ) → IsSameAs x y (Load m s) (Load n t)
+same_loads m s n t x y is_e is_f eq =
     let first = same_name m n (text_bytes s ++ x) (text_bytes t ++ y)
     (sym (after_load m s x (event_bytes (Load m s) ++ x) refl) ∙ after_load n t y (event_bytes (Load m s) ++ x) eq) in
     let others = same_text s t x y (and_right (is_name m) (is_text s) is_e) (and_right (is_name n) (is_text t) is_f) first.1 in
     (ap (λ (l : List ℕ). Load l s) first.0 ∙ ap (λ (l : List ℕ). Load n l) others.0, others.1)
+
+same_as_person : (m : List ℕ) (rs : List (List ℕ)) (f : Event) (x y : List ℕ) → IsSameAs x y (Person m rs) f
+same_as_person m rs f x y is_e is_f eq = with_bytes (IsSameAs x y (Person m rs)) (λ n ss. same_persons m rs n ss x y)
+    (λ n t is_e is_f eq. absurd (omega (arith, ap (λ (l : List ℕ). get_or l 0 0) eq))) f is_f is_e is_f eq
+
+same_as_load : (m s : List ℕ) (f : Event) (x y : List ℕ) → IsSameAs x y (Load m s) f
+same_as_load m s f x y is_e is_f eq = with_bytes (IsSameAs x y (Load m s)) (λ n ss is_e is_f eq. absurd (omega (arith, ap (λ (l : List ℕ). get_or l 0 0) eq)))
+    (λ n t. same_loads m s n t x y) f is_f is_e is_f eq
+
+pub same_event : (e f : Event) (x y : List ℕ) → is_event e ≡ true → is_event f ≡ true → event_bytes e ++ x ≡ event_bytes f ++ y → (e ≡ f) × (x ≡ y)
+same_event e f x y is_e is_f eq = with_bytes (λ (g : Event). IsSameAs x y g f) (λ m rs. same_as_person m rs f x y) (λ m s. same_as_load m s f x y) e is_e is_e is_f eq
 
 -- the bytes begin with these events, and what follows them stands from this offset on
 pub record BeginsWith (bytes : List ℕ) (events : List Event) (at count : ℕ) : Type 0 where

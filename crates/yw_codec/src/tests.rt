@@ -51,14 +51,14 @@ fn load(alloc: Global) -> Result<EventList, AllocError>
 fn is_ann_the_clerk(event: &Event) -> bool {
     match event {
         Event::Person { name, roles } => name.as_str() == "ann" && roles.len() == 1,
-        Event::Load { .. } => false,
+        _ => false,
     }
 }
 
 fn is_load_of_s(event: &Event) -> bool {
     match event {
-        Event::Person { .. } => false,
         Event::Load { name, text } => name.as_str() == "s" && text.as_str() == "name = \"s\"",
+        _ => false,
     }
 }
 

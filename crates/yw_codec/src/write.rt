@@ -75,6 +75,7 @@ fn push_event(out: &mut Vec<u8>, event: &Event) -> Result<(), AllocError>
             push_name(out, name)?;
             push_text(out, text.as_str())
         }
+        _ => unreachable!(),
     }
 }
 

@@ -2,16 +2,21 @@
 use Rattle.std.proofs.Common.{◌≡◌, ◌⊎◌, inl, inr, ℕ, suc, zero, List, [], ◌∷◌, ◌++◌, Bool, true, false, cond, Option, Some, None, nat_cmp, refl, sym, ap, subst, ◌∙◌}
 use Rattle.std.specs.Prelude.{All, length, map, is_some, slice_get, slice_set}
 use Rattle.std.specs.Cmp.Lexicographic.{slice_cmp}
-use Rattle.std.specs.FinMap.{FinMap, contains_key, find, from_entries, from_entries_push, get, get-from_entries, get-insert, insert, same_map, slice_cmp-IsAntisymmetric, nat_cmp-IsAntisymmetric}
+use Rattle.std.specs.FinMap.{insert}
+use Rattle.std.specs.FinMap.Entries.{find}
 use Rattle.std.specs.Str.{bytes_eq}
-use Rattle.std.proofs.lemmas.Cmp.{nat_list_cmp_total}
 use Rattle.std.proofs.lemmas.List.{map-append}
 use Rattle.std.proofs.lemmas.List.Elements.{All-nil, All-push}
 use Rattle.std.proofs.lemmas.Option.{slice_get_within, get_or_from_slice_get}
 use Rattle.std.proofs.lemmas.Slice.Eq.{bytes_eq-Decides}
-use Rattle.yw_model.specs.State.{State, after, Persons, Specs}
-use Rattle.yw_model.specs.declared.event.Event.TheVariants as events
-use Rattle.yw_library.specs.Holdings.{Holdings, IsKeptRight, SaysItsText, person_name, put_person, roles_under, spec_name, state_of, text_under, with_person, with_spec}
+use Rattle.yw_state.specs.Events.{after}
+use Rattle.yw_state.specs.Map.{Map, empty, get, has_key, lexical, of_entries}
+use Rattle.yw_state.specs.State.{LoadedSpec}
+use Rattle.yw_state.specs.Texts.{a_spec, nothing}
+use Rattle.yw_state.proofs.MapEntries.{get-of_entries, of_entries-push}
+use Rattle.yw_state.proofs.MapLemmas.{by_name, get-insert, same_map}
+use Rattle.yw_state.specs.declared.event.Event.TheVariants as events
+use Rattle.yw_library.specs.Holdings.{Holdings, IsKeptRight, SaysItsText, person_name, put_person, roles_under, spec_name, kept_as, spec_under, state_of, with_person, with_spec}
 use Rattle.yw_library.specs.Numbers.{NumberedNames, AreFound, IsNumberOf, NoneNamed}
 use Rattle.yw_library.specs.declared.items.Loaded.{Loaded}
 use Rattle.yw_library.specs.declared.items.Person.{Person}
@@ -36,28 +41,28 @@ roles-found library numbers name i p found at (one, there, has) =
     let same : one ≡ p = cc in
     get_where_found person_name (λ (p : Person). p.roles) library.persons numbers name i p found at (ap person_name (sym same) ∙ has)
 
-pub text-none : (library : Holdings) (name : List ℕ) → NoneNamed spec_name library.specs name → get (state_of library).specs name ≡ None
+pub spec-missing : (library : Holdings) (name : List ℕ) → NoneNamed spec_name library.specs name → get (state_of library).specs name ≡ None
 unfolding state_of
-text-none library name none = get_where_none spec_name (λ (l : Loaded). l.text) library.specs name none
+spec-missing library name none = get_where_none spec_name kept_as library.specs name none
 
-pub text-found : (library : Holdings) (numbers : NumberedNames) (name : List ℕ) (i : ℕ) (l : Loaded) → AreFound spec_name library.specs numbers
-    → slice_get library.specs i ≡ Some l → IsNumberOf spec_name library.specs name (Some i) → get (state_of library).specs name ≡ Some l.text
+pub spec-found : (library : Holdings) (numbers : NumberedNames) (name : List ℕ) (i : ℕ) (l : Loaded) → AreFound spec_name library.specs numbers
+    → slice_get library.specs i ≡ Some l → IsNumberOf spec_name library.specs name (Some i) → get (state_of library).specs name ≡ Some (kept_as l)
 unfolding state_of
-text-found library numbers name i l found at (one, there, has) =
+spec-found library numbers name i l found at (one, there, has) =
     let same : one ≡ l = cc in
-    get_where_found spec_name (λ (l : Loaded). l.text) library.specs numbers name i l found at (ap spec_name (sym same) ∙ has)
+    get_where_found spec_name kept_as library.specs numbers name i l found at (ap spec_name (sym same) ∙ has)
 
-pub spec-free : (library : Holdings) (name : List ℕ) → NoneNamed spec_name library.specs name → contains_key (state_of library).specs name ≡ false
+pub spec-free : (library : Holdings) (name : List ℕ) → NoneNamed spec_name library.specs name → has_key (state_of library).specs name ≡ false
 unfolding state_of
-spec-free library name none = key_where_none spec_name (λ (l : Loaded). l.text) library.specs name none
+spec-free library name none = key_where_none spec_name kept_as library.specs name none
 
-pub spec-known : (library : Holdings) (name : List ℕ) (i : ℕ) → IsNumberOf spec_name library.specs name (Some i) → contains_key (state_of library).specs name ≡ true
+pub spec-known : (library : Holdings) (name : List ℕ) (i : ℕ) → IsNumberOf spec_name library.specs name (Some i) → has_key (state_of library).specs name ≡ true
 unfolding state_of
-spec-known library name i one = key_where_one spec_name (λ (l : Loaded). l.text) library.specs name i one
+spec-known library name i one = key_where_one spec_name kept_as library.specs name i one
 
-pub spec-none : (library : Holdings) (name : List ℕ) → contains_key (state_of library).specs name ≡ false → NoneNamed spec_name library.specs name
+pub spec-none : (library : Holdings) (name : List ℕ) → has_key (state_of library).specs name ≡ false → NoneNamed spec_name library.specs name
 unfolding state_of
-spec-none library name free = none_from_key spec_name (λ (l : Loaded). l.text) library.specs name free
+spec-none library name free = none_from_key spec_name kept_as library.specs name free
 
 -- ---- persons
 
@@ -141,15 +146,16 @@ roles_in-put_person new (p ∷ ps) q = by (bytes_eq p.name new.name) refl (roles
         ∙ swapped (is_same q new.name) (is_same q p.name) (Some new.roles) (Some p.roles) (roles_in ps q)
         (λ a b. differ p.name new.name e (sym (same_from_true q p.name b) ∙ same_from_true q new.name a))
 
-pub state-with_person : (library : Holdings) (new : Person) → state_of (with_person library new) ≡ after (state_of library) (events.Person new.name new.roles)
-unfolding state_of
+pub state-with_person : (library : Holdings) (new : Person) → state_of (with_person library new) ≡ after (state_of library) (events.Person new.name new.roles) nothing
+unfolding state_of after
 state-with_person library new =
-    let texts : Specs = from_entries (map text_under library.specs) in
-    ap (λ (m : Persons). record { persons = m; specs = texts }) (same_map nat_list_cmp_total (slice_cmp-IsAntisymmetric nat_cmp-IsAntisymmetric) _ _ (λ q.
-    get-from_entries nat_list_cmp_total (map roles_under (put_person new library.persons)) q
+    let specs : Map lexical LoadedSpec = of_entries (map spec_under library.specs) in
+    ap (λ (m : Map lexical (List (List ℕ))). record { specs = specs; persons = m; rules = empty; next = 1; sites = empty; ended = empty })
+    (same_map by_name _ _ (λ q.
+    get-of_entries by_name (map roles_under (put_person new library.persons)) q
     ∙ roles_in-put_person new library.persons q
-    ∙ sym (get-insert nat_list_cmp_total (from_entries (map roles_under library.persons)) new.name new.roles q
-    ∙ ap (cond (is_same q new.name) (Some new.roles)) (get-from_entries nat_list_cmp_total (map roles_under library.persons) q))))
+    ∙ sym (get-insert by_name (of_entries (map roles_under library.persons)) new.name new.roles q
+    ∙ ap (cond (is_same q new.name) (Some new.roles)) (get-of_entries by_name (map roles_under library.persons) q))))
 
 -- ---- specifications
 
@@ -157,16 +163,16 @@ none_from_some : {V : Type 0} (o : Option V) → is_some o ≡ false → o ≡ N
 none_from_some None e = refl
 none_from_some (Some x) e = cc
 
-pub state-with_spec : (library : Holdings) (loaded : Loaded) → contains_key (state_of library).specs loaded.spec.name ≡ false
-    → state_of (with_spec library loaded) ≡ after (state_of library) (events.Load loaded.spec.name loaded.text)
-unfolding state_of
+pub state-with_spec : (library : Holdings) (loaded : Loaded) → has_key (state_of library).specs loaded.spec.name ≡ false
+    → state_of (with_spec library loaded) ≡ after (state_of library) (events.Load loaded.spec.name loaded.text) (a_spec loaded.spec)
+unfolding state_of after
 state-with_spec library loaded free =
-    let roles : Persons = from_entries (map roles_under library.persons) in
-    let texts = map text_under library.specs in
-    let none = sym (get-from_entries nat_list_cmp_total texts loaded.spec.name) ∙ none_from_some (get (from_entries texts) loaded.spec.name) free in
-    ap (λ (m : Specs). record { persons = roles; specs = m })
-    (ap (λ (es : List (List ℕ × List ℕ)). from_entries es) (map-append text_under library.specs (loaded ∷ []))
-    ∙ from_entries_push nat_list_cmp_total (slice_cmp-IsAntisymmetric nat_cmp-IsAntisymmetric) texts loaded.spec.name loaded.text none)
+    let roles : Map lexical (List (List ℕ)) = of_entries (map roles_under library.persons) in
+    let specs = map spec_under library.specs in
+    let none = sym (get-of_entries by_name specs loaded.spec.name) ∙ none_from_some (get (of_entries specs) loaded.spec.name) free in
+    ap (λ (m : Map lexical LoadedSpec). record { specs = m; persons = roles; rules = empty; next = 1; sites = empty; ended = empty })
+    (ap (λ (es : List (List ℕ × LoadedSpec)). of_entries es) (map-append spec_under library.specs (loaded ∷ []))
+    ∙ of_entries-push by_name specs loaded.spec.name (kept_as loaded) none)
 
 pub all_at : {A : Type 0} (P : A → Type 0) (xs : List A) (i : ℕ) (x : A) → All P xs → slice_get xs i ≡ Some x → P x
 all_at P xs i x all at = subst P (get_or_from_slice_get xs i x x at) (all i x (slice_get_within xs i x at))

@@ -2,11 +2,16 @@
 use Rattle.std.proofs.Common.{◌≡◌, ◌⊎◌, inl, inr, ℕ, suc, zero, List, [], ◌∷◌, ◌++◌, length, Bool, true, false, cond, Option, Some, None, nat_cmp, refl, sym, ap, ◌∙◌}
 use Rattle.std.specs.Prelude.{map, is_some, slice_get, slice_set}
 use Rattle.std.specs.Cmp.Lexicographic.{slice_cmp}
-use Rattle.std.specs.FinMap.{FinMap, contains_key, find, from_entries, get, get-from_entries, get-insert, insert}
+use Rattle.std.specs.FinMap.{get, get-insert, insert}
+use Rattle.std.specs.FinMap.Entries.{find}
 use Rattle.std.specs.Ordering.{eq_by_cmp}
 use Rattle.std.proofs.lemmas.Cmp.{nat_list_cmp_total}
 use Rattle.std.proofs.lemmas.Map.Text.{is_eq-slice_cmp}
 use Rattle.std.proofs.lemmas.Slice.Eq.{bytes_eq-Decides}
+use Rattle.yw_state.specs.Map as maps
+use Rattle.yw_state.specs.Map.{Map, has_key, lexical, of_entries}
+use Rattle.yw_state.proofs.MapEntries.{get-of_entries}
+use Rattle.yw_state.proofs.MapLemmas.{by_name}
 use Rattle.yw_library.specs.Numbers.{NumberedNames, AreFound, NoneNamed, IsNumberOf}
 
 -- ---- names that are the same
@@ -73,13 +78,13 @@ looked named value (x ∷ xs) name = look_on named value x xs name (is_same name
 
 -- ---- the map that a list stands for
 
-abbrev pub map_of : {A V : Type 0} → (A → List ℕ) → (A → V) → List A → FinMap (slice_cmp nat_cmp) V
-map_of named value xs = from_entries {R = slice_cmp nat_cmp} (map (entry named value) xs)
+abbrev pub map_of : {A V : Type 0} → (A → List ℕ) → (A → V) → List A → Map lexical V
+map_of named value xs = of_entries (map (entry named value) xs)
 
-pub get-map_of : {A V : Type 0} (named : A → List ℕ) (value : A → V) (xs : List A) (name : List ℕ) → get (map_of named value xs) name ≡ found_in named value xs name
-get-map_of named value xs name = get-from_entries nat_list_cmp_total (map (entry named value) xs) name
+pub get-map_of : {A V : Type 0} (named : A → List ℕ) (value : A → V) (xs : List A) (name : List ℕ) → maps.get (map_of named value xs) name ≡ found_in named value xs name
+get-map_of named value xs name = get-of_entries by_name (map (entry named value) xs) name
 
-pub get_where_none : {A V : Type 0} (named : A → List ℕ) (value : A → V) (xs : List A) (name : List ℕ) → NoneNamed named xs name → get (map_of named value xs) name ≡ None
+pub get_where_none : {A V : Type 0} (named : A → List ℕ) (value : A → V) (xs : List A) (name : List ℕ) → NoneNamed named xs name → maps.get (map_of named value xs) name ≡ None
 get_where_none named value xs name none = get-map_of named value xs name ∙ by (looked named value xs name)
   where
     by : Looked named value xs name → found_in named value xs name ≡ None
@@ -87,7 +92,7 @@ get_where_none named value xs name none = get-map_of named value xs name ∙ by 
     by (inr first) = absurd (none first.place first.one first.stands first.has)
 
 pub get_where_found : {A V : Type 0} (named : A → List ℕ) (value : A → V) (xs : List A) (numbers : NumberedNames) (name : List ℕ) (i : ℕ) (x : A)
-    → AreFound named xs numbers → slice_get xs i ≡ Some x → named x ≡ name → get (map_of named value xs) name ≡ Some (value x)
+    → AreFound named xs numbers → slice_get xs i ≡ Some x → named x ≡ name → maps.get (map_of named value xs) name ≡ Some (value x)
 get_where_found {A} named value xs numbers name i x found at has = get-map_of named value xs name ∙ by (looked named value xs name)
   where
     by : Looked named value xs name → found_in named value xs name ≡ Some (value x)
@@ -100,20 +105,20 @@ get_where_found {A} named value xs numbers name i x found at has = get-map_of na
         let same : first.one ≡ x = cc in
         first.is ∙ ap (λ (y : A). Some (value y)) same
 
-pub none_from_key : {A V : Type 0} (named : A → List ℕ) (value : A → V) (xs : List A) (name : List ℕ) → contains_key (map_of named value xs) name ≡ false → NoneNamed named xs name
+pub none_from_key : {A V : Type 0} (named : A → List ℕ) (value : A → V) (xs : List A) (name : List ℕ) → has_key (map_of named value xs) name ≡ false → NoneNamed named xs name
 none_from_key named value xs name free = by (looked named value xs name)
   where
     by : Looked named value xs name → NoneNamed named xs name
     by (inl missing) = missing.none
     by (inr first) = let is = ap is_some (get-map_of named value xs name ∙ first.is) in absurd cc
 
-pub key_where_none : {A V : Type 0} (named : A → List ℕ) (value : A → V) (xs : List A) (name : List ℕ) → NoneNamed named xs name → contains_key (map_of named value xs) name ≡ false
+pub key_where_none : {A V : Type 0} (named : A → List ℕ) (value : A → V) (xs : List A) (name : List ℕ) → NoneNamed named xs name → has_key (map_of named value xs) name ≡ false
 key_where_none named value xs name none = ap is_some (get_where_none named value xs name none)
 
-pub key_where_one : {A V : Type 0} (named : A → List ℕ) (value : A → V) (xs : List A) (name : List ℕ) (i : ℕ) → IsNumberOf named xs name (Some i) → contains_key (map_of named value xs) name ≡ true
+pub key_where_one : {A V : Type 0} (named : A → List ℕ) (value : A → V) (xs : List A) (name : List ℕ) (i : ℕ) → IsNumberOf named xs name (Some i) → has_key (map_of named value xs) name ≡ true
 key_where_one named value xs name i one = by (looked named value xs name)
   where
-    by : Looked named value xs name → contains_key (map_of named value xs) name ≡ true
+    by : Looked named value xs name → has_key (map_of named value xs) name ≡ true
     by (inl missing) = absurd (missing.none i one.0 one.1 one.2)
     by (inr first) = ap is_some (get-map_of named value xs name ∙ first.is)
 

@@ -1,5 +1,5 @@
 -- What a table of numbers has, and what it has after a change.
-use Rattle.std.proofs.Common.{◌≡◌, ℕ, List, [], ◌∷◌, String, Global, Option, Some, Bool, cond, string_bytes, string_cmp, nat_cmp, BTreeMap, refl, sym, ap, ◌∙◌}
+use Rattle.std.proofs.Common.{◌≡◌, ℕ, List, [], ◌∷◌, String, Global, Some, Bool, cond, string_bytes, string_cmp, nat_cmp, BTreeMap, refl, sym, ap, ◌∙◌}
 use Rattle.std.specs.Cmp.Lexicographic.{slice_cmp}
 use Rattle.std.specs.Cmp.{eq_by_cmp_equiv}
 use Rattle.std.specs.Ordering.{is_eq}

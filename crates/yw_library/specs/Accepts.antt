@@ -1,37 +1,14 @@
--- What is found of a text that is to be loaded.
-use Rattle.std.specs.Prelude.{◌≡◌, ℕ, List, Option, Some, None, Result, Ok, Err, true}
-use Rattle.yw_spec.specs.declared.spec.Spec.{Spec}
-use Rattle.yw_read.specs.declared.raw.RawSpec.{RawSpec}
+-- How what is found of a text that is to be loaded is answered.
+use Rattle.std.specs.Prelude.{◌≡◌, Option, Some, None, Result, Ok, Err}
 use Rattle.yw_read.specs.declared.raw.ReadFault.{ReadFault}
 use Rattle.yw_read.specs.declared.raw.ReadFault.TheVariants as reads
-use Rattle.yw_accept.specs.Built.{IsSpec}
-use Rattle.yw_accept.specs.Verdict.{IsVerdict}
 use Rattle.yw_check.specs.declared.fault.CheckFault.{CheckFault}
 use Rattle.yw_check.specs.declared.fault.CheckFault.TheVariants as checks
-use Rattle.yw_model.specs.Accepted.{document_in, is_built_spec}
-use Rattle.yw_model.specs.Replies.{placeless}
-use Rattle.yw_model.specs.State.{State, LoadBreaks}
-use Rattle.yw_model.specs.declared.rule.Refusal.{Refusal}
-use Rattle.yw_model.specs.declared.rule.Rule.TheVariants.{SpecText, SpecShape, SpecCheck}
+use Rattle.yw_state.specs.Broken.{placeless}
+use Rattle.yw_state.specs.declared.rule.Refusal.{Refusal}
+use Rattle.yw_state.specs.declared.rule.Rule.TheVariants.{SpecText, SpecShape, SpecCheck}
 use Rattle.yw_library.specs.declared.fault.LibraryFault.{LibraryFault}
 use Rattle.yw_library.specs.declared.fault.LibraryFault.TheVariants as faults
-
--- The text is accepted, and says this specification, which uses what is built alone.
-pub record IsAccepted (text : List ℕ) (spec : Spec) : Type 0 where
-  pub raw : RawSpec
-  pub says : document_in text ≡ Ok raw
-  pub accepted : IsVerdict raw None
-  pub built : is_built_spec raw ≡ true
-  pub is_spec : IsSpec raw spec
-
--- This is what a text breaks that is to be loaded, and nothing else is.
-pub record BreaksOnly (s : State) (text : List ℕ) (answer : Option Refusal) : Type 0 where
-  pub breaks : LoadBreaks s text answer
-  pub only : (found : Option Refusal) → LoadBreaks s text found → found ≡ answer
-
--- the text breaks this rule, whatever is loaded
-abbrev pub IsUnfit : List ℕ → Refusal → Type 0
-IsUnfit text refusal = (s : State) → BreaksOnly s text (Some refusal)
 
 -- ---- faults
 

@@ -1,12 +1,12 @@
 -- What a library holds, in order, and the state that it stands for.
-use Rattle.std.specs.Prelude.{◌≡◌, ℕ, List, [], ◌∷◌, ◌++◌, map, Option, Some, All, slice_get, if◌then◌else◌}
-use Rattle.std.specs.FinMap.{from_entries, get}
+use Rattle.std.specs.Prelude.{◌≡◌, ℕ, List, [], ◌∷◌, ◌++◌, map, Some, All, slice_get, if◌then◌else◌}
 use Rattle.std.specs.Str.{bytes_eq}
 use Rattle.yw_spec.specs.declared.spec.Spec.{Spec}
-use Rattle.yw_model.specs.State.{State}
+use Rattle.yw_state.specs.Map.{empty, get, of_entries}
+use Rattle.yw_state.specs.State.{State, LoadedSpec}
+use Rattle.yw_model.specs.Texts.{IsAccepted}
 use Rattle.yw_library.specs.declared.items.Loaded.{Loaded}
 use Rattle.yw_library.specs.declared.items.Person.{Person}
-use Rattle.yw_library.specs.Accepts.{IsAccepted}
 use Rattle.yw_library.specs.Numbers.{NumberedNames, AreFound}
 
 -- Persons in the order of their first coming, and specifications in the order of loading.
@@ -26,12 +26,23 @@ spec_name l = l.spec.name
 abbrev pub roles_under : Person → List ℕ × List (List ℕ)
 roles_under p = (p.name, p.roles)
 
-abbrev pub text_under : Loaded → List ℕ × List ℕ
-text_under l = (l.spec.name, l.text)
+abbrev pub kept_as : Loaded → LoadedSpec
+kept_as l = record { text = l.text; spec = l.spec }
 
--- the roles of persons by name, and the texts of specifications by name
+abbrev pub spec_under : Loaded → List ℕ × LoadedSpec
+spec_under l = (l.spec.name, kept_as l)
+
+-- the roles of persons and the specifications by name; no rule is added, and no case stands
 unfoldable pub state_of : Holdings → State
-state_of library = record { persons = from_entries (map roles_under library.persons); specs = from_entries (map text_under library.specs) }
+state_of library =
+    record {
+      specs = of_entries (map spec_under library.specs);
+      persons = of_entries (map roles_under library.persons);
+      rules = empty;
+      next = 1;
+      sites = empty;
+      ended = empty;
+    }
 
 -- ---- what stays so
 
@@ -71,6 +82,6 @@ pub record AddsSpec (old new : Holdings) (name text : List ℕ) : Type 0 where
 -- Under the name a text is loaded that says this specification. It is the one with this number.
 pub record IsKept (library : Holdings) (name : List ℕ) (spec : Spec) (number : ℕ) : Type 0 where
   pub text : List ℕ
-  pub kept : get (state_of library).specs name ≡ Some text
+  pub kept : get (state_of library).specs name ≡ Some (record { text = text; spec = spec })
   pub stands : slice_get library.specs number ≡ Some (record { text = text; spec = spec })
   pub accepted : IsAccepted text spec

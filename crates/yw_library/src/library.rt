@@ -1,12 +1,18 @@
 // Persons with their roles, and the specifications that are loaded.
 ghost use Rattle.std.specs.Prelude.{◌≡◌, ◌<◌, List, ℕ, Option, Some, None, false, length, slice_get, slice_set, All, IfOk, OnOk, OnErr, MatchOption};
-ghost use Rattle.std.specs.FinMap.{contains_key, get};
 ghost use Rattle.std.specs.Option.{option_copied};
-ghost use Rattle.yw_model.specs.declared.event.Event.TheVariants as events;
-ghost use Rattle.yw_model.specs.declared.rule.Refusal.{Refusal};
-ghost use Rattle.yw_model.specs.State.{IsLoadable, LoadBreaks, after, opening};
-ghost use Rattle.yw_library.specs.Accepts.{Answers, IfRefused, IsAccepted};
-ghost use Rattle.yw_library.specs.Holdings.{AddsSpec, IsKept, SaysItsText, nothing, person_name, spec_name, state_of, with_person, with_spec};
+ghost use Rattle.yw_state.specs.declared.event.Event.TheVariants as events;
+ghost use Rattle.yw_state.specs.declared.rule.Refusal.{Refusal};
+ghost use Rattle.yw_state.specs.Broken.{Breaks};
+ghost use Rattle.yw_state.specs.Events.{Leads, after};
+ghost use Rattle.yw_state.specs.Map.{get, has_key};
+ghost use Rattle.yw_state.specs.State.{opening};
+ghost use Rattle.yw_state.specs.Texts.{nothing};
+ghost use Rattle.yw_state.specs.declared.command.Command.TheVariants as commands;
+ghost use Rattle.yw_model.specs.Texts.{reader};
+ghost use Rattle.yw_library.specs.Accepts.{Answers, IfRefused};
+ghost use Rattle.yw_library.specs.Holdings as kept;
+ghost use Rattle.yw_library.specs.Holdings.{AddsSpec, IsKept, SaysItsText, person_name, spec_name, state_of, with_person, with_spec};
 ghost use Rattle.yw_library.specs.Numbers.{IsNumberOf, NoneNamed};
 
 use crate::accepted::{accepted, placeless};
@@ -69,7 +75,7 @@ fn replaced(persons: PersonList, number: usize, person: Person) -> PersonList
 impl Library {
     /// Nobody, and no specification. It takes no memory.
     pub fn new(alloc: Global) -> Library
-        ensures empty { result ≡ nothing }
+        ensures empty { result ≡ kept.nothing }
         ensures state { state_of result ≡ opening }
     {
         Library {
@@ -130,7 +136,7 @@ impl Library {
     /// The person has these roles from now on, and no others. Who was there keeps the place among the persons,
     /// and who comes first stands behind all others. An `Err` says that no memory was left, and changes nothing.
     pub fn person(&mut self, name: Name, roles: NameList) -> Result<(), AllocError>
-        ensures ok { OnOk result (state_of self.new ≡ after (state_of self.old) (events.Person name roles)) }
+        ensures ok { OnOk result (state_of self.new ≡ after (state_of self.old) (events.Person name roles) nothing) }
         ensures place { OnOk result (self.new ≡ with_person self.old (record { name = name; roles = roles })) }
         ensures err { OnErr result (self.new ≡ self.old) }
     {
@@ -145,7 +151,7 @@ impl Library {
     /// One specification more, behind all others. An `Err` says that no memory was left, and changes nothing.
     fn keep(&mut self, loaded: Loaded) -> Result<(), AllocError>
         requires accepted { SaysItsText loaded }
-        requires new { contains_key (state_of self.old).specs loaded.spec.name ≡ false }
+        requires new { has_key (state_of self.old).specs loaded.spec.name ≡ false }
         ensures ok { OnOk result (self.new ≡ with_spec self.old loaded) }
         ensures err { OnErr result (self.new ≡ self.old) }
     {
@@ -165,14 +171,13 @@ impl Library {
     /// `NotBuilt` where it uses what isn't built; `SpecExists` where one of its name is loaded. `Memory` comes
     /// only where no memory was left. An `Err` changes nothing. The rules and their order are our own.
     pub fn load(&mut self, text: &str) -> Result<Name, LibraryFault>
-        ensures ok { IfOk result (λ name. IsLoadable (state_of self.old) name text.now
-            × (state_of self.new ≡ after (state_of self.old) (events.Load name text.now))) }
+        ensures ok { IfOk result (λ name. Leads reader (state_of self.old) (events.Load name text.now) (state_of self.new)) }
         ensures place { IfOk result (λ name. AddsSpec self.old self.new name text.now) }
-        ensures refused { IfRefused result (λ refusal. LoadBreaks (state_of self.old) text.now (Some refusal)
+        ensures refused { IfRefused result (λ refusal. Breaks reader (state_of self.old) (commands.Load text.now) (Some refusal)
             × (state_of self.new ≡ state_of self.old)) }
 
         // What is answered is the only answer that the definitions allow.
-        ensures only { (found : Option Refusal) → LoadBreaks (state_of self.old) text.now found → Answers result found }
+        ensures only { (found : Option Refusal) → Breaks reader (state_of self.old) (commands.Load text.now) found → Answers result found }
         ensures err { OnErr result (self.new ≡ self.old) }
     {
         let spec = accepted(self.alloc, text)?;

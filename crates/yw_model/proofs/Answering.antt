@@ -2,7 +2,6 @@
 use Rattle.std.proofs.Common.{◌≡◌, ℕ, ◌+◌, take, ◌∷◌, List, [], Bool, true, false, cond, Option, None, Some, Result, Ok, Err, refl, sym, ap, ◌∙◌, subst}
 use Rattle.std.specs.Prelude.{codes, ◌&&◌, nat_le, nat_lt, option_and_then, option_map, ok_or, length}
 use Rattle.std.specs.List.{list_all}
-use Rattle.std.specs.FinMap.{contains_key}
 use Rattle.std.specs.Str.{is_utf8}
 use Rattle.serde_json.specs.Data.{Data, Items, no_items, item}
 use Rattle.serde_json.specs.Find.{get, as_array, as_str}
@@ -16,38 +15,51 @@ use Rattle.yw_read.specs.Tables.{spec_table}
 use Rattle.yw_read.specs.declared.raw.RawSpec.{RawSpec}
 use Rattle.yw_read.specs.declared.raw.ReadFault.{ReadFault}
 use Rattle.yw_read.specs.declared.raw.ReadFault.TheVariants.{NotToml, Shape, Memory}
-use Rattle.yw_model.specs.declared.command.Asked.{Asked}
-use Rattle.yw_model.specs.declared.command.Asked.TheVariants as asked
-use Rattle.yw_model.specs.declared.command.Command.{Command}
-use Rattle.yw_model.specs.declared.command.Command.TheVariants as commands
-use Rattle.yw_model.specs.declared.event.Event.TheVariants as events
-use Rattle.yw_model.specs.declared.rule.Refusal.{Refusal}
-use Rattle.yw_model.specs.declared.rule.Rule.{Rule}
-use Rattle.yw_model.specs.declared.rule.Rule.TheVariants.{NotCommand, NotBuilt, SpecText, SpecShape, SpecExists}
+use Rattle.yw_state.specs.declared.command.Asked.{Asked}
+use Rattle.yw_state.specs.declared.command.Asked.TheVariants as asked
+use Rattle.yw_state.specs.declared.command.Command.{Command}
+use Rattle.yw_state.specs.declared.command.Command.TheVariants as commands
+use Rattle.yw_state.specs.declared.event.Event.TheVariants as events
+use Rattle.yw_state.specs.declared.rule.Refusal.{Refusal}
+use Rattle.yw_state.specs.declared.rule.Rule.{Rule}
+use Rattle.yw_state.specs.declared.rule.Rule.TheVariants.{NotCommand, NotBuilt, SpecText, SpecShape, SpecExists}
 use Rattle.yw_model.specs.declared.word.Word.{Word}
 use Rattle.yw_model.specs.declared.word.Word.TheVariants as words
 use Rattle.yw_model.specs.Accepted.{document_in, check_refusal, is_built_spec, JudgesSaid}
 use Rattle.yw_base.specs.Spelling.{is_name}
-use Rattle.yw_model.specs.Fields.{field, only_if, are_roles, has_members, line_text_of, list_of, name_of, one_of, roles_of}
+use Rattle.yw_model.specs.Fields.{field, only_if, has_members, line_text_of, list_of, name_of, one_of, roles_of}
+use Rattle.yw_state.specs.Allowed.{are_roles}
 use Rattle.yw_model.specs.Lines.{line_limit}
 use Rattle.yw_model.specs.Meaning.{meaning, text_meaning, value_meaning, word_meaning}
-use Rattle.yw_model.specs.Replies.{done, refused, placeless}
-use Rattle.yw_model.specs.Run.{built_words, CannotLack, Step, Refuses, FoundAnswers, MeaningAnswers, Answers}
+use Rattle.yw_model.specs.Replies.{done, refused}
+use Rattle.yw_state.specs.Broken.{Breaks, placeless}
+use Rattle.yw_model.specs.Run.{built_words, CanBeAsked, CannotLack, Step, Refuses, MeaningAnswers, Answers}
 use Rattle.yw_model.specs.Shapes.{◌>>=◌, person_shape, load_shape}
-use Rattle.yw_model.specs.State.{State, after_all, Breaks, load_after, load_refusal, LoadBreaks}
 use Rattle.yw_model.specs.Values.{each_of}
 use Rattle.yw_model.specs.Words.{word_in}
+use Rattle.yw_spec.specs.declared.spec.Spec.{Spec}
+use Rattle.yw_said.proofs.SomeSpec.{says_some}
+use Rattle.yw_state.specs.Automatic.{case_of}
+use Rattle.yw_state.specs.Events.{Leads, after}
+use Rattle.yw_state.specs.Legal.{IsAsked}
+use Rattle.yw_state.specs.Map.{has_key}
+use Rattle.yw_state.specs.State.{State}
+use Rattle.yw_state.specs.Texts.{a_spec, nothing}
+use Rattle.yw_state.specs.declared.event.Event.{Event}
+use Rattle.yw_model.specs.Texts.{IsAccepted, reader}
+use Rattle.yw_model.proofs.Alone.{legal_alone}
+use Rattle.yw_model.proofs.Loading.{known_breaks, load_asked, load_leads, new_unbroken, person_asked, person_leads, person_unbroken, unbuilt_unfit, unfit_breaks}
 use Rattle.yw_model.proofs.Judging.{verdict_finds}
 use Rattle.yw_model.proofs.Lacking.{here, follows}
 use Rattle.yw_model.proofs.MeaningLemmas.{meaning-take}
 
 -- ---- what a line asks, as it is written
 
--- names are names, roles are roles, and a text is no longer than a line
+-- names are names, roles are roles, and a text is no longer than a line; no other command can be asked
 abbrev pub IsAsWritten : Command → Type 0
 IsAsWritten (commands.Person name roles) = (is_name name ≡ true) × (list_all is_name roles ≡ true) × (are_roles roles ≡ true)
 IsAsWritten (commands.Load toml) = nat_le (length toml) line_limit ≡ true
-IsAsWritten command = Unit {0}
+IsAsWritten command = ⊥
 
 abbrev pub AsksAsWritten : Asked → Type 0
 AsksAsWritten (asked.Command command) = IsAsWritten command
@@ -55,7 +67,7 @@ AsksAsWritten (asked.Query query) = Unit {0}
 
 -- what is meant is so, where something is
 abbrev IsReadable : Result Asked Rule → Type 0
-IsReadable (Err rule) = Unit {0}
+IsReadable (Err r) = Unit {0}
 IsReadable (Ok x) = AsksAsWritten x
 
 abbrev MayBeRead : Option Asked → Type 0
@@ -169,46 +181,48 @@ judged (Err NotToml) h = here (Some (placeless SpecText), refl)
 judged (Err (Shape path)) h = here (Some (record { rule = SpecShape; at = path }), refl)
 judged (Err Memory) h = absurd (h refl)
 
--- what may come of an accepted text, by whether what it uses is built and whether its name is loaded
-accepted : (s : State) (n : ℕ) (toml : List ℕ) (raw : RawSpec) → document_in toml ≡ Ok raw → IsVerdict raw None → (built known : Bool) → is_built_spec raw ≡ built
-    → contains_key s.specs raw.name ≡ known → LoadBreaks s toml (load_after built known)
-    → (step : Step) × (t : State) × FoundAnswers (load_after built known) (commands.Load toml) s n step t
-accepted s n toml raw says passes true false is has breaks =
-    let entry = events.Load raw.name toml ∷ [] in (
+-- a command that breaks a rule is refused
+refused_so : (s : State) (n : ℕ) (c : Command) (refusal : Refusal) → Breaks reader s c (Some refusal) → HasAnswer (Ok (asked.Command c)) s n
+refused_so s n c refusal breaks = let r = refusing refusal s n in here (r.0, r.1, (Some refusal, breaks, r.2))
+
+-- a command that breaks none takes its one event
+taken_so : (s : State) (n : ℕ) (c : Command) (e : Event) (t : State) → Breaks reader s c None → IsAsked reader s c e → case_of e ≡ None → Leads reader s e t → HasAnswer (Ok (asked.Command c)) s n
+taken_so s n c e t unbroken asks none leads =
+    let entry = e ∷ [] in here (
       record { taken = entry ∷ []; reply = done n entry true },
-      after_all s entry,
-      record {
-        entry = entry;
-        quiet = true;
-        legal = record {
-          unbroken = breaks;
-          first = events.Load raw.name toml;
-          asked = (raw, says, refl);
-          allowed = record { raw = raw; says = says; accepted = passes; built = is; named = refl; new = has };
-          alone = refl;
-          is_quiet = refl;
-        };
-        one = refl;
-        told = refl;
-        then = refl;
-      },
+      t,
+      (None, unbroken, record { entry = entry; quiet = true; legal = legal_alone s c e t unbroken asks none leads; one = refl; told = refl }),
     )
-accepted s n toml raw says passes true true is has breaks = refusing (placeless SpecExists) s n
-accepted s n toml raw says passes false known is has breaks = refusing (placeless NotBuilt) s n
+
+loaded_so : (s : State) (n : ℕ) (toml : List ℕ) (spec : Spec) → IsAccepted toml spec → (known : Bool) → has_key s.specs spec.name ≡ known → HasAnswer (Ok (asked.Command (commands.Load toml))) s n
+loaded_so s n toml spec a true known = refused_so s n (commands.Load toml) (placeless SpecExists) (known_breaks s toml spec a known)
+loaded_so s n toml spec a false free =
+    taken_so s n (commands.Load toml) (events.Load spec.name toml) (after s (events.Load spec.name toml) (a_spec spec))
+    (new_unbroken s toml spec a free) (load_asked s toml spec a) refl (load_leads s toml spec a free)
+
+passes : (raw : RawSpec) (broken : Option Broken) → IsVerdict raw broken → None ≡ option_map check_refusal broken → IsVerdict raw None
+passes raw None v is = v
+passes raw (Some broken) v is = cc
+
+-- a document that is accepted, by whether what it uses is built
+built_so : (s : State) (n : ℕ) (toml : List ℕ) (raw : RawSpec) → document_in toml ≡ Ok raw → IsVerdict raw None → (built : Bool) → is_built_spec raw ≡ built → HasAnswer (Ok (asked.Command (commands.Load toml))) s n
+built_so s n toml raw says accepted true is =
+    let some = says_some raw accepted in
+    let spec = some.0 in
+    loaded_so s n toml spec (record { raw = raw; says = says; accepted = accepted; built = is; is_spec = some.1 }) (has_key s.specs spec.name) refl
+built_so s n toml raw says accepted false is =
+    refused_so s n (commands.Load toml) (placeless NotBuilt) (unfit_breaks s toml (placeless NotBuilt) (unbuilt_unfit toml raw says accepted is))
 
 -- by what is found wrong with the text
 found : (s : State) (n : ℕ) (toml : List ℕ) (said : Result RawSpec ReadFault) (fault : Option Refusal) → document_in toml ≡ said → JudgesSaid said fault
-    → LoadBreaks s toml (load_refusal s said fault)
-    → (step : Step) × (t : State) × FoundAnswers (load_refusal s said fault) (commands.Load toml) s n step t
-found s n toml said (Some refusal) e j breaks = refusing refusal s n
-found s n toml (Ok raw) None e j breaks = accepted s n toml raw e (passes j.0 j.1 j.2) (is_built_spec raw) (contains_key s.specs raw.name) refl refl breaks
-  where
-    passes : (broken : Option Broken) → IsVerdict raw broken → None ≡ option_map check_refusal broken → IsVerdict raw None
-    passes None v is = v
-    passes (Some broken) v is = cc
-found s n toml (Err NotToml) None e j breaks = cc
-found s n toml (Err (Shape path)) None e j breaks = cc
-found s n toml (Err Memory) None e j breaks = absurd j
+    → HasAnswer (Ok (asked.Command (commands.Load toml))) s n
+found s n toml said (Some refusal) e j =
+    let judged : JudgesSaid (document_in toml) (Some refusal) = subst (λ (d : Result RawSpec ReadFault). JudgesSaid d (Some refusal)) (sym e) j in
+    refused_so s n (commands.Load toml) refusal (unfit_breaks s toml refusal (Some refusal, judged, refl))
+found s n toml (Ok raw) None e j = built_so s n toml raw e (passes raw j.0 j.1 j.2) (is_built_spec raw) refl
+found s n toml (Err NotToml) None e j = cc
+found s n toml (Err (Shape path)) None e j = cc
+found s n toml (Err Memory) None e j = absurd j
 
 shaped : (r : Result RawSpec (List ℕ)) → with_shape r ≡ Err Memory → ⊥
 shaped (Ok raw) is = cc
@@ -237,52 +251,30 @@ says_text text raw is = utf8 (is_utf8 text) (spec_in text) is
     utf8 false said e = cc
 
 load_answered : (s : State) (n : ℕ) (toml : List ℕ) → HasAnswer (Ok (asked.Command (commands.Load toml))) s n
-load_answered s n toml = follows (judged (document_in toml) (says toml)) (λ j.
-    let refusal = load_refusal s (document_in toml) j.0 in
-    let breaks : LoadBreaks s toml refusal = (j.0, j.1, refl) in
-    let a = found s n toml (document_in toml) j.0 refl j.1 breaks in
-    here (a.0, a.1, (refusal, breaks, a.2)))
+load_answered s n toml = follows (judged (document_in toml) (says toml)) (λ j. found s n toml (document_in toml) j.0 refl j.1)
 
 person_answered : (s : State) (n : ℕ) (name : List ℕ) (roles : List (List ℕ)) → are_roles roles ≡ true → HasAnswer (Ok (asked.Command (commands.Person name roles))) s n
 person_answered s n name roles h =
     let event = events.Person name roles in
-    let entry = event ∷ [] in here (
-      record { taken = entry ∷ []; reply = done n entry true },
-      after_all s entry,
-      (
-        None,
-        refl,
-        record {
-          entry = entry;
-          quiet = true;
-          legal = record { unbroken = refl; first = event; asked = refl; allowed = h; alone = refl; is_quiet = refl };
-          one = refl;
-          told = refl;
-          then = refl;
-        },
-      ),
-    )
-
-not_built : (s : State) (n : ℕ) (c : Command) → Breaks s c (Some (placeless NotBuilt)) → HasAnswer (Ok (asked.Command c)) s n
-not_built s n c breaks = let r = refusing (placeless NotBuilt) s n in here (r.0, r.1, (Some (placeless NotBuilt), breaks, r.2))
+    taken_so s n (commands.Person name roles) event (after s event nothing) (person_unbroken s name roles) (person_asked s name roles) refl (person_leads s name roles h)
 
 command_answered : (s : State) (n : ℕ) (c : Command) → IsAsWritten c → HasAnswer (Ok (asked.Command c)) s n
 command_answered s n (commands.Person name roles) h = person_answered s n name roles h.2
 command_answered s n (commands.Load toml) h = load_answered s n toml
-command_answered s n (commands.Rule spec net task kind at side when conclusion) h = not_built s n _ refl
-command_answered s n (commands.Launch spec values) h = not_built s n _ refl
-command_answered s n (commands.Enter who net task) h = not_built s n _ refl
-command_answered s n (commands.Start who id) h = not_built s n _ refl
-command_answered s n (commands.Complete who id out) h = not_built s n _ refl
-command_answered s n (commands.Add who net task value) h = not_built s n _ refl
-command_answered s n (commands.Raise at kind) h = not_built s n _ refl
-command_answered s n (commands.Suspend at) h = not_built s n _ refl
-command_answered s n (commands.Continue at) h = not_built s n _ refl
-command_answered s n (commands.Cancel net) h = not_built s n _ refl
-command_answered s n (commands.Advance net) h = not_built s n _ refl
+command_answered s n (commands.Rule spec net task kind at side when conclusion) h = absurd h
+command_answered s n (commands.Launch spec values) h = absurd h
+command_answered s n (commands.Enter who net task) h = absurd h
+command_answered s n (commands.Start who id) h = absurd h
+command_answered s n (commands.Complete who id out) h = absurd h
+command_answered s n (commands.Add who net task value) h = absurd h
+command_answered s n (commands.Raise at kind) h = absurd h
+command_answered s n (commands.Suspend at) h = absurd h
+command_answered s n (commands.Continue at) h = absurd h
+command_answered s n (commands.Cancel net) h = absurd h
+command_answered s n (commands.Advance net) h = absurd h
 
 meaning_answered : (m : Result Asked Rule) → IsReadable m → (s : State) (n : ℕ) → HasAnswer m s n
-meaning_answered (Err rule) h s n = here (refusing (placeless rule) s n)
+meaning_answered (Err r) h s n = here (refusing (placeless r) s n)
 meaning_answered (Ok (asked.Command c)) h s n = command_answered s n c h
 meaning_answered (Ok (asked.Query q)) h s n = here (refusing (placeless NotBuilt) s n)
 
@@ -293,6 +285,22 @@ answered s n line = meaning_answered (meaning built_words line) (line_read line)
 -- a line asks for commands as they are written
 pub as_written : (line : List ℕ) (c : Command) → meaning built_words line ≡ Ok (asked.Command c) → IsAsWritten c
 as_written line c is = subst IsReadable is (line_read line)
+
+-- and for those alone that can be asked
+pub can_be_asked : (c : Command) → IsAsWritten c → CanBeAsked c
+can_be_asked (commands.Person name roles) h = h.2
+can_be_asked (commands.Load toml) h = tt
+can_be_asked (commands.Rule spec net task kind at side when conclusion) h = absurd h
+can_be_asked (commands.Launch spec values) h = absurd h
+can_be_asked (commands.Enter who net task) h = absurd h
+can_be_asked (commands.Start who id) h = absurd h
+can_be_asked (commands.Complete who id out) h = absurd h
+can_be_asked (commands.Add who net task value) h = absurd h
+can_be_asked (commands.Raise at kind) h = absurd h
+can_be_asked (commands.Suspend at) h = absurd h
+can_be_asked (commands.Continue at) h = absurd h
+can_be_asked (commands.Cancel net) h = absurd h
+can_be_asked (commands.Advance net) h = absurd h
 
 -- what is kept of a line that is too long is answered as the line is
 pub Answers-take : (s : State) (n : ℕ) (line : List ℕ) (step : Step) (t : State) → Answers s n (take (line_limit + 1) line) step t → Answers s n line step t

@@ -2,5 +2,8 @@ pub mod LinesLemmas
 pub mod MeaningLemmas
 pub mod Lacking
 pub mod Judging
+pub mod ReadingOnce
+pub mod Loading
+pub mod Alone
 pub mod Answering
 pub mod RunLemmas

@@ -4,7 +4,7 @@ use Rattle.std.proofs.lemmas.List.{take_all}
 use Rattle.std.proofs.lemmas.Bool.{cases_lt, lt-ltb}
 use Rattle.yw_model.specs.Lines.{line_limit}
 use Rattle.yw_model.specs.Meaning.{meaning, text_meaning}
-use Rattle.yw_model.specs.declared.rule.Rule.TheVariants.{LineTooLong}
+use Rattle.yw_state.specs.declared.rule.Rule.TheVariants.{LineTooLong}
 use Rattle.yw_model.specs.declared.word.Word.{Word}
 
 -- over any limit, and any meaning of a line within it

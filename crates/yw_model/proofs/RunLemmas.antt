@@ -2,7 +2,7 @@
 use Rattle.std.proofs.Common.{◌≡◌, ℕ, ◌+◌, List, [], ◌∷◌, ◌++◌, length, refl, sym, ap, ◌∙◌, subst, append_assoc, arith}
 use Rattle.yw_model.proofs.Answering.{answered}
 use Rattle.yw_model.proofs.Lacking.{here, follows}
-use Rattle.yw_model.specs.State.{State}
+use Rattle.yw_state.specs.State.{State}
 use Rattle.yw_model.specs.Run.{Entry, Step, Answers, Run, HasRun, taken_by, said_by}
 
 -- over one line

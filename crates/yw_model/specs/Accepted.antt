@@ -16,9 +16,9 @@ use Rattle.yw_read.specs.declared.raw.ReadFault.TheVariants.{NotToml, Shape, Mem
 use Rattle.yw_accept.specs.declared.broken.Broken.{Broken}
 use Rattle.yw_accept.specs.Faults.{broken_text}
 use Rattle.yw_accept.specs.Verdict.{IsVerdict}
-use Rattle.yw_model.specs.declared.rule.Refusal.{Refusal}
-use Rattle.yw_model.specs.declared.rule.Rule.TheVariants.{SpecText, SpecShape, SpecCheck}
-use Rattle.yw_model.specs.Replies.{placeless}
+use Rattle.yw_state.specs.declared.rule.Refusal.{Refusal}
+use Rattle.yw_state.specs.declared.rule.Rule.TheVariants.{SpecText, SpecShape, SpecCheck}
+use Rattle.yw_state.specs.Broken.{placeless}
 
 -- what a text says; bytes that aren't UTF-8 are no document
 unfoldable pub document_in : List ℕ → Result RawSpec ReadFault

@@ -1,17 +1,18 @@
 -- The kinds of fields that lines have: what a JSON value says, if it is of the kind.
-use Rattle.std.specs.Prelude.{ℕ, ◌==◌, ◌&&◌, List, length, map, Bool, true, false, nat_le, if◌then◌else◌, Option, Some, None, option_and_then, option_map, codes}
+use Rattle.std.specs.Prelude.{ℕ, ◌==◌, List, length, map, Bool, true, false, nat_le, if◌then◌else◌, Option, Some, None, option_and_then, option_map, codes}
 use Rattle.std.specs.Option.{option_map_or}
 use Rattle.std.specs.Str.{bytes_eq}
 use Rattle.serde_json.specs.Data.{Data}
 use Rattle.serde_json.specs.Events.{members_len}
 use Rattle.serde_json.specs.Find.{get, as_number, as_u64, as_str, as_array, as_object}
-use Rattle.yw_base.specs.Spelling.{is_name, are_distinct}
+use Rattle.yw_base.specs.Spelling.{is_name}
 use Rattle.yw_base.specs.declared.value.Value.{Value}
-use Rattle.yw_model.specs.declared.command.Given.{Given}
-use Rattle.yw_model.specs.declared.tree.Conclusion.{Conclusion}
-use Rattle.yw_model.specs.declared.tree.Conclusion.TheVariants as conclusions
-use Rattle.yw_model.specs.declared.tree.TreeKind.{TreeKind}
-use Rattle.yw_model.specs.declared.tree.TreeKind.TheVariants as kinds
+use Rattle.yw_state.specs.declared.command.Given.{Given}
+use Rattle.yw_state.specs.declared.tree.Conclusion.{Conclusion}
+use Rattle.yw_state.specs.declared.tree.Conclusion.TheVariants as conclusions
+use Rattle.yw_state.specs.declared.tree.TreeKind.{TreeKind}
+use Rattle.yw_state.specs.declared.tree.TreeKind.TheVariants as kinds
+use Rattle.yw_state.specs.Allowed.{are_roles}
 use Rattle.yw_model.specs.Identities.{identity_in}
 use Rattle.yw_model.specs.Lines.{line_limit}
 use Rattle.yw_model.specs.Primitives.{primitive_in}
@@ -89,14 +90,6 @@ node_of d = option_and_then (only_if (λ n. nat_le n most_node)) (option_and_the
 -- a list whose items are all of a kind
 abbrev pub list_of : {A : Type 0} → (Data → Option A) → Data → Option (List A)
 list_of kind d = option_and_then (each_of kind) (as_array d)
-
--- the most roles of a person
-abbrev pub most_roles : ℕ
-most_roles = 64
-
--- at most 64 names, none twice
-abbrev pub are_roles : List (List ℕ) → Bool
-are_roles names = nat_le (length names) most_roles && are_distinct names
 
 abbrev pub roles_of : Data → Option (List (List ℕ))
 roles_of d = option_and_then (only_if are_roles) (list_of name_of d)

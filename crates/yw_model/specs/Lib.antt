@@ -6,7 +6,8 @@ pub mod Primitives
 pub mod Fields
 pub mod Shapes
 pub mod Meaning
+pub mod EventTexts
 pub mod Replies
 pub mod Accepted
-pub mod State
+pub mod Texts
 pub mod Run

@@ -5,14 +5,15 @@ use Rattle.std.specs.List.{list_any}
 use Rattle.std.specs.Str.{bytes_eq, is_utf8}
 use Rattle.serde_json.specs.Data.{Data}
 use Rattle.serde_json.specs.Read.{read}
-use Rattle.yw_model.specs.declared.command.Asked.{Asked}
-use Rattle.yw_model.specs.declared.command.Asked.TheVariants as asked
-use Rattle.yw_model.specs.declared.command.Command.{Command}
-use Rattle.yw_model.specs.declared.command.Command.TheVariants as commands
-use Rattle.yw_model.specs.declared.rule.Rule.{Rule}
-use Rattle.yw_model.specs.declared.rule.Rule.TheVariants.{LineTooLong, NotJson, NotCommand, NotBuilt}
+use Rattle.yw_state.specs.declared.command.Asked.{Asked}
+use Rattle.yw_state.specs.declared.command.Asked.TheVariants as asked
+use Rattle.yw_state.specs.declared.command.Command.{Command}
+use Rattle.yw_state.specs.declared.command.Command.TheVariants as commands
+use Rattle.yw_state.specs.declared.rule.Rule.{Rule}
+use Rattle.yw_state.specs.declared.rule.Rule.TheVariants.{LineTooLong, NotJson, NotCommand, NotBuilt}
 use Rattle.yw_model.specs.declared.word.Word.{Word}
-use Rattle.yw_model.specs.Fields.{are_roles, field, one_of}
+use Rattle.yw_model.specs.Fields.{field, one_of}
+use Rattle.yw_state.specs.Allowed.{are_roles}
 use Rattle.yw_model.specs.Lines.{line_limit}
 use Rattle.yw_model.specs.Shapes.{shape_of}
 use Rattle.yw_model.specs.Words.{word_in, word_text}

@@ -2,8 +2,8 @@
 use Rattle.std.specs.Prelude.{ℕ, List, length, drop, take, ◌&&◌, codes, if◌then◌else◌}
 use Rattle.std.specs.Str.{bytes_eq}
 use Rattle.yw_base.specs.Spelling.{is_name}
-use Rattle.yw_model.specs.declared.tree.Primitive.{Primitive}
-use Rattle.yw_model.specs.declared.tree.Primitive.TheVariants as primitives
+use Rattle.yw_state.specs.declared.tree.Primitive.{Primitive}
+use Rattle.yw_state.specs.declared.tree.Primitive.TheVariants as primitives
 
 abbrev pub compensate_front : List ℕ
 compensate_front = codes "compensate "

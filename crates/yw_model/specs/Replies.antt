@@ -3,26 +3,10 @@ use Rattle.std.specs.Prelude.{ℕ, List, [], ◌∷◌, ◌++◌, map, Bool, tru
 use Rattle.serde_json.specs.Data.{Data, unsigned, boolean, number, string, array, object, no_members, member}
 use Rattle.serde_json.specs.View.{items_of}
 use Rattle.serde_json.specs.Written.{compact_text}
-use Rattle.yw_model.specs.declared.rule.Rule.{Rule}
-use Rattle.yw_model.specs.declared.rule.Rule.TheVariants.{LineTooLong, NotJson, NotCommand, SpecText, SpecShape, SpecCheck, SpecExists, NotBuilt}
-use Rattle.yw_model.specs.declared.rule.Refusal.{Refusal}
-use Rattle.yw_model.specs.declared.event.Event.{Event}
-use Rattle.yw_model.specs.declared.event.Event.TheVariants.{Person, Load}
-
-abbrev pub rule_text : Rule → List ℕ
-rule_text LineTooLong = codes "LineTooLong"
-rule_text NotJson = codes "NotJson"
-rule_text NotCommand = codes "NotCommand"
-rule_text SpecText = codes "SpecText"
-rule_text SpecShape = codes "SpecShape"
-rule_text SpecCheck = codes "SpecCheck"
-rule_text SpecExists = codes "SpecExists"
-rule_text NotBuilt = codes "NotBuilt"
-
--- an event as a reply shows it
-abbrev pub step_text : Event → List ℕ
-step_text (Person name roles) = codes "person " ++ name
-step_text (Load name text) = codes "load " ++ name
+use Rattle.yw_model.specs.EventTexts.{step_text}
+use Rattle.yw_state.specs.RuleNames.{rule_text}
+use Rattle.yw_state.specs.declared.rule.Refusal.{Refusal}
+use Rattle.yw_state.specs.declared.event.Event.{Event}
 
 -- an accepted command's answer
 abbrev pub done_data : ℕ → List Event → Bool → Data
@@ -39,10 +23,6 @@ refused_data n refusal =
     (member (codes "n") (number (unsigned n))
     (member (codes "ok") (boolean false)
     (member (codes "rule") (string (rule_text refusal.rule)) no_members))))
-
--- a rule without a place
-abbrev pub placeless : Rule → Refusal
-placeless rule = record { rule = rule; at = [] }
 
 abbrev pub line_of : Data → List ℕ
 line_of d = compact_text d ++ 10 ∷ []

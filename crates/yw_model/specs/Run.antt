@@ -1,21 +1,32 @@
 -- What a list of lines may be answered: a run goes line by line.
-use Rattle.std.specs.Prelude.{ℕ, ◌+◌, ◌≡◌, List, [], ◌∷◌, ◌++◌, Bool, Option, Some, None, Result, Ok, Err}
-use Rattle.yw_model.specs.State.{State, after_all, Breaks, IsLegal}
+use Rattle.std.specs.Prelude.{ℕ, ◌+◌, ◌≡◌, List, [], ◌∷◌, ◌++◌, Bool, true, Option, Some, None, Result, Ok, Err}
+use Rattle.yw_model.specs.Texts.{reader}
+use Rattle.yw_state.specs.State.{State}
+use Rattle.yw_state.specs.Legal.{IsLegal}
 use Rattle.yw_model.specs.Meaning.{meaning}
-use Rattle.yw_model.specs.Replies.{done, refused, placeless}
-use Rattle.yw_model.specs.declared.rule.Rule.{Rule}
-use Rattle.yw_model.specs.declared.rule.Rule.TheVariants.{NotBuilt}
-use Rattle.yw_model.specs.declared.rule.Refusal.{Refusal}
-use Rattle.yw_model.specs.declared.command.Asked.{Asked}
-use Rattle.yw_model.specs.declared.command.Asked.TheVariants as asked
-use Rattle.yw_model.specs.declared.command.Command.{Command}
-use Rattle.yw_model.specs.declared.event.Event.{Event}
+use Rattle.yw_model.specs.Replies.{done, refused}
+use Rattle.yw_state.specs.Broken.{Breaks, placeless}
+use Rattle.yw_state.specs.declared.rule.Rule.{Rule}
+use Rattle.yw_state.specs.declared.rule.Rule.TheVariants.{NotBuilt}
+use Rattle.yw_state.specs.declared.rule.Refusal.{Refusal}
+use Rattle.yw_state.specs.declared.command.Asked.{Asked}
+use Rattle.yw_state.specs.declared.command.Asked.TheVariants as asked
+use Rattle.yw_state.specs.declared.command.Command.{Command}
+use Rattle.yw_state.specs.declared.command.Command.TheVariants as commands
+use Rattle.yw_state.specs.Allowed.{are_roles}
+use Rattle.yw_state.specs.declared.event.Event.{Event}
 use Rattle.yw_model.specs.declared.word.Word.{Word}
 use Rattle.yw_model.specs.declared.word.Word.TheVariants as words
 
 -- the words whose commands are built
 abbrev pub built_words : List Word
 built_words = words.Person ∷ words.Load ∷ []
+
+-- the commands that a line can ask for: those of built words, with roles as a line gives them
+abbrev pub CanBeAsked : Command → Type 0
+CanBeAsked (commands.Person name roles) = are_roles roles ≡ true
+CanBeAsked (commands.Load toml) = Unit {0}
+CanBeAsked command = ⊥
 
 -- the events of one accepted command
 abbrev pub Entry : Type 0
@@ -36,10 +47,9 @@ pub record Refuses (refusal : Refusal) (s : State) (n : ℕ) (step : Step) (t : 
 pub record Accepts (c : Command) (s : State) (n : ℕ) (step : Step) (t : State) : Type 0 where
   pub entry : Entry
   pub quiet : Bool
-  pub legal : IsLegal s c entry quiet
+  pub legal : IsLegal reader s c entry quiet t
   pub one : step.taken ≡ entry ∷ []
   pub told : step.reply ≡ done n entry quiet
-  pub then : t ≡ after_all s entry
 
 -- by the first rule that is broken, if one is
 abbrev pub FoundAnswers : Option Refusal → Command → State → ℕ → Step → State → Type 0
@@ -47,10 +57,10 @@ FoundAnswers (Some refusal) c = Refuses refusal
 FoundAnswers None c = Accepts c
 
 abbrev pub CommandAnswers : Command → State → ℕ → Step → State → Type 0
-CommandAnswers c s n step t = (found : Option Refusal) × Breaks s c found × FoundAnswers found c s n step t
+CommandAnswers c s n step t = (found : Option Refusal) × Breaks reader s c found × FoundAnswers found c s n step t
 
 abbrev pub MeaningAnswers : Result Asked Rule → State → ℕ → Step → State → Type 0
-MeaningAnswers (Err rule) = Refuses (placeless rule)
+MeaningAnswers (Err r) = Refuses (placeless r)
 MeaningAnswers (Ok (asked.Command c)) = CommandAnswers c
 -- no query is built
 MeaningAnswers (Ok (asked.Query q)) = Refuses (placeless NotBuilt)

@@ -2,10 +2,10 @@
 use Rattle.std.specs.Prelude.{ℕ, if◌then◌else◌, Option, Some, None, codes}
 use Rattle.serde_json.specs.Data.{Data}
 use Rattle.serde_json.specs.Find.{as_str}
-use Rattle.yw_model.specs.declared.command.Asked.{Asked}
-use Rattle.yw_model.specs.declared.command.Asked.TheVariants.{Command, Query}
-use Rattle.yw_model.specs.declared.command.Command.TheVariants as commands
-use Rattle.yw_model.specs.declared.command.Query.TheVariants as queries
+use Rattle.yw_state.specs.declared.command.Asked.{Asked}
+use Rattle.yw_state.specs.declared.command.Asked.TheVariants.{Command, Query}
+use Rattle.yw_state.specs.declared.command.Command.TheVariants as commands
+use Rattle.yw_state.specs.declared.command.Query.TheVariants as queries
 use Rattle.yw_model.specs.declared.word.Word.{Word}
 use Rattle.yw_model.specs.declared.word.Word.TheVariants as words
 use Rattle.yw_model.specs.Fields.{has_members, field, line_text_of, name_of, optional_name_of, identity_of, one_of, kind_words, raised_words, side_words, node_of, roles_of, givens_of, any_value_of, conclusion_of}

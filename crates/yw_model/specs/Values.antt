@@ -3,17 +3,11 @@ use Rattle.std.specs.Prelude.{ℕ, ℤ, List, [], ◌∷◌, length, nat_le, Opt
 use Rattle.serde_json.specs.Data.{Data, null, boolean, number, string, array, object, Items, no_items, item, Members, no_members, member}
 use Rattle.serde_json.specs.Events.{items_len}
 use Rattle.serde_json.specs.Find.{as_i64, as_number, as_str}
+use Rattle.yw_lex.specs.Spelling.{most_text_bytes}
+use Rattle.yw_expr.specs.Small.{most_elements}
 use Rattle.yw_base.specs.declared.value.Value.{Value}
 use Rattle.yw_base.specs.declared.value.Value.TheVariants as values
-use Rattle.yw_model.specs.declared.command.Given.{Given}
-
--- the most bytes of a text value
-abbrev pub most_text_bytes : ℕ
-most_text_bytes = 4096
-
--- the most elements of a list value
-abbrev pub most_elements : ℕ
-most_elements = 1000
+use Rattle.yw_state.specs.declared.command.Given.{Given}
 
 -- a list whose items are all of a kind
 abbrev pub each_of : {A : Type 0} → (Data → Option A) → Items → Option (List A)

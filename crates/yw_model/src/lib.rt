@@ -1,15 +1,11 @@
-//! What the server speaks of: commands, queries, events and rules. The definitions of what a list of lines may be answered
-//! stand in `specs/`.
+//! What a list of lines may be answered: what a line means, which texts are specifications, the replies, and a run over lines. The
+//! definitions stand in `specs/`; those of states, events and commands in `yw_state`, whose types are passed on.
 #![tactic(auto)]
 
-mod command;
-mod event;
-mod rule;
-mod tree;
 mod word;
 
-pub use command::{Asked, Command, Given, GivenList, Query};
-pub use event::{Event, EventList};
-pub use rule::{Refusal, Rule};
-pub use tree::{Conclusion, Primitive, PrimitiveList, TreeKind};
 pub use word::Word;
+pub use yw_state::{
+    Asked, Command, Conclusion, Event, EventList, Given, GivenList, Primitive, PrimitiveList,
+    Query, Refusal, Rule, TreeKind, TreePlace,
+};

@@ -9,7 +9,7 @@ use Rattle.yw_journal.specs.Journal.{IsCurrent}
 use Rattle.yw_journal.specs.declared.journal.Journal.{Journal}
 use Rattle.yw_journal.proofs.Passing.{weakened}
 use Rattle.yw_model.specs.Lines.{newline, HasNoNewline, whole_lines, last_part, last_line, all_lines}
-use Rattle.yw_model.specs.State.{State}
+use Rattle.yw_state.specs.State.{State}
 use Rattle.yw_model.specs.Run.{Step, Answers, Run, HasRun}
 use Rattle.yw_model.proofs.LinesLemmas.{whole_lines-append, whole_lines-newline, last_part-newline, whole_lines-part, last_part-part}
 use Rattle.yw_model.proofs.Answering.{Answers-take}

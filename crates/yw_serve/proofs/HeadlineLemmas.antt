@@ -11,7 +11,7 @@ use Rattle.yw_journal.specs.FileLaws.{content_generation, content_live}
 use Rattle.yw_codec.specs.Entries.{entry_bytes}
 use Rattle.yw_model.specs.Lines as input
 use Rattle.yw_model.specs.Run.{Step, Run, taken_by, said_by}
-use Rattle.yw_model.specs.State.{State}
+use Rattle.yw_state.specs.State.{State}
 use Rattle.yw_serve.specs.Damage.{HoldNow, meaning}
 use Rattle.yw_serve.specs.Ends.{before_piece, has_ended, AllAnswered, SomeAnswered, EndsShort}
 use Rattle.yw_serve.specs.Headline.{Serves, HoldsFront}

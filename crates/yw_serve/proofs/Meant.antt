@@ -8,23 +8,29 @@ use Rattle.byteorder.specs.Endian.{big_bytes}
 use Rattle.yw_base.specs.Spelling.{is_name, are_distinct}
 use Rattle.yw_journal.specs.Files.{LeadsTo}
 use Rattle.yw_codec.specs.Entries.{IsEntry, entry_bytes, is_event, is_text, text_end}
-use Rattle.yw_model.specs.Fields.{are_roles}
+use Rattle.yw_state.specs.Allowed.{are_roles}
 use Rattle.yw_model.specs.Lines.{line_limit}
 use Rattle.yw_model.specs.Meaning as lines
-use Rattle.yw_model.specs.Replies.{placeless}
+use Rattle.yw_state.specs.Broken.{placeless}
 use Rattle.yw_model.specs.Run.{Entry, Step, built_words, Accepts, Refuses, FoundAnswers, MeaningAnswers, Run, taken_by}
-use Rattle.yw_model.specs.State.{State, IsAllowed, IsAsked}
-use Rattle.yw_model.specs.declared.command.Asked.{Asked}
-use Rattle.yw_model.specs.declared.command.Asked.TheVariants as asked
-use Rattle.yw_model.specs.declared.command.Command.{Command}
-use Rattle.yw_model.specs.declared.command.Command.TheVariants as commands
-use Rattle.yw_model.specs.declared.event.Event.{Event}
-use Rattle.yw_model.specs.declared.event.Event.TheVariants as events
-use Rattle.yw_model.specs.declared.rule.Refusal.{Refusal}
-use Rattle.yw_model.specs.declared.rule.Rule.{Rule}
+use Rattle.yw_model.specs.Texts.{reader}
+use Rattle.yw_model.proofs.Alone.{alone_legal}
+use Rattle.yw_model.proofs.Loading.{load_event, person_event}
+use Rattle.yw_state.specs.Automatic.{case_of}
+use Rattle.yw_state.specs.Events.{LeadAll}
+use Rattle.yw_state.specs.Legal.{IsAsked}
+use Rattle.yw_state.specs.State.{State}
+use Rattle.yw_state.specs.declared.command.Asked.{Asked}
+use Rattle.yw_state.specs.declared.command.Asked.TheVariants as asked
+use Rattle.yw_state.specs.declared.command.Command.{Command}
+use Rattle.yw_state.specs.declared.command.Command.TheVariants as commands
+use Rattle.yw_state.specs.declared.event.Event.{Event}
+use Rattle.yw_state.specs.declared.event.Event.TheVariants as events
+use Rattle.yw_state.specs.declared.rule.Refusal.{Refusal}
+use Rattle.yw_state.specs.declared.rule.Rule.{Rule}
 use Rattle.yw_model.proofs.Answering.{IsAsWritten, AsksAsWritten, as_written, says_text}
 use Rattle.yw_model.proofs.Judging.{verdict_named}
-use Rattle.yw_serve.specs.Damage.{AreAllowed, EntryLeads, meaning}
+use Rattle.yw_serve.specs.Damage.{EntryLeads, meaning}
 use Rattle.yw_serve.proofs.OpenRecords.{LeadsTo-append}
 
 true_left : (p q : Bool) → (p && q) ≡ true → p ≡ true
@@ -44,23 +50,39 @@ load_written name toml w named text =
     let most : length toml ≤ line_limit = leb-true (length toml) line_limit w in
     both_true (is_name name) (is_text toml) named (both_true (is_utf8 toml) (nat_lt (length toml) text_end) text (lt-ltb (length toml) text_end (omega arith)))
 
--- the event of a command can be written
-event_written : (s : State) (c : Command) (e : Event) → IsAsWritten c → IsAsked s c e → IsAllowed s e → is_event e ≡ true
-event_written s (commands.Person name roles) e w asks allowed = ap is_event asks ∙ person_written name roles w
-event_written s (commands.Load toml) e w asks allowed =
-    let loads = subst (IsAllowed s) asks.2 allowed in
-    ap is_event asks.2 ∙ load_written asks.0.name toml w (ap is_name (sym loads.named) ∙ verdict_named loads.raw loads.accepted) (says_text toml asks.0 asks.1)
-event_written s (commands.Rule spec net task kind at side when conclusion) e w asks allowed = absurd asks
-event_written s (commands.Launch spec values) e w asks allowed = absurd asks
-event_written s (commands.Enter who net task) e w asks allowed = absurd asks
-event_written s (commands.Start who id) e w asks allowed = absurd asks
-event_written s (commands.Complete who id out) e w asks allowed = absurd asks
-event_written s (commands.Add who net task value) e w asks allowed = absurd asks
-event_written s (commands.Raise at kind) e w asks allowed = absurd asks
-event_written s (commands.Suspend at) e w asks allowed = absurd asks
-event_written s (commands.Continue at) e w asks allowed = absurd asks
-event_written s (commands.Cancel net) e w asks allowed = absurd asks
-event_written s (commands.Advance net) e w asks allowed = absurd asks
+-- the event of a command can be written, and has no case
+event_written : (s : State) (c : Command) (e : Event) → IsAsWritten c → IsAsked reader s c e → is_event e ≡ true
+event_written s (commands.Person name roles) e w asks = ap is_event (person_event s name roles e asks) ∙ person_written name roles w
+event_written s (commands.Load toml) e w asks =
+    let l = load_event s toml e asks in
+    let named : is_name l.spec.name ≡ true = ap is_name l.accepted.is_spec.name ∙ verdict_named l.accepted.raw l.accepted.accepted in
+    ap is_event l.is ∙ load_written l.spec.name toml w named (says_text toml l.accepted.raw l.accepted.says)
+event_written s (commands.Rule spec net task kind at side when conclusion) e w asks = absurd w
+event_written s (commands.Launch spec values) e w asks = absurd w
+event_written s (commands.Enter who net task) e w asks = absurd w
+event_written s (commands.Start who id) e w asks = absurd w
+event_written s (commands.Complete who id out) e w asks = absurd w
+event_written s (commands.Add who net task value) e w asks = absurd w
+event_written s (commands.Raise at kind) e w asks = absurd w
+event_written s (commands.Suspend at) e w asks = absurd w
+event_written s (commands.Continue at) e w asks = absurd w
+event_written s (commands.Cancel net) e w asks = absurd w
+event_written s (commands.Advance net) e w asks = absurd w
+
+no_case : (s : State) (c : Command) → IsAsWritten c → (e : Event) → IsAsked reader s c e → case_of e ≡ None
+no_case s (commands.Person name roles) w e asks = ap case_of (person_event s name roles e asks)
+no_case s (commands.Load toml) w e asks = ap case_of (load_event s toml e asks).is
+no_case s (commands.Rule spec net task kind at side when conclusion) w e asks = absurd w
+no_case s (commands.Launch spec values) w e asks = absurd w
+no_case s (commands.Enter who net task) w e asks = absurd w
+no_case s (commands.Start who id) w e asks = absurd w
+no_case s (commands.Complete who id out) w e asks = absurd w
+no_case s (commands.Add who net task value) w e asks = absurd w
+no_case s (commands.Raise at kind) w e asks = absurd w
+no_case s (commands.Suspend at) w e asks = absurd w
+no_case s (commands.Continue at) w e asks = absurd w
+no_case s (commands.Cancel net) w e asks = absurd w
+no_case s (commands.Advance net) w e asks = absurd w
 
 writes_entry : (e : Event) → is_event e ≡ true → IsEntry (e ∷ []) (entry_bytes (e ∷ []))
 unfolding entry_bytes
@@ -76,13 +98,12 @@ writes_entry e is = record {
 -- an entry that is taken for a command leads to the state after it
 accepted_meant : (c : Command) (s : State) (n : ℕ) (step : Step) (mid : State) → IsAsWritten c → Accepts c s n step mid → LeadsTo meaning s (map entry_bytes step.taken) mid
 accepted_meant c s n step mid w a =
-    let e = a.legal.first in
-    let alone : e ∷ [] ≡ a.entry = sym a.legal.alone in
+    let one = alone_legal s c a.entry a.quiet mid (no_case s c w) a.legal in
+    let alone : one.event ∷ [] ≡ a.entry = sym one.alone in
     let leads : EntryLeads s (entry_bytes a.entry) mid = record {
       entry = a.entry;
-      is = subst (λ (es : Entry). IsEntry es (entry_bytes es)) alone (writes_entry e (event_written s c e w a.legal.asked a.legal.allowed));
-      allowed = subst (AreAllowed s) alone (a.legal.allowed, tt);
-      reaches = a.then;
+      is = subst (λ (es : Entry). IsEntry es (entry_bytes es)) alone (writes_entry one.event (event_written s c one.event w one.asked));
+      lead = subst (λ (es : Entry). LeadAll reader s es mid) alone (mid, one.leads, refl);
     } in
     subst (λ (es : List Entry). LeadsTo meaning s (map entry_bytes es) mid) (sym a.one) (mid, leads, refl)
 
@@ -95,7 +116,7 @@ found_meant None c s n step mid w a = accepted_meant c s n step mid w a
 
 answer_meant : (m : Result Asked Rule) → ((c : Command) → m ≡ Ok (asked.Command c) → IsAsWritten c) → (s : State) (n : ℕ) (step : Step) (mid : State)
     → MeaningAnswers m s n step mid → LeadsTo meaning s (map entry_bytes step.taken) mid
-answer_meant (Err rule) w s n step mid a = refused_meant (placeless rule) s n step mid a
+answer_meant (Err r) w s n step mid a = refused_meant (placeless r) s n step mid a
 answer_meant (Ok (asked.Command c)) w s n step mid a = found_meant a.0 c s n step mid (w c refl) a.2
 answer_meant (Ok (asked.Query q)) w s n step mid a = refused_meant _ s n step mid a
 

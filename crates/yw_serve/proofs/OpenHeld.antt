@@ -8,7 +8,7 @@ use Rattle.yw_journal.specs.Files.{Content, HasContent, HoldState, NoneIsLive, H
 use Rattle.yw_journal.specs.Journal.{IsBeforeOrMade, IsCurrent, made}
 use Rattle.yw_journal.specs.declared.journal.Journal.{Journal}
 use Rattle.yw_journal.specs.Records.{IsFramedState}
-use Rattle.yw_model.specs.State.{State, opening}
+use Rattle.yw_state.specs.State.{State, opening}
 use Rattle.yw_serve.specs.Damage.{HoldNow, IsDamagedNow}
 use Rattle.yw_serve.specs.Opening.{HoldsAsStart, IsChosen, IsClosedHere, IsDamagedAt, IsReached, LeftByOpening}
 use Rattle.yw_serve.specs.declared.header.Head.{Head}

@@ -9,7 +9,7 @@ use Rattle.yw_journal.specs.Files.{Content, Meaning, HasContent, HoldState, None
 use Rattle.yw_journal.specs.Files as files
 use Rattle.yw_journal.specs.FileLaws.{content_live, content_sound, head_size, size_reads}
 use Rattle.yw_journal.specs.Records.{IsFrame, AreOpen}
-use Rattle.yw_model.specs.State.{State, opening}
+use Rattle.yw_state.specs.State.{State, opening}
 use Rattle.yw_serve.specs.Damage.{EntryLeads, HoldNow, IsDamagedNow, IsDamagedWithin, damage_or, heads_damage, later_damage, meaning}
 use Rattle.yw_serve.specs.Opening.{AnswersDamage, AnswersState, IsClosedHere, IsCutHere, IsOpened, opened_state}
 use Rattle.yw_serve.specs.declared.opening.OpenFault.{OpenFault}

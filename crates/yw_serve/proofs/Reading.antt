@@ -11,7 +11,7 @@ use Rattle.yw_journal.specs.Files.{Content}
 use Rattle.yw_journal.specs.declared.journal.Journal.{Journal}
 use Rattle.yw_model.specs.Lines.{whole_lines, all_lines, lines}
 use Rattle.yw_model.specs.Run.{Run}
-use Rattle.yw_model.specs.State.{State}
+use Rattle.yw_state.specs.State.{State}
 use Rattle.yw_model.proofs.RunLemmas.{Run-append, has_run}
 use Rattle.yw_serve.specs.declared.session.Session.{Session}
 use Rattle.yw_serve.specs.declared.session.Stop.{Stop}

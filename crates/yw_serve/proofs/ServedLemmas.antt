@@ -5,10 +5,10 @@ use Rattle.yw_outside.specs.declared.desk.File.{File}
 use Rattle.yw_outside.specs.declared.image.Image.{Image}
 use Rattle.yw_journal.specs.Files.{Content}
 use Rattle.yw_journal.specs.declared.journal.Journal.{Journal}
-use Rattle.yw_model.specs.State.{State}
+use Rattle.yw_state.specs.State.{State}
 use Rattle.yw_serve.specs.Damage.{IsDamagedNow}
 use Rattle.yw_serve.specs.Ends.{EndsAs, EndsShort}
-use Rattle.yw_serve.specs.Notices.{full_line}
+use Rattle.yw_serve.specs.Notices.{damage_line, full_line}
 use Rattle.yw_serve.specs.Opening.{IsOpened, LeftByOpening, opened_state}
 use Rattle.yw_serve.specs.Session.{state_of}
 use Rattle.yw_serve.specs.declared.opening.Opened.{Opened}
@@ -58,6 +58,22 @@ pub ends_from : {D : Type 0} (moment : D → ℕ) (left_since : D → ℕ → Im
 ends_from m l v y session s journal same_state same_journal ending c limit piece bytes left old new ends =
     subst (λ (j : Journal). EndsAs m l v y ending c s j.limit limit bytes left piece old new) same_journal
     (subst (λ (t : State). EndsAs m l v y ending c t session.journal.limit limit bytes left piece old new) same_state ends)
+
+-- A damage was found, by what became of its line.
+pub damage_ends : {D : Type 0} (moment : D → ℕ) (left_since : D → ℕ → Image → Type 0) (state : D → Image) (may_leave : D → Image → Type 0)
+    (r : Status) (f : File) (place : ℕ) (old mid new : D) → IsDamagedNow (state old) f place → state mid ≡ state old
+    → LeavesOnly moment left_since old mid (LeftByOpening (may_leave old) (state old)) → IsTold moment left_since state may_leave r Damaged (damage_line f place) mid new
+    → OpeningEnds moment left_since state may_leave r old new
+damage_ends m l v y r f place old mid new damaged same opening told =
+    let with_status : (q : Status) → r ≡ q → OpeningEnds m l v y q old new → OpeningEnds m l v y r old new =
+    λ q e h. subst (λ (x : Status). OpeningEnds m l v y x old new) (sym e) h in
+    elim told [
+      | inl whole ↦ with_status Damaged whole.0 (record { file = f; place = place; damaged = damaged; mid = mid; same = same; opening = opening; said = whole.1 })
+      | inr other ↦ elim other [
+        | inl part ↦ with_status Write part.0 (record { file = f; place = place; damaged = damaged; mid = mid; same = same; opening = opening; said = part.1 })
+        | inr none ↦ with_status Memory none.0 (inr (record { file = f; place = place; damaged = damaged; mid = mid; same = same; opening = opening; said = none.1 }))
+      ]
+    ]
 
 -- The files were opened, and the lines answered over them.
 pub runs_from : {D : Type 0} (moment : D → ℕ) (left_since : D → ℕ → Image → Type 0) (state : D → Image) (may_leave : D → Image → Type 0)

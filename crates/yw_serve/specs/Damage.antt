@@ -6,20 +6,15 @@ use Rattle.yw_outside.specs.declared.image.Image.{Image}
 use Rattle.yw_journal.specs.Files.{Content, Meaning, HoldState, IsCut, HasNoMeaning, is_live, header_damage, snapshot_size_of}
 use Rattle.yw_codec.specs.Entries.{IsEntry}
 use Rattle.yw_model.specs.Run.{Entry}
-use Rattle.yw_model.specs.State.{State, opening, after, after_all, IsAllowed}
-use Rattle.yw_model.specs.declared.event.Event.{Event}
-
--- each event is allowed in its turn
-abbrev pub AreAllowed : State → List Event → Type 0
-AreAllowed s [] = Unit {0}
-AreAllowed s (e ∷ es) = IsAllowed s e × AreAllowed (after s e) es
+use Rattle.yw_model.specs.Texts.{reader}
+use Rattle.yw_state.specs.Events.{LeadAll}
+use Rattle.yw_state.specs.State.{State, opening}
 
 -- The bytes are an entry's, whose events are allowed in their turn and lead from the one state to the other.
 pub record EntryLeads (s : State) (bytes : List ℕ) (t : State) : Type 0 where
   pub entry : Entry
   pub is : IsEntry entry bytes
-  pub allowed : AreAllowed s entry
-  pub reaches : t ≡ after_all s entry
+  pub lead : LeadAll reader s entry t
 
 -- an empty snapshot is the opening state, and no other is built yet
 abbrev pub IsSnapshot : List ℕ → State → Type 0

@@ -7,7 +7,7 @@ use Rattle.yw_outside.specs.declared.image.Image.{Image}
 use Rattle.yw_journal.specs.Files.{Content}
 use Rattle.yw_journal.specs.declared.journal.Journal.{Journal}
 use Rattle.yw_model.specs.Lines.{whole_lines, lines}
-use Rattle.yw_model.specs.State.{State}
+use Rattle.yw_state.specs.State.{State}
 use Rattle.yw_model.specs.Run.{Step, Run, HasRun}
 use Rattle.yw_serve.specs.Session.{with_steps, OfSteps, AreDone, Why}
 use Rattle.yw_serve.specs.declared.run.Ending.{Ending}

@@ -5,7 +5,7 @@ use Rattle.yw_outside.specs.Moments.{IsSettled}
 use Rattle.yw_outside.specs.declared.image.Image.{Image}
 use Rattle.yw_journal.specs.Files.{Content}
 use Rattle.yw_model.specs.Run.{Step, Run, said_by}
-use Rattle.yw_model.specs.State.{State}
+use Rattle.yw_state.specs.State.{State}
 use Rattle.yw_serve.specs.Damage.{HoldNow}
 use Rattle.yw_serve.specs.Notices.{full_line}
 

@@ -10,9 +10,11 @@ use Rattle.yw_journal.specs.Files.{Content, IsCut, HasNoMeaning, LeadsTo, is_liv
 use Rattle.yw_journal.specs.Journal.{IsCurrent}
 use Rattle.yw_journal.specs.Records.{AreOpen, IsNoRecord}
 use Rattle.yw_library.specs.Holdings as library
-use Rattle.yw_model.specs.State.{State, opening, after, after_all, IsAllowed}
-use Rattle.yw_model.specs.declared.event.Event.{Event}
-use Rattle.yw_serve.specs.Damage.{AreAllowed, HoldNow, heads_damage, meaning}
+use Rattle.yw_model.specs.Texts.{reader}
+use Rattle.yw_state.specs.Events.{Leads, LeadAll}
+use Rattle.yw_state.specs.State.{State, opening}
+use Rattle.yw_state.specs.declared.event.Event.{Event}
+use Rattle.yw_serve.specs.Damage.{HoldNow, heads_damage, meaning}
 use Rattle.yw_serve.specs.declared.header.Head.{Head}
 use Rattle.yw_serve.specs.declared.opening.OpenFault.{OpenFault}
 use Rattle.yw_serve.specs.declared.opening.OpenFault.TheVariants.{Disk, Damaged, Memory}
@@ -73,15 +75,15 @@ StandsHere rest Closed = IsClosedHere rest
 StandsHere rest (Open size) = IsOpenHere size rest
 StandsHere rest Cut = IsCutHere rest
 
--- The event is allowed, and the state is then that after it, or it isn't.
+-- The event leads to this state, or to none.
 abbrev pub IsApplied : State → Event → Bool → State → Type 0
-IsApplied s e true t = IsAllowed s e × (t ≡ after s e)
-IsApplied s e false t = IsAllowed s e → ⊥
+IsApplied s e true t = Leads reader s e t
+IsApplied s e false t = (u : State) → Leads reader s e u → ⊥
 
--- Each of the events is allowed in its turn, and the state is then that after all, or one isn't.
+-- The events, each in its turn, lead to this state, or to none.
 abbrev pub AreApplied : State → List Event → Bool → State → Type 0
-AreApplied s es true t = AreAllowed s es × (t ≡ after_all s es)
-AreApplied s es false t = AreAllowed s es → ⊥
+AreApplied s es true t = LeadAll reader s es t
+AreApplied s es false t = (u : State) → LeadAll reader s es u → ⊥
 
 -- Behind the header, up to this gate, stand records that lead to this state.
 pub record IsReached (file : List ℕ) (at : ℕ) (records : List (List ℕ)) (s : State) : Type 0 where

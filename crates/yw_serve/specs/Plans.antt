@@ -2,12 +2,13 @@
 use Rattle.std.specs.Prelude.{◌≡◌, ℕ, List, [], ◌∷◌, true, Option, Some, None}
 use Rattle.yw_codec.specs.Entries.{entry_bytes, framed}
 use Rattle.yw_journal.specs.Records.{IsFramed}
-use Rattle.yw_model.specs.Replies.{done, placeless, refused}
+use Rattle.yw_model.specs.Replies.{done, refused}
+use Rattle.yw_state.specs.Broken.{placeless}
 use Rattle.yw_model.specs.Run.{Entry, Step, Answers, CommandAnswers}
-use Rattle.yw_model.specs.declared.command.Command.{Command}
-use Rattle.yw_model.specs.State.{State}
-use Rattle.yw_model.specs.declared.rule.Refusal.{Refusal}
-use Rattle.yw_model.specs.declared.rule.Rule.{Rule}
+use Rattle.yw_state.specs.declared.command.Command.{Command}
+use Rattle.yw_state.specs.State.{State}
+use Rattle.yw_state.specs.declared.rule.Refusal.{Refusal}
+use Rattle.yw_state.specs.declared.rule.Rule.{Rule}
 use Rattle.yw_serve.specs.declared.plan.Plan.{Plan}
 use Rattle.yw_serve.specs.declared.plan.Plan.TheVariants.{Refuse, Accept}
 
@@ -24,7 +25,7 @@ Refuses n refusal (Accept entry reply) = ⊥
 
 -- the plan refuses by this rule, which has no place; there is one
 abbrev pub RefusesBy : ℕ → Option Rule → Plan → Type 0
-RefusesBy n (Some rule) plan = Refuses n (placeless rule) plan
+RefusesBy n (Some r) plan = Refuses n (placeless r) plan
 RefusesBy n None plan = ⊥
 
 -- the plan takes these events as an entry, and says that all is quiet

@@ -4,7 +4,7 @@ use Rattle.yw_outside.specs.declared.image.Image.{Image}
 use Rattle.yw_journal.specs.Files.{Content}
 use Rattle.yw_model.specs.Lines.{whole_lines}
 use Rattle.yw_model.specs.Run.{Step, Run}
-use Rattle.yw_model.specs.State.{State}
+use Rattle.yw_state.specs.State.{State}
 use Rattle.yw_serve.specs.declared.session.Session.{Session}
 use Rattle.yw_serve.specs.Session.{state_of, IsAtByte, AreDone}
 use Rattle.yw_serve.specs.Ends.{Takes}

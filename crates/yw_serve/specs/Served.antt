@@ -7,7 +7,7 @@ use Rattle.yw_outside.specs.Moments.{After, LeavesOnly}
 use Rattle.yw_outside.specs.declared.desk.File.{File}
 use Rattle.yw_outside.specs.declared.image.Image.{Image}
 use Rattle.yw_journal.specs.Files.{Content}
-use Rattle.yw_model.specs.State.{State}
+use Rattle.yw_state.specs.State.{State}
 use Rattle.yw_serve.specs.Damage.{HoldNow, IsDamagedNow}
 use Rattle.yw_serve.specs.Ends.{EndsWhole, EndsBetween, EndsPast, EndsShort}
 use Rattle.yw_serve.specs.Notices.{damage_line, full_line}

@@ -10,7 +10,7 @@ use Rattle.yw_journal.specs.declared.journal.Journal.{Journal}
 use Rattle.yw_codec.specs.Entries.{entry_bytes, framed}
 use Rattle.yw_library.specs.Holdings as library
 use Rattle.yw_model.specs.Lines.{whole_lines, last_part}
-use Rattle.yw_model.specs.State.{State}
+use Rattle.yw_state.specs.State.{State}
 use Rattle.yw_model.specs.Run.{Entry, Step, Answers, Run, HasRun, taken_by, said_by}
 use Rattle.yw_serve.specs.Kept.{kept_of}
 use Rattle.yw_serve.specs.declared.session.Session.{Session}

@@ -4,7 +4,7 @@ ghost use Rattle.yw_journal.specs.Files.{Content, count_of, greatest};
 ghost use Rattle.yw_outside.specs.declared.image.Image.{Image};
 ghost use Rattle.yw_outside.specs.Causes.{HasCause, Rose};
 ghost use Rattle.yw_outside.specs.Moments.{IsSettled, LeavesOnly};
-ghost use Rattle.yw_model.specs.State.{State};
+ghost use Rattle.yw_state.specs.State.{State};
 ghost use Rattle.yw_serve.specs.Damage.{heads_damage, HoldNow, IsDamagedNow};
 ghost use Rattle.yw_serve.specs.Desks.{Stands, KeepsCounts};
 ghost use Rattle.yw_serve.specs.Opening.{AnswersDamage, AnswersState, HasFaultCause, IsChosen, IsHeadRead, IsOpened, LeftByOpening, OnlyLooked};

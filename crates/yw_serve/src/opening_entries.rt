@@ -1,8 +1,10 @@
 // The entries of file A, one gate after another.
-ghost use Rattle.std.specs.Prelude.{◌≡◌, ◌≤◌, ◌<◌, ◌+◌, ◌^◌, ◌++◌, ◌∷◌, [], List, ℕ, IsTrue, IfOk, OnOk, IfErr, IfSome, MatchOption, Some, None, length, take, drop};
+ghost use Rattle.std.specs.Prelude.{◌≡◌, ◌≤◌, ◌<◌, ◌+◌, ◌^◌, ◌++◌, ◌∷◌, [], List, ℕ, IsTrue, IfOk, OnOk, IfErr, IfSome, MatchOption, Some, None, length, take, drop, true};
 ghost use Rattle.std.specs.Bool.{MatchBool};
-ghost use Rattle.yw_model.specs.State.{State, opening};
-ghost use Rattle.yw_model.specs.declared.event.Event.TheVariants as events;
+ghost use Rattle.std.specs.List.{list_all};
+ghost use Rattle.yw_codec.specs.Entries.{is_event};
+ghost use Rattle.yw_state.specs.State.{State, opening};
+ghost use Rattle.yw_state.specs.declared.event.Event.TheVariants as events;
 ghost use Rattle.yw_library.specs.Holdings as kept;
 ghost use Rattle.yw_outside.specs.Causes.{HasCause};
 ghost use Rattle.yw_serve.specs.Damage.{EntryLeads};
@@ -113,16 +115,19 @@ fn apply_load(library: &mut Library, name: &Name, text: &str) -> Result<bool, Al
 
 /// Whether an event is allowed. The library is then that after it. An `Err` says that no memory was left.
 fn apply_event(library: &mut Library, event: Event) -> Result<bool, AllocError>
+    requires { is_event event ≡ true }
     ensures { IfOk result (λ allowed. IsApplied (kept.state_of library.old) event allowed (kept.state_of library.new)) }
 {
     match event {
         Event::Person { name, roles } => apply_person(library, name, roles),
         Event::Load { name, text } => apply_load(library, &name, text.as_str()),
+        _ => unreachable!(),
     }
 }
 
 /// Whether each event is allowed in its turn. The library is then that after all.
 fn apply_events(library: &mut Library, events: Vec<Event>) -> Result<bool, AllocError>
+    requires { list_all is_event events.items ≡ true }
     ensures { IfOk result (λ allowed. AreApplied (kept.state_of library.old) events.items allowed (kept.state_of library.new)) }
 {
     for event in events {

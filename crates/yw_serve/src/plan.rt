@@ -2,11 +2,11 @@
 ghost use Rattle.std.specs.Prelude.{◌≡◌, ◌∷◌, [], ℕ, List, IfOk, true};
 ghost use Rattle.yw_codec.specs.Entries.{is_writable};
 ghost use Rattle.yw_library.specs.Holdings as kept;
-ghost use Rattle.yw_model.specs.Fields.{are_roles};
-ghost use Rattle.yw_model.specs.Meaning.{IsProper};
-ghost use Rattle.yw_model.specs.Replies.{placeless};
-ghost use Rattle.yw_model.specs.declared.command.Command.TheVariants as commands;
-ghost use Rattle.yw_model.specs.declared.event.Event.{Event};
+ghost use Rattle.yw_state.specs.Allowed.{are_roles};
+ghost use Rattle.yw_model.specs.Run.{CanBeAsked};
+ghost use Rattle.yw_state.specs.Broken.{placeless};
+ghost use Rattle.yw_state.specs.declared.command.Command.TheVariants as commands;
+ghost use Rattle.yw_state.specs.declared.event.Event.{Event};
 ghost use Rattle.yw_serve.specs.Plans.{Accepts, CanBeAppended, IsPlan, IsPlanFor, Refuses, RefusesBy};
 ghost use Rattle.yw_wire.specs.Faults.{rule_of};
 
@@ -104,7 +104,7 @@ fn plan_command(
     n: u64,
     command: Command,
 ) -> Result<Plan, AllocError>
-    requires { IsProper command }
+    requires { CanBeAsked command }
     ensures { IfOk result (λ plan. IsPlanFor (kept.state_of library.old) n command plan (kept.state_of library.new)) }
 {
     match command {

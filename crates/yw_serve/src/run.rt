@@ -4,7 +4,7 @@ ghost use Rattle.std.specs.Io.KnownBytes.{Consumes, Keeps, IsAtEnd};
 ghost use Rattle.yw_outside.specs.Causes.{Rose, HasCause};
 ghost use Rattle.yw_journal.specs.Files.{Content};
 ghost use Rattle.yw_journal.specs.Journal.{IsCurrent};
-ghost use Rattle.yw_model.specs.State.{State};
+ghost use Rattle.yw_state.specs.State.{State};
 ghost use Rattle.yw_serve.specs.Desks.{Stands, KeepsCounts};
 ghost use Rattle.yw_serve.specs.Ends.{EndsAs};
 ghost use Rattle.yw_serve.specs.Reading.{HasRead};

@@ -8,7 +8,7 @@ ghost use Rattle.yw_outside.specs.declared.image.Image.{Image};
 ghost use Rattle.yw_journal.specs.Files.{Content};
 ghost use Rattle.yw_journal.specs.Journal.{IsCurrent};
 ghost use Rattle.yw_model.specs.Lines.{lines};
-ghost use Rattle.yw_model.specs.State.{State};
+ghost use Rattle.yw_state.specs.State.{State};
 ghost use Rattle.yw_serve.specs.Damage.{HoldNow};
 ghost use Rattle.yw_serve.specs.Desks.{Stands, KeepsCounts};
 ghost use Rattle.yw_serve.specs.Headline.{Serves, HoldsFront};

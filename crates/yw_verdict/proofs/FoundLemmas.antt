@@ -10,9 +10,9 @@ use Rattle.yw_read.specs.declared.raw.ReadFault.{ReadFault}
 use Rattle.yw_read.specs.declared.raw.ReadFault.TheVariants.{NotToml, Shape, Memory}
 use Rattle.yw_accept.proofs.Once.{verdict-once}
 use Rattle.yw_model.specs.Accepted.{document_in, JudgesSaid, check_refusal}
-use Rattle.yw_model.specs.Replies.{placeless}
-use Rattle.yw_model.specs.declared.rule.Refusal.{Refusal}
-use Rattle.yw_model.specs.declared.rule.Rule.TheVariants.{SpecText}
+use Rattle.yw_state.specs.Broken.{placeless}
+use Rattle.yw_state.specs.declared.rule.Refusal.{Refusal}
+use Rattle.yw_state.specs.declared.rule.Rule.TheVariants.{SpecText}
 use Rattle.yw_verdict.specs.Found.{text_limit, FindsSaid, IsFoundBy}
 use Rattle.yw_verdict.specs.declared.finding.Finding.{Finding}
 use Rattle.yw_verdict.specs.declared.finding.Finding.TheVariants.{Accepted, Refused}

@@ -1,7 +1,7 @@
 // What is found of a text.
 ghost use Rattle.std.specs.Prelude.{◌≡◌, IfOk, Ok, Err};
 ghost use Rattle.yw_model.specs.Accepted.{document_in};
-ghost use Rattle.yw_model.specs.Replies.{placeless};
+ghost use Rattle.yw_state.specs.Broken.{placeless};
 ghost use Rattle.yw_read.specs.Reading.{spec_in};
 ghost use Rattle.yw_verdict.specs.Found.{FindsSaid, IsFound};
 

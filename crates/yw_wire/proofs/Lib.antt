@@ -1,3 +1,4 @@
 pub mod IdentityLemmas
 pub mod ListLemmas
 pub mod ProperLemmas
+pub mod StepLemmas

@@ -6,8 +6,8 @@ use Rattle.serde_json.specs.Find.{as_array, as_str, get}
 use Rattle.yw_model.specs.Fields.{exlet_of, field, list_of}
 use Rattle.yw_model.specs.Primitives.{primitive_in}
 use Rattle.yw_model.specs.Values.{each_of}
-use Rattle.yw_model.specs.declared.tree.Conclusion.TheVariants.{Exlet}
-use Rattle.yw_model.specs.declared.tree.Primitive.{Primitive}
+use Rattle.yw_state.specs.declared.tree.Conclusion.TheVariants.{Exlet}
+use Rattle.yw_state.specs.declared.tree.Primitive.{Primitive}
 use Rattle.yw_wire.specs.Steps.{step_of, steps_of}
 
 with_step : (text : Option (List ℕ)) (texts : Option (List (List ℕ)))

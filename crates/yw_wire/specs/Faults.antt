@@ -1,7 +1,7 @@
 -- What a fault says of a line and of a field.
 use Rattle.std.specs.Prelude.{◌≡◌, Option, Some, None, Result, Ok, Err}
-use Rattle.yw_model.specs.declared.rule.Rule.{Rule}
-use Rattle.yw_model.specs.declared.rule.Rule.TheVariants as rules
+use Rattle.yw_state.specs.declared.rule.Rule.{Rule}
+use Rattle.yw_state.specs.declared.rule.Rule.TheVariants as rules
 use Rattle.yw_wire.specs.declared.fault.FieldFault.{FieldFault}
 use Rattle.yw_wire.specs.declared.fault.FieldFault.TheVariants as fields
 use Rattle.yw_wire.specs.declared.fault.WireFault.{WireFault}
@@ -23,7 +23,7 @@ line_fault fields.Memory = faults.Memory
 -- what is said is that this rule is broken, where there is a rule
 abbrev pub Breaks : {A : Type 0} → Option Rule → Result A Rule → Type 0
 Breaks None said = Unit {0}
-Breaks (Some rule) said = said ≡ Err rule
+Breaks (Some r) said = said ≡ Err r
 
 -- The result is what is said, unless memory ran out.
 abbrev pub Gives : {A : Type 0} → Result A WireFault → Result A Rule → Type 0

@@ -6,7 +6,7 @@ use Rattle.serde_json.specs.Find.{as_str}
 use Rattle.yw_base.specs.Spelling.{is_name}
 use Rattle.yw_model.specs.Fields.{list_of}
 use Rattle.yw_model.specs.Primitives.{behind_compensate, compensate_front, primitive_in}
-use Rattle.yw_model.specs.declared.tree.Primitive.{Primitive}
+use Rattle.yw_state.specs.declared.tree.Primitive.{Primitive}
 
 -- `compensate` and one blank stand in front
 abbrev pub has_front : List ℕ → Bool

@@ -8,6 +8,7 @@ mod kinds;
 mod read;
 mod reply;
 mod shapes;
+mod steps;
 mod values;
 
 pub use fault::WireFault;

@@ -3,7 +3,7 @@ ghost use Rattle.std.specs.Prelude.{◌≡◌, IfErr, IfOk, MatchOption, Ok, Err
 ghost use Rattle.std.specs.Str.{is_utf8};
 ghost use Rattle.serde_json.specs.View.{view};
 ghost use Rattle.yw_model.specs.Meaning.{AsksProperly, is_built, meaning, text_meaning, value_meaning, word_meaning};
-ghost use Rattle.yw_model.specs.declared.rule.Rule.{Rule};
+ghost use Rattle.yw_state.specs.declared.rule.Rule.{Rule};
 ghost use Rattle.yw_wire.specs.Faults.{Gives, rule_of};
 
 use crate::fault::WireFault;

@@ -1,10 +1,12 @@
 // The lines that are said.
-ghost use Rattle.std.specs.Prelude.{◌≡◌, map, false, IfOk, string_bytes};
+ghost use Rattle.std.specs.Prelude.{◌≡◌, map, false, IfOk};
 ghost use Rattle.serde_json.specs.Data.{string};
 ghost use Rattle.serde_json.specs.View.{view};
 ghost use Rattle.serde_json.specs.Written.{has_float};
-ghost use Rattle.yw_model.specs.Replies.{done, done_data, line_of, refused, refused_data, step_text};
+ghost use Rattle.yw_model.specs.Replies.{done, done_data, line_of, refused, refused_data};
+ghost use Rattle.yw_model.specs.EventTexts.{step_text};
 
+use crate::steps::step_line;
 use serde_json::{Value as JsonValue, json};
 use std::alloc::{AllocError, Global};
 use yw_base::Bytes;
@@ -36,18 +38,6 @@ pub fn reply_refused(alloc: Global, n: u64, refusal: &Refusal) -> Result<Bytes, 
 {
     let value = refused_value(alloc, n, refusal)?;
     value_line(alloc, &value)
-}
-
-fn step_line(alloc: Global, event: &Event) -> Result<String, AllocError>
-    ensures { IfOk result (λ text. string_bytes text ≡ step_text event.now) }
-{
-    let (word, name) = match event {
-        Event::Person { name, .. } => ("person ", name),
-        Event::Load { name, .. } => ("load ", name),
-    };
-    let mut text = String::from_str(alloc, word)?;
-    text.push_str(name.as_str())?;
-    Ok(text)
 }
 
 fn step_values(alloc: Global, events: &[Event]) -> Result<Vec<JsonValue>, AllocError>

@@ -1,10 +1,12 @@
 use Rattle.std.proofs.Common.{Ok, Err, sym, subst, ◌∙◌}
 use Rattle.std.proofs.lemmas.Str.{is_utf8-from_IsUtf8}
-use Rattle.yw_model.specs.declared.rule.Refusal.{Refusal}
+use Rattle.yw_state.specs.declared.rule.Refusal.{Refusal}
 use Rattle.yw_spec.specs.declared.spec.Spec.{Spec}
-use Rattle.yw_library.specs.Accepts.{IfRefused, IsUnfit}
+use Rattle.yw_model.specs.Texts.{IsUnfit}
+use Rattle.yw_model.proofs.Loading.{unbuilt_unfit}
+use Rattle.yw_library.specs.Accepts.{IfRefused}
 use Rattle.yw_library.specs.declared.fault.LibraryFault.{LibraryFault}
-use Rattle.yw_library.proofs.AcceptsLemmas.{document_said, unread-unfit, unchecked-unfit, unbuilt-unfit}
+use Rattle.yw_library.proofs.AcceptsLemmas.{document_said, unread-unfit, unchecked-unfit}
 use Rattle.yw_library.proofs.accepted.accepted.Goals as goal
 
 pub returns-in-Err-clause-refused : goal.returns-in-Err-clause-refused
@@ -29,7 +31,7 @@ returns-in-Ok-2-clause-refused c =
     let text = c.args.text.now in
     let said = document_said text (Ok c.in-Ok.raw) (is_utf8-from_IsUtf8 text c.utf8.text) c.in-Ok.ensures.says in
     subst (λ (r : Refusal). IsUnfit text r) (sym c.placeless.ensures)
-    (unbuilt-unfit text c.in-Ok.raw said c.in-Ok-2.ensures.judges.0 (sym c.is_built_spec-built.ensures ∙ c.if-built.false))
+    (unbuilt_unfit text c.in-Ok.raw said c.in-Ok-2.ensures.judges.0 (sym c.is_built_spec-built.ensures ∙ c.if-built.false))
 
 pub returns-in-Err-check-clause-refused : goal.returns-in-Err-check-clause-refused
 returns-in-Err-check-clause-refused c =

@@ -1,7 +1,7 @@
 use Rattle.std.proofs.Common.{◌∷◌, [], ℕ, List, Result, Ok, Err, inl, inr, refl, subst}
 use Rattle.std.specs.Prelude.{OnErr, IfErr}
 use Rattle.std.proofs.lemmas.Result.{IfOk-weaker}
-use Rattle.yw_model.specs.State.{State}
+use Rattle.yw_state.specs.State.{State}
 use Rattle.yw_model.specs.Run.{Answers}
 use Rattle.yw_library.specs.Holdings as library
 use Rattle.yw_serve.specs.Session.{state_of}

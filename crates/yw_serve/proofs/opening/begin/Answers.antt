@@ -5,7 +5,7 @@ use Rattle.yw_journal.specs.Files as files
 use Rattle.yw_journal.specs.Journal.{IsCurrent, IsBeforeOrMade}
 use Rattle.yw_journal.proofs.Passing.{weakened}
 use Rattle.yw_library.specs.Holdings as library
-use Rattle.yw_model.specs.State.{State, opening}
+use Rattle.yw_state.specs.State.{State, opening}
 use Rattle.yw_serve.specs.Damage.{HoldNow}
 use Rattle.yw_serve.specs.Opening.{LeftByOpening}
 use Rattle.yw_serve.proofs.OpenHeld.{fresh, framed_nothing, none_live, held_nothing, held_fresh, left_by_making}

@@ -6,7 +6,7 @@ use Rattle.yw_journal.specs.Files.{count_of, greatest}
 use Rattle.yw_journal.specs.Journal.{IsCurrent}
 use Rattle.yw_journal.specs.declared.journal.Journal.{Journal}
 use Rattle.yw_library.specs.Holdings as library
-use Rattle.yw_model.specs.State.{State, opening}
+use Rattle.yw_state.specs.State.{State, opening}
 use Rattle.yw_serve.specs.Damage.{IsDamagedNow}
 use Rattle.yw_serve.specs.Opening.{HasFaultCause, IsDamagedAt, IsReached, IsOpened}
 use Rattle.yw_serve.specs.declared.opening.OpenFault.{OpenFault}

@@ -2,8 +2,8 @@ use Rattle.std.proofs.Common.{◌≡◌, ◌∷◌, List, Bool, true, false, IfO
 use Rattle.std.proofs.lemmas.Result.{IfOk-weaker}
 use Rattle.std.specs.Bool.{MatchBool}
 use Rattle.yw_library.specs.Holdings as library
-use Rattle.yw_model.specs.State.{State}
-use Rattle.yw_model.specs.declared.event.Event.{Event}
+use Rattle.yw_state.specs.State.{State}
+use Rattle.yw_state.specs.declared.event.Event.{Event}
 use Rattle.yw_serve.specs.Damage.{EntryLeads}
 use Rattle.yw_serve.specs.Opening.{AreApplied}
 use Rattle.yw_serve.proofs.OpenEntries.{by_answer, part_stops, none_stops}

@@ -2,7 +2,7 @@ use Rattle.std.proofs.Common.{◌≡◌, ◌+◌, ℕ, List, [], ◌∷◌, ◌+
 use Rattle.std.proofs.lemmas.List.{drop-drop}
 use Rattle.yw_outside.specs.declared.image.Image.{Image}
 use Rattle.yw_library.specs.Holdings as library
-use Rattle.yw_model.specs.State.{State}
+use Rattle.yw_state.specs.State.{State}
 use Rattle.yw_serve.specs.Damage.{EntryLeads}
 use Rattle.yw_serve.specs.Opening.{IsReached, IsOpenHere, IsCutHere}
 use Rattle.yw_serve.proofs.OpenRecords.{cut_at, none_at, reached_further, frame_here}

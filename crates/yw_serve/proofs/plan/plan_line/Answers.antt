@@ -2,6 +2,7 @@ use Rattle.std.proofs.Common.{Ok, ap, refl, ◌∙◌}
 use Rattle.std.proofs.lemmas.Result.{IfOk-weaker}
 use Rattle.yw_library.specs.Holdings as library
 use Rattle.yw_wire.specs.Faults.{rule_of}
+use Rattle.yw_model.proofs.Answering.{as_written, can_be_asked}
 use Rattle.yw_serve.proofs.Planning.{fault_line, query_line}
 use Rattle.yw_serve.proofs.plan.plan_line.Goals as goal
 
@@ -15,3 +16,8 @@ pub returns-clause-plan : goal.returns-clause-plan
 returns-clause-plan c =
     let s = library.state_of c.args.library.now in
     IfOk-weaker c.plan_fault.result _ _ (λ plan plans. fault_line s c.args.n c.args.line.now (rule_of c.in-Err.fault) plan c.in-Err.ensures.err plans) c.plan_fault.ensures
+
+pub plan_command-requires : goal.plan_command-requires
+plan_command-requires c =
+    let command = c.in-Ok-Command.command in
+    can_be_asked command (as_written c.args.line.now command (c.in-Ok-Command.ensures.ok ∙ ap Ok c.in-Ok-Command.field-0-is))

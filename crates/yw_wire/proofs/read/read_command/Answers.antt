@@ -1,8 +1,8 @@
 use Rattle.std.proofs.Common.{◌≡◌, Result, Ok, Err}
 use Rattle.std.specs.Prelude.{IfOk}
 use Rattle.yw_model.specs.Meaning.{AsksProperly}
-use Rattle.yw_model.specs.declared.command.Asked.{Asked}
-use Rattle.yw_model.specs.declared.rule.Rule.{Rule}
+use Rattle.yw_state.specs.declared.command.Asked.{Asked}
+use Rattle.yw_state.specs.declared.rule.Rule.{Rule}
 use Rattle.yw_wire.proofs.ProperLemmas.{asks_properly}
 use Rattle.yw_wire.specs.Faults.{Gives}
 use Rattle.yw_wire.specs.declared.fault.WireFault.{WireFault}

@@ -2,8 +2,9 @@ use Rattle.std.proofs.Common.{◌≡◌, ℕ, List, [], ◌∷◌, map, Bool, fa
 use Rattle.serde_json.specs.Data.{string}
 use Rattle.serde_json.specs.View.{view, items_of}
 use Rattle.serde_json.specs.Written.{has_float, items_have_float}
-use Rattle.yw_model.specs.Replies.{done, done_data, step_text}
-use Rattle.yw_model.specs.declared.event.Event.{Event}
+use Rattle.yw_model.specs.Replies.{done, done_data}
+use Rattle.yw_model.specs.EventTexts.{step_text}
+use Rattle.yw_state.specs.declared.event.Event.{Event}
 use Rattle.yw_wire.proofs.reply.reply_done.Goals as goal
 
 no_step_floats : (es : List Event) → items_have_float (items_of (map (λ e. string (step_text e)) es)) ≡ false

@@ -1,7 +1,7 @@
 use Rattle.std.proofs.Common.{◌≡◌, map, take}
 use Rattle.serde_json.specs.Data.{string}
 use Rattle.serde_json.specs.View.{view}
-use Rattle.yw_model.specs.Replies.{step_text}
+use Rattle.yw_model.specs.EventTexts.{step_text}
 use Rattle.yw_wire.proofs.reply.step_values.Given as goal
 
 abbrev pub invariant-loop-event : goal.invariant-loop-event

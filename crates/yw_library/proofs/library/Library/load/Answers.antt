@@ -1,11 +1,18 @@
-use Rattle.std.proofs.Common.{ℕ, List, Some, true, false, refl, sym, ap, subst, ◌∙◌}
+use Rattle.std.proofs.Common.{ℕ, List, None, Some, refl, sym, ap, subst, ◌∙◌}
 use Rattle.std.proofs.lemmas.Result.{err_from_is_err_and}
-use Rattle.yw_model.specs.State.{IsLoadable, LoadBreaks, after}
-use Rattle.yw_model.specs.declared.event.Event.TheVariants as events
-use Rattle.yw_model.specs.declared.rule.Refusal.{Refusal}
+use Rattle.yw_state.specs.Broken.{Breaks, placeless}
+use Rattle.yw_state.specs.Events.{Leads, after}
+use Rattle.yw_state.specs.State.{State}
+use Rattle.yw_state.specs.Texts.{a_spec}
+use Rattle.yw_state.specs.declared.command.Command.TheVariants as commands
+use Rattle.yw_state.specs.declared.event.Event.TheVariants as events
+use Rattle.yw_state.specs.declared.rule.Refusal.{Refusal}
+use Rattle.yw_state.specs.declared.rule.Rule.TheVariants.{SpecExists}
+use Rattle.yw_model.specs.Texts.{reader}
+use Rattle.yw_model.proofs.Loading.{known_breaks, load_leads, new_unbroken}
 use Rattle.yw_library.specs.Holdings.{spec_name, state_of}
 use Rattle.yw_library.specs.Numbers.{IsNumberOf, NoneNamed}
-use Rattle.yw_library.proofs.AcceptsLemmas.{accepted-breaks, accepted-loadable, unfit-breaks, unfit-only}
+use Rattle.yw_library.proofs.AcceptsLemmas.{load-breaks-one, unfit-breaks, unfit-only}
 use Rattle.yw_library.proofs.HoldingsLemmas.{spec-free, spec-known, state-with_spec}
 use Rattle.yw_library.proofs.library.Library.load.Goals as goal
 
@@ -22,18 +29,22 @@ returns-in_err-spec-clause-only c =
 pub returns-in-Some-clause-refused : goal.returns-in-Some-clause-refused
 returns-in-Some-clause-refused c =
     let library = c.args.self.now in
+    let s = state_of library in
+    let text = c.args.text.now in
     let spec = c.in_ok-spec.spec in
     let one = subst (λ (name : List ℕ). IsNumberOf spec_name library.specs name (Some c.in-Some.field-0)) c.as_str.ensures.text c.in-Some.ensures in
-    let b = accepted-breaks (state_of library) c.args.text.now spec true c.in_ok-spec.ensures.ok (spec-known library spec.name c.in-Some.field-0 one) in
-    (subst (λ (r : Refusal). LoadBreaks (state_of library) c.args.text.now (Some r)) (sym c.placeless.ensures) b.breaks, refl)
+    let breaks = known_breaks s text spec c.in_ok-spec.ensures.ok (spec-known library spec.name c.in-Some.field-0 one) in
+    (subst (λ (r : Refusal). Breaks reader s (commands.Load text) (Some r)) (sym c.placeless.ensures) breaks, refl)
 
 pub returns-in-Some-clause-only : goal.returns-in-Some-clause-only
 returns-in-Some-clause-only c = λ found h.
     let library = c.args.self.now in
+    let s = state_of library in
+    let text = c.args.text.now in
     let spec = c.in_ok-spec.spec in
     let one = subst (λ (name : List ℕ). IsNumberOf spec_name library.specs name (Some c.in-Some.field-0)) c.as_str.ensures.text c.in-Some.ensures in
-    let b = accepted-breaks (state_of library) c.args.text.now spec true c.in_ok-spec.ensures.ok (spec-known library spec.name c.in-Some.field-0 one) in
-    b.only found h ∙ ap Some (sym c.placeless.ensures)
+    let breaks = known_breaks s text spec c.in_ok-spec.ensures.ok (spec-known library spec.name c.in-Some.field-0 one) in
+    load-breaks-one s text found (Some (placeless SpecExists)) h breaks ∙ ap Some (sym c.placeless.ensures)
 
 pub keep-requires-clause-new : goal.keep-requires-clause-new
 keep-requires-clause-new c =
@@ -46,18 +57,18 @@ returns-in_ok-keep-in-None-clause-ok c =
     let s = state_of library in
     let text = c.args.text.now in
     let spec = c.in_ok-spec.spec in
-    let name = c.in_ok-name-in-None.name in
-    let free = spec-free library spec.name (subst (λ (name : List ℕ). NoneNamed spec_name library.specs name) c.as_str.ensures.text c.in-None.ensures) in (
-      subst (λ (n : List ℕ). IsLoadable s n text) (sym c.in_ok-name-in-None.ensures) (accepted-loadable s text spec c.in_ok-spec.ensures.ok free),
-      ap state_of c.in_ok-keep-in-None.ensures.ok
-          ∙ state-with_spec library (record { text = c.in_ok-text-in-None.text; spec = spec }) free
-          ∙ ap (λ (t : List ℕ). after s (events.Load spec.name t)) c.in_ok-text-in-None.ensures
-          ∙ ap (λ (n : List ℕ). after s (events.Load n text)) (sym c.in_ok-name-in-None.ensures),
-    )
+    let free = spec-free library spec.name (subst (λ (name : List ℕ). NoneNamed spec_name library.specs name) c.as_str.ensures.text c.in-None.ensures) in
+    let reached = ap state_of c.in_ok-keep-in-None.ensures.ok
+    ∙ state-with_spec library (record { text = c.in_ok-text-in-None.text; spec = spec }) free
+    ∙ ap (λ (t : List ℕ). after s (events.Load spec.name t) (a_spec spec)) c.in_ok-text-in-None.ensures in
+    subst (λ (n : List ℕ). Leads reader s (events.Load n text) (state_of c.keep.new.self)) (sym c.in_ok-name-in-None.ensures)
+    (subst (λ (t : State). Leads reader s (events.Load spec.name text) t) (sym reached) (load_leads s text spec c.in_ok-spec.ensures.ok free))
 
 pub returns-in_ok-keep-in-None-clause-only : goal.returns-in_ok-keep-in-None-clause-only
 returns-in_ok-keep-in-None-clause-only c = λ found h.
     let library = c.args.self.now in
+    let s = state_of library in
+    let text = c.args.text.now in
     let spec = c.in_ok-spec.spec in
     let free = spec-free library spec.name (subst (λ (name : List ℕ). NoneNamed spec_name library.specs name) c.as_str.ensures.text c.in-None.ensures) in
-    (accepted-breaks (state_of library) c.args.text.now spec false c.in_ok-spec.ensures.ok free).only found h
+    load-breaks-one s text found None h (new_unbroken s text spec c.in_ok-spec.ensures.ok free)

@@ -1,17 +1,16 @@
-use Rattle.std.proofs.Common.{ℕ, List, Some, None, Option, Bor, sym, ap, subst, ◌∙◌}
-use Rattle.std.specs.Prelude.{All, MatchOption, slice_get, ◌≡◌}
-use Rattle.std.specs.FinMap.{get}
+use Rattle.std.proofs.Common.{ℕ, List, Some, sym, ap, subst, ◌∙◌}
+use Rattle.std.specs.Prelude.{All, slice_get, ◌≡◌}
 use Rattle.std.specs.Option.{option_copied}
-use Rattle.yw_library.specs.Holdings.{Holdings, IsKept, SaysItsText, spec_name, state_of}
+use Rattle.yw_library.specs.Holdings.{Holdings, SaysItsText, spec_name}
 use Rattle.yw_library.specs.Numbers.{AreFound, IsNumberOf, NoneNamed}
-use Rattle.yw_library.proofs.HoldingsLemmas.{all_at, text-found, text-none}
+use Rattle.yw_library.proofs.HoldingsLemmas.{all_at, spec-found, spec-missing}
 use Rattle.yw_library.proofs.library.Library.spec.Goals as goal
 
 pub returns-in_err-number : goal.returns-in_err-number
 returns-in_err-number c =
     let library = c.args.self.now in
     let none = subst (λ (name : List ℕ). NoneNamed spec_name library.specs name) c.as_str.ensures.text c.in_err-number.ensures in
-    rw c.from_residual.ensures (text-none library c.args.name.now none)
+    rw c.from_residual.ensures (spec-missing library c.args.name.now none)
 
 pub returns-in-Some : goal.returns-in-Some
 returns-in-Some c =
@@ -24,7 +23,7 @@ returns-in-Some c =
     let all = subst (λ (h : Holdings). All SaysItsText h.specs) c.self.view_is c.self.invariant.accepted in
     record {
       text = l.text;
-      kept = text-found library c.self.inside.spec_numbers c.args.name.now i l found at one;
+      kept = spec-found library c.self.inside.spec_numbers c.args.name.now i l found at one;
       stands = at;
       accepted = all_at SaysItsText library.specs i l all at;
     }

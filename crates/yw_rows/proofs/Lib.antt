@@ -1,0 +1,9 @@
+pub mod Waiting
+pub mod OrJoinLemmas
+pub mod Resting
+pub mod Quiet
+pub mod Refused
+pub mod RefusedRows
+pub mod Answered
+pub mod AnsweredRows
+pub mod Works

@@ -1,0 +1,8 @@
+use Rattle.std.specs.Prelude.{refl}
+use Rattle.yw_state.specs.Allowed.{allows}
+use Rattle.yw_state.specs.Events.{after}
+use Rattle.yw_rows.proofs.exlets.removed.Goals as goal
+
+pub returns : goal.returns
+unfolding allows after
+returns c = record { removed = refl; over = refl }

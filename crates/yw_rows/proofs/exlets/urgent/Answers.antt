@@ -1,0 +1,8 @@
+use Rattle.std.specs.Prelude.{refl}
+use Rattle.yw_state.specs.Allowed.{allows}
+use Rattle.yw_state.specs.Events.{after}
+use Rattle.yw_rows.proofs.exlets.urgent.Goals as goal
+
+pub returns : goal.returns
+unfolding allows after
+returns c = record { due = refl; urgent = refl; waits = refl; clear = refl; goes_on = refl }

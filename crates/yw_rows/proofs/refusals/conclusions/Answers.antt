@@ -1,0 +1,9 @@
+use Rattle.std.specs.Prelude.{refl}
+use Rattle.yw_state.specs.Allowed.{allows}
+use Rattle.yw_state.specs.Broken.{checks}
+use Rattle.yw_state.specs.Events.{after}
+use Rattle.yw_rows.proofs.refusals.conclusions.Goals as goal
+
+pub returns : goal.returns
+unfolding allows after checks
+returns c = record { exlet = refl; worklet = refl; not_loaded = refl; nothing = refl; of_item = refl; behind = refl; unknown = refl; last = refl }

@@ -1,0 +1,9 @@
+use Rattle.std.specs.Prelude.{refl}
+use Rattle.yw_state.specs.Allowed.{allows}
+use Rattle.yw_state.specs.Broken.{checks}
+use Rattle.yw_state.specs.Events.{after}
+use Rattle.yw_rows.proofs.refusals.places.Goals as goal
+
+pub returns : goal.returns
+unfolding allows after checks
+returns c = record { spec = refl; case = refl; half = refl; composite = refl; empty = refl; taken = refl }

@@ -1,0 +1,8 @@
+use Rattle.std.specs.Prelude.{refl}
+use Rattle.yw_state.specs.Allowed.{allows}
+use Rattle.yw_state.specs.Events.{after}
+use Rattle.yw_rows.proofs.turns.of_case.Goals as goal
+
+pub returns : goal.returns
+unfolding allows after
+returns c = record { begun = refl; held = refl; not_held = refl; before = refl }

@@ -1,0 +1,10 @@
+pub mod Numbers
+pub mod Places
+pub mod OnceFacts
+pub mod OnceTask
+pub mod OnceSpec
+pub mod SomeLists
+pub mod SomePlaces
+pub mod SomeFacts
+pub mod SomeParts
+pub mod SomeSpec
