@@ -13,13 +13,11 @@ and each is shown, with the load of the machine before it. Nothing is asserted: 
 """
 import os
 import re
-import shutil
 import subprocess
 import sys
-import tempfile
 
-TOP = os.path.dirname(os.path.dirname(os.path.abspath(__file__)))
-CRATES = ("yw_base", "yw_lex", "yw_grammar", "yw_expr")
+from building import built
+
 TURNS = 1000
 RUNS = 3
 SIZES = (128, 256, 512, 1024)
@@ -50,37 +48,8 @@ def negations(tokens):
 SHAPES = (comparisons, addends, elements, negations)
 
 
-def build(folder):
-    """The program, built in this folder."""
-    crates = os.path.join(folder, "crates")
-    for name in CRATES:
-        shutil.copytree(os.path.join(TOP, "crates", name), os.path.join(crates, name), ignore=shutil.ignore_patterns("out"))
-    with open(os.path.join(TOP, "crates.txt")) as f:
-        lines = [line for line in f if line.split(":")[0] in CRATES]
-    with open(os.path.join(folder, "crates.txt"), "w") as f:
-        f.writelines(lines + ["expressions: yw_base yw_expr anyhow\n"])
-    shutil.copy(os.path.join(TOP, "HANDLES"), folder)
-    own = os.path.join(crates, "expressions")
-    os.makedirs(os.path.join(own, "src"))
-    shutil.copy(os.path.join(TOP, "bench", "expressions", "main.rt.txt"), os.path.join(own, "src", "main.rt"))
-    ended = subprocess.run(["rt", "run"], cwd=own, input="true", text=True, capture_output=True)
-    if ended.returncode != 0:
-        sys.exit("the program isn't built:\n" + ended.stdout + ended.stderr)
-    return os.path.join(own, "out", "expressions")
-
-
-def built():
-    """The program, built and kept beside this script."""
-    kept = os.path.join(TOP, "bench", "out", "expressions")
-    with tempfile.TemporaryDirectory() as folder:
-        program = build(folder)
-        os.makedirs(os.path.dirname(kept), exist_ok=True)
-        shutil.copy(program, kept)
-    return kept
-
-
 def main():
-    program = os.path.abspath(sys.argv[1]) if len(sys.argv) > 1 else built()
+    program = os.path.abspath(sys.argv[1]) if len(sys.argv) > 1 else built("expressions", "yw_expr", "yw_base yw_expr anyhow", "true")
     print("%12s %8s %4s %6s %12s %12s %12s %12s" % ("shape", "tokens", "run", "load", "us a parse", "ns a token", "us a truth", "ns a token"))
     for shape in SHAPES:
         for tokens in SIZES:

@@ -21,13 +21,15 @@ TOP = os.path.dirname(os.path.dirname(os.path.abspath(__file__)))
 RUNS = 3
 SIZES = (1_000, 10_000)
 
-SEQUENCE = """name = "%s"
+HEAD = """name = "%s"
 top = "main"
 [[net]]
 name = "main"
 input = "i"
 output = "o"
-flows = [["i","a"],["a","b"],["b","o"]]
+"""
+
+SEQUENCE = HEAD + """flows = [["i","a"],["a","b"],["b","o"]]
 [[net.task]]
 name = "a"
 role = "clerk"
@@ -35,13 +37,7 @@ role = "clerk"
 name = "b"
 """
 
-CHOICE = """name = "%s"
-top = "main"
-[[net]]
-name = "main"
-input = "i"
-output = "o"
-vars = [{name="amount",sort="int",use="in"}]
+CHOICE = HEAD + """vars = [{name="amount",sort="int",use="in"}]
 flows = [["i","a"],["a","b"],["a","c"],["b","d"],["c","d"],["d","o"]]
 [[net.task]]
 name = "a"

@@ -15,12 +15,11 @@ every check before that is named. Each run is shown, with the load of the machin
 the numbers.
 """
 import os
-import shutil
 import subprocess
 import sys
-import tempfile
 
-TOP = os.path.dirname(os.path.dirname(os.path.abspath(__file__)))
+from building import built
+
 RUNS = 3
 HEAD = 'name = "s"\ntop = "n0"\n'
 
@@ -120,49 +119,8 @@ SHAPES = [(nodes, (64, 128, 256)), (nets, (1, 4, 16, 64))]
 SHAPES += [(shape, SIZES) for shape in (conditions, flows, variables, assignments, branches)]
 
 
-def below(name, lines, found):
-    """The crates of ours that a crate stands on, lowest first."""
-    for other in lines.get(name, "").split():
-        if other in lines:
-            below(other, lines, found)
-    if name not in found:
-        found.append(name)
-    return found
-
-
-def build(folder):
-    """The program, built in this folder."""
-    with open(os.path.join(TOP, "crates.txt")) as f:
-        lines = dict(line.strip().split(":", 1) for line in f if ":" in line and not line.startswith("#"))
-    crates = os.path.join(folder, "crates")
-    needed = below("yw_check", lines, [])
-    for name in needed:
-        shutil.copytree(os.path.join(TOP, "crates", name), os.path.join(crates, name), ignore=shutil.ignore_patterns("out"))
-    with open(os.path.join(folder, "crates.txt"), "w") as f:
-        f.writelines("%s:%s\n" % (name, lines[name]) for name in needed)
-        f.write("specifications: yw_base yw_spec yw_read yw_check anyhow\n")
-    shutil.copy(os.path.join(TOP, "HANDLES"), folder)
-    own = os.path.join(crates, "specifications")
-    os.makedirs(os.path.join(own, "src"))
-    shutil.copy(os.path.join(TOP, "bench", "specifications", "main.rt.txt"), os.path.join(own, "src", "main.rt"))
-    ended = subprocess.run(["rt", "run"], cwd=own, input=nodes(64), text=True, capture_output=True)
-    if ended.returncode != 0:
-        sys.exit("the program isn't built:\n" + ended.stdout + ended.stderr)
-    return os.path.join(own, "out", "specifications")
-
-
-def built():
-    """The program, built and kept beside this script."""
-    kept = os.path.join(TOP, "bench", "out", "specifications")
-    with tempfile.TemporaryDirectory() as folder:
-        program = build(folder)
-        os.makedirs(os.path.dirname(kept), exist_ok=True)
-        shutil.copy(program, kept)
-    return kept
-
-
 def main():
-    program = os.path.abspath(sys.argv[1]) if len(sys.argv) > 1 else built()
+    program = os.path.abspath(sys.argv[1]) if len(sys.argv) > 1 else built("specifications", "yw_check", "yw_base yw_spec yw_read yw_check anyhow", nodes(64))
     print("%12s %8s %9s %4s %6s %10s %10s  %s" % ("shape", "size", "bytes", "run", "load", "ms reading", "ms checks", "answer"))
     for shape, sizes in SHAPES:
         for size in sizes:

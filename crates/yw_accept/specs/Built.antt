@@ -1,15 +1,13 @@
 -- The specification that a document says: names by their numbers, flows by their places, texts by their expressions.
-use Rattle.std.specs.Prelude.{◌≡◌, ℕ, pos, List, [], ◌++◌, map, filter, false, not, Option, Some, None, Ok, slice_get, option_map, if◌then◌else◌}
+use Rattle.std.specs.Prelude.{◌≡◌, ℕ, pos, List, ◌++◌, map, filter, false, not, Option, Some, None, Ok, slice_get, option_map, if◌then◌else◌}
 use Rattle.std.specs.List.{AllZip}
 use Rattle.std.specs.Option.{option_map_or}
 use Rattle.std.specs.Str.{bytes_eq}
-use Rattle.yw_base.specs.declared.value.Sort.{Sort}
-use Rattle.yw_base.specs.declared.value.Sort.TheVariants as sorts
-use Rattle.yw_base.specs.declared.value.Value.{Value}
-use Rattle.yw_base.specs.declared.value.Value.TheVariants as values
+use Rattle.yw_base.specs.Values.{zero_of}
 use Rattle.yw_expr.specs.declared.scope.Binding.{Binding}
 use Rattle.yw_expr.specs.Parsing.{Means}
 use Rattle.yw_expr.specs.Tree.{Tree}
+use Rattle.yw_spec.specs.Net.{place_text}
 use Rattle.yw_spec.specs.declared.spec.Net.{Net}
 use Rattle.yw_spec.specs.declared.spec.Place.{Place}
 use Rattle.yw_spec.specs.declared.spec.Place.TheVariants as places
@@ -41,7 +39,7 @@ use Rattle.yw_read.specs.declared.raw.RawTask.{RawTask}
 use Rattle.yw_read.specs.declared.raw.RawUsage.{RawUsage}
 use Rattle.yw_read.specs.declared.raw.RawUsage.TheVariants as raw_usages
 use Rattle.yw_read.specs.declared.raw.RawVar.{RawVar}
-use Rattle.yw_accept.specs.Nodes.{named_places, is_task, is_implicit, arrow}
+use Rattle.yw_accept.specs.Nodes.{named_places, is_task, is_implicit}
 use Rattle.yw_accept.specs.Scopes.{vars_scope, set_scope}
 use Rattle.yw_accept.specs.Tasks.{least, greatest, enough}
 
@@ -57,14 +55,6 @@ usage_of raw_usages.In = usages.In
 usage_of raw_usages.Out = usages.Out
 usage_of raw_usages.InOut = usages.InOut
 usage_of raw_usages.Local = usages.Local
-
--- false, 0, the empty text, the empty list
-abbrev pub zero_of : Sort → Value
-zero_of sorts.Bool = values.Bool false
-zero_of sorts.Int = values.Int (pos 0)
-zero_of sorts.Text = values.Text []
-zero_of sorts.Ints = values.Ints []
-zero_of sorts.Texts = values.Texts []
 
 abbrev pub var_of : RawVar → Var
 var_of v = record { name = v.name; sort = v.sort; usage = usage_of v.usage; init = option_map_or (λ x. x) v.init (zero_of v.sort) }
@@ -84,11 +74,6 @@ place_of net flow =
 -- the input, the output and the conditions, and behind them the implicit places in flow order
 abbrev pub places_of : RawNet → List Place
 places_of net = map places.Named (named_places net) ++ map (place_of net) (filter (is_implicit net) net.flows)
-
--- a condition's name, or `t->u`
-abbrev pub place_text : Place → List ℕ
-place_text (places.Named name) = name
-place_text (places.Between from to) = arrow (record { from = from; to = to })
 
 abbrev pub flows_to : RawNet → List ℕ → List RawFlow
 flows_to net task = filter (λ (flow : RawFlow). bytes_eq flow.to task) net.flows

@@ -1,7 +1,8 @@
 -- The nodes of a net as its document names them, and where its flows lead.
-use Rattle.std.specs.Prelude.{ℕ, ◌||◌, ◌&&◌, List, ◌∷◌, ◌++◌, map, Bool, codes, Contains, filter}
+use Rattle.std.specs.Prelude.{ℕ, ◌||◌, ◌&&◌, List, ◌∷◌, ◌++◌, map, Bool, Contains, filter}
 use Rattle.std.specs.List.{list_any}
 use Rattle.std.specs.Str.{bytes_eq}
+use Rattle.yw_spec.specs.Net.{arrow_text}
 use Rattle.yw_read.specs.declared.raw.RawFlow.{RawFlow}
 use Rattle.yw_read.specs.declared.raw.RawNet.{RawNet}
 use Rattle.yw_read.specs.declared.raw.RawTask.{RawTask}
@@ -44,7 +45,7 @@ is_implicit net flow = is_task net flow.from && is_task net flow.to
 
 -- the implicit condition of a flow: `t->u`
 abbrev pub arrow : RawFlow → List ℕ
-arrow flow = flow.from ++ codes "->" ++ flow.to
+arrow flow = arrow_text flow.from flow.to
 
 abbrev pub implicit_places : RawNet → List (List ℕ)
 implicit_places net = map arrow (filter (is_implicit net) net.flows)

@@ -26,7 +26,7 @@ pub struct Script<'a> {
 }
 
 impl<'a> Script<'a> {
-    pub fn new(answers: &'a [Answer]) -> Script<'a> {
+    pub(crate) fn new(answers: &'a [Answer]) -> Script<'a> {
         Script {
             answers,
             calls: Cell::new(0),

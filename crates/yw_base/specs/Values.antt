@@ -1,5 +1,6 @@
--- Values and their sorts.
-use Rattle.std.specs.Prelude.{Bool, true, false, []}
+-- Values and their sorts, and how large a value may be.
+use Rattle.std.specs.Prelude.{ℕ, pos, ◌&&◌, Bool, true, false, List, [], length, nat_le}
+use Rattle.std.specs.List.{list_all}
 use Rattle.yw_base.specs.declared.value.Sort.{Sort}
 use Rattle.yw_base.specs.declared.value.Sort.TheVariants as sorts
 use Rattle.yw_base.specs.declared.value.Val.{Val}
@@ -34,3 +35,35 @@ has_sort value sort = false
 abbrev pub fits : Value → Sort → Bool
 fits (values.Ints []) sorts.Texts = true
 fits value sort = has_sort value sort
+
+abbrev pub most_text_bytes : ℕ
+most_text_bytes = 4096
+
+abbrev pub most_elements : ℕ
+most_elements = 1000
+
+abbrev pub is_short : List ℕ → Bool
+is_short text = nat_le (length text) most_text_bytes
+
+abbrev pub are_few : {A : Type 0} → List A → Bool
+are_few xs = nat_le (length xs) most_elements
+
+-- texts of at most 4,096 bytes, lists of at most 1,000 elements
+abbrev pub is_small : Value → Bool
+is_small (values.Bool b) = true
+is_small (values.Int n) = true
+is_small (values.Text t) = is_short t
+is_small (values.Ints ns) = are_few ns
+is_small (values.Texts ts) = are_few ts && list_all is_short ts
+
+-- it is of the sort, and within the limits
+abbrev pub may_hold : Sort → Value → Bool
+may_hold sort v = has_sort v sort && is_small v
+
+-- false, 0, the empty text, the empty list
+abbrev pub zero_of : Sort → Value
+zero_of sorts.Bool = values.Bool false
+zero_of sorts.Int = values.Int (pos 0)
+zero_of sorts.Text = values.Text []
+zero_of sorts.Ints = values.Ints []
+zero_of sorts.Texts = values.Texts []

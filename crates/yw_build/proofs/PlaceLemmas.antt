@@ -12,11 +12,12 @@ use Rattle.std.proofs.lemmas.List.{get_or_append_left, length-map}
 use Rattle.std.proofs.lemmas.Option.{get_or_from_slice_get, slice_get_within}
 use Rattle.std.proofs.lemmas.Slice.Eq.{bytes_eq-Decides}
 use Rattle.yw_base.specs.Spelling.{is_word_byte}
+use Rattle.yw_spec.specs.Net.{place_text}
 use Rattle.yw_spec.specs.declared.spec.Place.{Place}
 use Rattle.yw_spec.specs.declared.spec.Place.TheVariants as places
 use Rattle.yw_read.specs.declared.raw.RawFlow.{RawFlow}
 use Rattle.yw_read.specs.declared.raw.RawNet.{RawNet}
-use Rattle.yw_accept.specs.Built.{place_of, places_of, place_text, IsPlaceOf, IsPlaceCalled}
+use Rattle.yw_accept.specs.Built.{place_of, places_of, IsPlaceOf, IsPlaceCalled}
 use Rattle.yw_accept.specs.Facts.{NetIsNamed, NetLeads}
 use Rattle.yw_accept.specs.Names.{is_usable, may_lead, may_be_emptied}
 use Rattle.yw_accept.specs.Nodes.{is_among, is_task, is_source, is_sink, is_implicit, named_places, implicit_places, arrow, task_names}

@@ -1,6 +1,7 @@
 -- A net whose places, tasks and variables are found by their names.
 use Rattle.std.specs.Prelude.{◌≡◌, map}
-use Rattle.yw_accept.specs.Built.{place_text, places_of}
+use Rattle.yw_spec.specs.Net.{place_text}
+use Rattle.yw_accept.specs.Built.{places_of}
 use Rattle.yw_accept.specs.Nodes.{task_names}
 use Rattle.yw_accept.specs.Scopes.{vars_scope}
 use Rattle.yw_build.specs.declared.numbers.NetNumbers.{NetNumbers}

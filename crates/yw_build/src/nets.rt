@@ -1,7 +1,8 @@
 // The nets of a specification, and the whole.
 ghost use Rattle.std.specs.Prelude.{◌≡◌, All, IfOk, map};
 ghost use Rattle.std.specs.List.{AllZip};
-ghost use Rattle.yw_accept.specs.Built.{place_text, places_of, IsNet, IsSpec};
+ghost use Rattle.yw_spec.specs.Net.{place_text};
+ghost use Rattle.yw_accept.specs.Built.{places_of, IsNet, IsSpec};
 ghost use Rattle.yw_accept.specs.Facts.{NetIsNamed};
 ghost use Rattle.yw_accept.specs.Nodes.{net_names, task_names};
 ghost use Rattle.yw_accept.specs.Index.{IsIndexOf};

@@ -1,9 +1,9 @@
 // A net whose places, tasks and variables are found by their names.
-use crate::index::arrow_text;
 use std::alloc::{AllocError, Global};
 use yw_accept::{Index, has, number_of};
 use yw_expr::Bindings;
 use yw_read::RawNet;
+use yw_spec::arrow_text;
 
 /// A net as its document says it, with its places by their texts, and its tasks and variables by their names.
 #[derive(Drop)]
@@ -18,7 +18,8 @@ impl NetNumbers<'_> {
     ghost use Rattle.std.specs.Prelude.{◌≡◌, map, true, IfOk};
     ghost use Rattle.std.specs.List.{list_any};
     ghost use Rattle.std.specs.Str.{bytes_eq};
-    ghost use Rattle.yw_accept.specs.Built.{place_text, places_of, IsPlaceOf, IsPlaceCalled, IsTaskCalled, IsVarCalled};
+    ghost use Rattle.yw_spec.specs.Net.{place_text};
+    ghost use Rattle.yw_accept.specs.Built.{places_of, IsPlaceOf, IsPlaceCalled, IsTaskCalled, IsVarCalled};
     ghost use Rattle.yw_accept.specs.Facts.{NetIsNamed, NetLeads};
     ghost use Rattle.yw_accept.specs.Nodes.{is_among, is_task, HasFlow};
     ghost use Rattle.yw_build.specs.Numbers.{AreNumbers};

@@ -1,7 +1,8 @@
 // Variables of a net, and what a task's items make.
 ghost use Rattle.std.specs.Prelude.{◌≡◌, true, IfOk, All, map};
 ghost use Rattle.std.specs.Option.{option_map_or};
-ghost use Rattle.yw_accept.specs.Built.{var_of, out_of, zero_of};
+ghost use Rattle.yw_base.specs.Values.{zero_of};
+ghost use Rattle.yw_accept.specs.Built.{var_of, out_of};
 ghost use Rattle.yw_accept.specs.Names.{is_usable};
 
 use crate::words::{name_of, usage_of, zero_of};

@@ -1,7 +1,8 @@
 // Names, gates, usages and values.
 ghost use Rattle.std.specs.Prelude.{◌≡◌, true, IfOk, All, option_to_list};
 ghost use Rattle.std.specs.Option.{option_copied};
-ghost use Rattle.yw_accept.specs.Built.{gate_of, usage_of, zero_of};
+ghost use Rattle.yw_base.specs.Values.{zero_of};
+ghost use Rattle.yw_accept.specs.Built.{gate_of, usage_of};
 ghost use Rattle.yw_accept.specs.Names.{is_usable};
 
 use std::alloc::{AllocError, Global};

@@ -9,6 +9,7 @@ use crate::seen::{NameSet, set_of};
 use std::alloc::{AllocError, Global};
 use yw_base::Text;
 use yw_read::{RawFlow, RawNet};
+use yw_spec::arrow_text;
 
 /// The conditions and tasks of a net.
 #[derive(Drop)]
@@ -31,8 +32,7 @@ pub fn has(set: &NameSet, name: &Text) -> bool
 pub fn arrow(alloc: Global, flow: &RawFlow) -> Result<String, AllocError>
     ensures { IfOk result (λ text. string_bytes text ≡ arrow flow.now) }
 {
-    let text = format!(in alloc; "{}->{}", flow.from.as_str(), flow.to.as_str())?;
-    Ok(text)
+    arrow_text(alloc, flow.from.as_str(), flow.to.as_str())
 }
 
 impl NetNodes {

@@ -1,10 +1,12 @@
 -- The constants of a text of at most 1,024 tokens are within the limits of values.
-use Rattle.std.proofs.Common.{ℕ, ◌+◌, ◌-◌, ◌*◌, ◌≤◌, true, false, List, [], ◌∷◌, ◌++◌, length, drop, Option, Some, None, Result, Ok, Err, subst, inl, arith, ⊎_elim, length-append, length-take}
-use Rattle.std.proofs.lemmas.Bool.{cases_lt}
+use Rattle.std.proofs.Common.{◌≡◌, ℕ, ◌+◌, ◌-◌, ◌*◌, ◌≤◌, true, false, List, [], ◌∷◌, ◌++◌, length, drop, Option, Some, None, Result, Ok, Err, refl, subst, inl, arith, ⊎_elim, length-append, length-take}
+use Rattle.std.proofs.lemmas.Bool.{and_from, cases_lt, le-leb}
 use Rattle.std.proofs.lemmas.List.{length-map}
 use Rattle.std.specs.Prelude.{Bool, IfOk, IfSome, cond, map, option_and_then, option_map}
 use Rattle.std.specs.List.{list_all, All}
 use Rattle.std.proofs.lemmas.List.Elements.{All-map, All-weaker}
+use Rattle.std.proofs.lemmas.List.Sums.{list_all-from_AllPass}
+use Rattle.yw_base.specs.Values.{is_short}
 use Rattle.yw_base.specs.declared.value.Value.TheVariants as values
 use Rattle.yw_grammar.specs.declared.symbol.Leaf.{Leaf}
 use Rattle.yw_grammar.specs.declared.symbol.Leaf.TheVariants.{Number, Text, Name, Truth}
@@ -19,7 +21,7 @@ use Rattle.yw_expr.specs.declared.scope.Binding.{Binding}
 use Rattle.yw_expr.specs.Lexemes.{IsDeep, IsSoundLexeme}
 use Rattle.yw_expr.specs.Parsing.{ReadsOr}
 use Rattle.yw_expr.specs.Scope.{place_in, variable_at}
-use Rattle.yw_expr.specs.Small.{IsSmall, IsSmallText, HasSmallConstants}
+use Rattle.yw_expr.specs.Small.{IsSmall, HasSmallConstants}
 use Rattle.yw_expr.specs.Tree.{Tree, constant, variable, function, unary, binary, element}
 use Rattle.yw_expr.specs.Typing.{part, is_number, is_text, number_of, text_of, leaf_tree, tree_in, IsTextPart, IsSoundLeaf, IsSoundText, IsSound}
 use Rattle.yw_expr.proofs.Sound.{sound}
@@ -60,8 +62,8 @@ form_short (with_two op at xs ys rx ry) h =
     let whole = length-append xs (lexeme (Operator op) at ∷ ys) in
     (form_short rx (omega arith), form_short ry (omega arith))
 
-part_small : (text : List ℕ) (s : Span) → IsTextPart text s → IsSmallText (part text s)
-part_small text s h = let short = h.short in omega (arith, length-take (s.to - s.from) (drop s.from text))
+part_small : (text : List ℕ) (s : Span) → IsTextPart text s → is_short (part text s) ≡ true
+part_small text s h = let short = h.short in le-leb _ _ (omega (arith, length-take (s.to - s.from) (drop s.from text)))
 
 module _ (text : List ℕ) (scope : List Binding) where
   abbrev Small : Option Tree → Type 0
@@ -76,26 +78,28 @@ module _ (text : List ℕ) (scope : List Binding) where
   place_small (Some k) = variable_small k _
 
   leaf_small : (x : Leaf) → IsSoundLeaf text x → Small (leaf_tree text scope x)
-  leaf_small (Number n) h = tt
+  leaf_small (Number n) h = refl
   leaf_small (Text s) h = part_small text s h
   leaf_small (Name s) h = place_small (place_in scope (part text s))
-  leaf_small (Truth b) h = tt
+  leaf_small (Truth b) h = refl
 
-  literal_small : (x : Literal) → IsSoundText text x → IsSmallText (text_of text x)
-  literal_small (Plain n) h = omega arith
-  literal_small (Negative n) h = omega arith
+  literal_small : (x : Literal) → IsSoundText text x → is_short (text_of text x) ≡ true
+  literal_small (Plain n) h = refl
+  literal_small (Negative n) h = refl
   literal_small (Quoted s) h = part_small text s h
 
   texts_small : (items : List Literal) → length items ≤ 1000 → All (IsSoundText text) items → IsSmall (values.Texts (map (text_of text) items))
   texts_small items h all =
-      (omega (arith, length-map items (text_of text)), All-map IsSmallText (text_of text) items (All-weaker (IsSoundText text) (λ x. IsSmallText (text_of text x)) literal_small items all))
+      and_from _ _
+      (le-leb _ _ (omega (arith, length-map items (text_of text))))
+      (list_all-from_AllPass is_short _ (All-map (λ t. is_short t ≡ true) (text_of text) items (All-weaker (IsSoundText text) (λ x. is_short (text_of text x) ≡ true) literal_small items all)))
 
   last_small : (b : Bool) (items : List Literal) → length items ≤ 1000 → All (IsSoundText text) items → Small (cond b (Some (constant (values.Texts (map (text_of text) items)))) None)
   last_small true items h all = texts_small items h all
   last_small false items h all = tt
 
   choice_small : (b c : Bool) (items : List Literal) → length items ≤ 1000 → All (IsSoundText text) items → Small (cond b (Some (constant (values.Ints (map number_of items)))) (cond c (Some (constant (values.Texts (map (text_of text) items)))) None))
-  choice_small true c items h all = omega (arith, length-map items number_of)
+  choice_small true c items h all = le-leb _ _ (omega (arith, length-map items number_of))
   choice_small false c items h all = last_small c items h all
 
   mapped : (make : Tree → Tree) → ((t : Tree) → HasSmallConstants t → HasSmallConstants (make t)) → (o : Option Tree) → Small o → Small (option_map make o)

@@ -1,12 +1,14 @@
 -- Over a row of small values an expression with small constants has small values.
-use Rattle.std.proofs.Common.{◌≡◌, ℕ, ℤ, pos, negsuc, true, false, List, Option, Some, None, sym, subst, ⊎_elim}
+use Rattle.std.proofs.Common.{◌≡◌, ℕ, ℤ, pos, negsuc, true, false, List, Option, Some, None, refl, sym, subst, ⊎_elim}
+use Rattle.std.proofs.lemmas.Bool.{and_parts}
+use Rattle.std.proofs.lemmas.List.Sums.{AllPass-from_list_all}
 use Rattle.std.specs.Prelude.{Bool, IfSome, slice_get, option_and_then, option_map}
-use Rattle.std.specs.List.{All}
+use Rattle.std.specs.List.{All, list_all}
 use Rattle.std.proofs.lemmas.Option.{slice_get_cases}
 use Rattle.yw_base.specs.declared.value.Val.{Val}
 use Rattle.yw_base.specs.declared.value.Value.{Value}
 use Rattle.yw_base.specs.declared.value.Value.TheVariants as values
-use Rattle.yw_base.specs.Values.{value_of}
+use Rattle.yw_base.specs.Values.{is_short, value_of}
 use Rattle.yw_grammar.specs.declared.symbol.Call.{Call}
 use Rattle.yw_grammar.specs.declared.symbol.Call.TheVariants.{Len, Sum}
 use Rattle.yw_grammar.specs.declared.symbol.Infix.{Infix}
@@ -14,7 +16,7 @@ use Rattle.yw_grammar.specs.declared.symbol.Infix.TheVariants.{Or, And, Equal, N
 use Rattle.yw_grammar.specs.declared.symbol.Prefix.{Prefix}
 use Rattle.yw_grammar.specs.declared.symbol.Prefix.TheVariants.{Not, Negate}
 use Rattle.yw_expr.specs.Meaning.{an_int, element_at, function_value, unary_value, ints_value, bools_value, texts_value, binary_value, after_left, element_value, val}
-use Rattle.yw_expr.specs.Small.{IsSmall, IsSmallText, HasSmallConstants}
+use Rattle.yw_expr.specs.Small.{IsSmall, HasSmallConstants}
 use Rattle.yw_expr.specs.Tree.{Tree, constant, variable, function, unary, binary, element}
 
 abbrev Small : Option Value → Type 0
@@ -26,16 +28,16 @@ at_place P xs k h =
 
 an_int_small : (o : Option ℤ) → Small (an_int o)
 an_int_small None = tt
-an_int_small (Some z) = tt
+an_int_small (Some z) = refl
 
 function_small : (f : Call) (v : Value) → Small (function_value f v)
-function_small Len (values.Ints zs) = tt
-function_small Len (values.Texts ts) = tt
+function_small Len (values.Ints zs) = refl
+function_small Len (values.Texts ts) = refl
 function_small Sum (values.Ints zs) = an_int_small _
 function_small f v = tt
 
 unary_small : (op : Prefix) (v : Value) → Small (unary_value op v)
-unary_small Not (values.Bool b) = tt
+unary_small Not (values.Bool b) = refl
 unary_small Negate (values.Int z) = an_int_small _
 unary_small op v = tt
 
@@ -45,16 +47,18 @@ ints_small Minus a b = an_int_small _
 ints_small Times a b = an_int_small _
 ints_small Divide a b = an_int_small _
 ints_small Remainder a b = an_int_small _
-ints_small op a b = tt
+ints_small And a b = tt
+ints_small Or a b = tt
+ints_small op a b = refl
 
 bools_small : (op : Infix) (a b : Bool) → Small (bools_value op a b)
-bools_small Equal a b = tt
-bools_small NotEqual a b = tt
+bools_small Equal a b = refl
+bools_small NotEqual a b = refl
 bools_small op a b = tt
 
 texts_small : (op : Infix) (a b : List ℕ) → Small (texts_value op a b)
-texts_small Equal a b = tt
-texts_small NotEqual a b = tt
+texts_small Equal a b = refl
+texts_small NotEqual a b = refl
 texts_small op a b = tt
 
 binary_small : (op : Infix) (v w : Value) → Small (binary_value op v w)
@@ -63,17 +67,17 @@ binary_small op (values.Bool a) (values.Bool b) = bools_small op a b
 binary_small op (values.Text a) (values.Text b) = texts_small op a b
 binary_small op v w = tt
 
-a_text_small : (o : Option (List ℕ)) → IfSome o IsSmallText → Small (option_map (λ t. values.Text t) o)
+a_text_small : (o : Option (List ℕ)) → IfSome o (λ t. is_short t ≡ true) → Small (option_map (λ t. values.Text t) o)
 a_text_small None h = tt
 a_text_small (Some t) h = h
 
-text_small : (ts : List (List ℕ)) (k : ℤ) → All IsSmallText ts → Small (option_map (λ t. values.Text t) (element_at ts k))
-text_small ts (pos k) h = a_text_small (slice_get ts k) (at_place IsSmallText ts k h)
+text_small : (ts : List (List ℕ)) (k : ℤ) → list_all is_short ts ≡ true → Small (option_map (λ t. values.Text t) (element_at ts k))
+text_small ts (pos k) h = a_text_small (slice_get ts k) (at_place (λ t. is_short t ≡ true) ts k (AllPass-from_list_all is_short ts h))
 text_small ts (negsuc k) h = tt
 
 element_small : (v w : Value) → IsSmall v → Small (element_value v w)
 element_small (values.Ints zs) (values.Int k) h = an_int_small _
-element_small (values.Texts ts) (values.Int k) h = text_small ts k h.1
+element_small (values.Texts ts) (values.Int k) h = text_small ts k (and_parts _ _ h).1
 element_small v w h = tt
 
 with_right : (op : Infix) (v : Value) (o : Option Value) → Small (option_and_then (binary_value op v) o)
@@ -82,11 +86,11 @@ with_right op v (Some w) = binary_small op v w
 
 both_small : (v : Value) (o : Option Value) → Small o → Small (after_left And o v)
 both_small (values.Bool true) o h = h
-both_small (values.Bool false) o h = tt
+both_small (values.Bool false) o h = refl
 both_small v o h = tt
 
 either_small : (v : Value) (o : Option Value) → Small o → Small (after_left Or o v)
-either_small (values.Bool true) o h = tt
+either_small (values.Bool true) o h = refl
 either_small (values.Bool false) o h = h
 either_small v o h = tt
 

@@ -2,9 +2,9 @@
 use Rattle.std.specs.Prelude.{◌+◌, ℕ, ◌≤◌, ◌<◌, ◌^◌, ℤ, pos, neg_ℤ, Bool, true, false, List, [], ◌∷◌, ◌++◌, map, find, slice_range, Option, Some, None, is_none, option_and_then, option_map, if◌then◌else◌}
 use Rattle.std.specs.List.{list_all, All}
 use Rattle.std.specs.Str.{IsCharBoundary}
+use Rattle.yw_base.specs.Values.{most_text_bytes}
 use Rattle.yw_base.specs.declared.value.Value.TheVariants as values
 use Rattle.yw_base.specs.declared.value.Sort.{Sort}
-use Rattle.yw_lex.specs.Spelling.{most_text_bytes}
 use Rattle.yw_grammar.specs.declared.symbol.Leaf.{Leaf}
 use Rattle.yw_grammar.specs.declared.symbol.Leaf.TheVariants.{Number, Text, Name, Truth}
 use Rattle.yw_grammar.specs.declared.symbol.Literal.{Literal}

@@ -3,6 +3,7 @@ use Rattle.std.specs.Prelude.{◌≡◌, ℕ, ◌+◌, ◌-◌, ◌*◌, ◌<◌
 use Rattle.std.specs.List.{list_all, list_any}
 use Rattle.std.specs.Str.{bytes_eq}
 use Rattle.yw_base.specs.Spelling.{is_digit, is_name}
+use Rattle.yw_base.specs.Values.{most_text_bytes}
 use Rattle.yw_lex.specs.declared.token.Word.{Word}
 use Rattle.yw_lex.specs.declared.token.Word.TheVariants.{Number, Text, Name, Reserved, Sign}
 
@@ -22,9 +23,6 @@ is_number bytes =
 -- the digit may stand behind a number
 abbrev pub IsNextDigit : ℕ → ℕ → Type 0
 IsNextDigit number digit = (0 < number) × (is_digit digit ≡ true) × (number * 10 + (digit - 48) ≤ most_number)
-
-abbrev pub most_text_bytes : ℕ
-most_text_bytes = 4096
 
 abbrev pub quote : ℕ
 quote = 39

@@ -11,14 +11,13 @@ use Rattle.std.proofs.lemmas.Option.{slice_get_within, get_or_from_slice_get}
 use Rattle.std.proofs.lemmas.Slice.Eq.{bytes_eq-Decides}
 use Rattle.yw_state.specs.Events.{after}
 use Rattle.yw_state.specs.Map.{Map, empty, get, has_key, lexical, of_entries}
-use Rattle.yw_state.specs.State.{LoadedSpec}
+use Rattle.yw_state.specs.declared.loaded.Loaded.{Loaded}
 use Rattle.yw_state.specs.Texts.{a_spec, nothing}
 use Rattle.yw_state.proofs.MapEntries.{get-of_entries, of_entries-push}
 use Rattle.yw_state.proofs.MapLemmas.{by_name, get-insert, same_map}
 use Rattle.yw_state.specs.declared.event.Event.TheVariants as events
-use Rattle.yw_library.specs.Holdings.{Holdings, IsKeptRight, SaysItsText, person_name, put_person, roles_under, spec_name, kept_as, spec_under, state_of, with_person, with_spec}
+use Rattle.yw_library.specs.Holdings.{Holdings, IsKeptRight, SaysItsText, person_name, put_person, roles_under, spec_name, spec_under, state_of, with_person, with_spec}
 use Rattle.yw_library.specs.Numbers.{NumberedNames, AreFound, IsNumberOf, NoneNamed}
-use Rattle.yw_library.specs.declared.items.Loaded.{Loaded}
 use Rattle.yw_library.specs.declared.items.Person.{Person}
 use Rattle.yw_library.proofs.NamedLemmas.{is_same, same_from_true, get_where_found, get_where_none, key_where_none, key_where_one, none_from_key, found-push, found-set, found-stale}
 
@@ -43,26 +42,26 @@ roles-found library numbers name i p found at (one, there, has) =
 
 pub spec-missing : (library : Holdings) (name : List ℕ) → NoneNamed spec_name library.specs name → get (state_of library).specs name ≡ None
 unfolding state_of
-spec-missing library name none = get_where_none spec_name kept_as library.specs name none
+spec-missing library name none = get_where_none spec_name (λ l. l) library.specs name none
 
 pub spec-found : (library : Holdings) (numbers : NumberedNames) (name : List ℕ) (i : ℕ) (l : Loaded) → AreFound spec_name library.specs numbers
-    → slice_get library.specs i ≡ Some l → IsNumberOf spec_name library.specs name (Some i) → get (state_of library).specs name ≡ Some (kept_as l)
+    → slice_get library.specs i ≡ Some l → IsNumberOf spec_name library.specs name (Some i) → get (state_of library).specs name ≡ Some l
 unfolding state_of
 spec-found library numbers name i l found at (one, there, has) =
     let same : one ≡ l = cc in
-    get_where_found spec_name kept_as library.specs numbers name i l found at (ap spec_name (sym same) ∙ has)
+    get_where_found spec_name (λ l. l) library.specs numbers name i l found at (ap spec_name (sym same) ∙ has)
 
 pub spec-free : (library : Holdings) (name : List ℕ) → NoneNamed spec_name library.specs name → has_key (state_of library).specs name ≡ false
 unfolding state_of
-spec-free library name none = key_where_none spec_name kept_as library.specs name none
+spec-free library name none = key_where_none spec_name (λ l. l) library.specs name none
 
 pub spec-known : (library : Holdings) (name : List ℕ) (i : ℕ) → IsNumberOf spec_name library.specs name (Some i) → has_key (state_of library).specs name ≡ true
 unfolding state_of
-spec-known library name i one = key_where_one spec_name kept_as library.specs name i one
+spec-known library name i one = key_where_one spec_name (λ l. l) library.specs name i one
 
 pub spec-none : (library : Holdings) (name : List ℕ) → has_key (state_of library).specs name ≡ false → NoneNamed spec_name library.specs name
 unfolding state_of
-spec-none library name free = none_from_key spec_name kept_as library.specs name free
+spec-none library name free = none_from_key spec_name (λ l. l) library.specs name free
 
 -- ---- persons
 
@@ -149,7 +148,7 @@ roles_in-put_person new (p ∷ ps) q = by (bytes_eq p.name new.name) refl (roles
 pub state-with_person : (library : Holdings) (new : Person) → state_of (with_person library new) ≡ after (state_of library) (events.Person new.name new.roles) nothing
 unfolding state_of after
 state-with_person library new =
-    let specs : Map lexical LoadedSpec = of_entries (map spec_under library.specs) in
+    let specs : Map lexical Loaded = of_entries (map spec_under library.specs) in
     ap (λ (m : Map lexical (List (List ℕ))). record { specs = specs; persons = m; rules = empty; next = 1; sites = empty; ended = empty })
     (same_map by_name _ _ (λ q.
     get-of_entries by_name (map roles_under (put_person new library.persons)) q
@@ -170,9 +169,9 @@ state-with_spec library loaded free =
     let roles : Map lexical (List (List ℕ)) = of_entries (map roles_under library.persons) in
     let specs = map spec_under library.specs in
     let none = sym (get-of_entries by_name specs loaded.spec.name) ∙ none_from_some (get (of_entries specs) loaded.spec.name) free in
-    ap (λ (m : Map lexical LoadedSpec). record { specs = m; persons = roles; rules = empty; next = 1; sites = empty; ended = empty })
-    (ap (λ (es : List (List ℕ × LoadedSpec)). of_entries es) (map-append spec_under library.specs (loaded ∷ []))
-    ∙ of_entries-push by_name specs loaded.spec.name (kept_as loaded) none)
+    ap (λ (m : Map lexical Loaded). record { specs = m; persons = roles; rules = empty; next = 1; sites = empty; ended = empty })
+    (ap (λ (es : List (List ℕ × Loaded)). of_entries es) (map-append spec_under library.specs (loaded ∷ []))
+    ∙ of_entries-push by_name specs loaded.spec.name loaded none)
 
 pub all_at : {A : Type 0} (P : A → Type 0) (xs : List A) (i : ℕ) (x : A) → All P xs → slice_get xs i ≡ Some x → P x
 all_at P xs i x all at = subst P (get_or_from_slice_get xs i x x at) (all i x (slice_get_within xs i x at))

@@ -3,9 +3,9 @@ use Rattle.std.specs.Prelude.{◌≡◌, ℕ, List, [], ◌∷◌, ◌++◌, map
 use Rattle.std.specs.Str.{bytes_eq}
 use Rattle.yw_spec.specs.declared.spec.Spec.{Spec}
 use Rattle.yw_state.specs.Map.{empty, get, of_entries}
-use Rattle.yw_state.specs.State.{State, LoadedSpec}
+use Rattle.yw_state.specs.State.{State}
+use Rattle.yw_state.specs.declared.loaded.Loaded.{Loaded}
 use Rattle.yw_model.specs.Texts.{IsAccepted}
-use Rattle.yw_library.specs.declared.items.Loaded.{Loaded}
 use Rattle.yw_library.specs.declared.items.Person.{Person}
 use Rattle.yw_library.specs.Numbers.{NumberedNames, AreFound}
 
@@ -26,11 +26,8 @@ spec_name l = l.spec.name
 abbrev pub roles_under : Person → List ℕ × List (List ℕ)
 roles_under p = (p.name, p.roles)
 
-abbrev pub kept_as : Loaded → LoadedSpec
-kept_as l = record { text = l.text; spec = l.spec }
-
-abbrev pub spec_under : Loaded → List ℕ × LoadedSpec
-spec_under l = (l.spec.name, kept_as l)
+abbrev pub spec_under : Loaded → List ℕ × Loaded
+spec_under l = (l.spec.name, l)
 
 -- the roles of persons and the specifications by name; no rule is added, and no case stands
 unfoldable pub state_of : Holdings → State

@@ -11,5 +11,5 @@ mod numbers;
 mod tests;
 
 pub use fault::LibraryFault;
-pub use items::{Loaded, LoadedList, Person, PersonList};
+pub use items::{Person, PersonList};
 pub use library::Library;

@@ -17,13 +17,14 @@ ghost use Rattle.yw_library.specs.Numbers.{IsNumberOf, NoneNamed};
 
 use crate::accepted::{accepted, placeless};
 use crate::numbers::Numbers;
-use crate::{LibraryFault, Loaded, LoadedList, Person, PersonList};
+use crate::{LibraryFault, Person, PersonList};
 use std::alloc::{AllocError, Global};
 use std::marker::Model;
 use std::mem;
 use yw_base::{Items, Name, NameFault, NameList, Text};
 use yw_model::Rule;
 use yw_spec::Spec;
+use yw_state::{Loaded, LoadedList};
 
 /// The persons with their roles, and the specifications that are loaded. Both are found by name without a
 /// scan. A contract sees two lists, and by `state_of` the state that they stand for.
@@ -42,7 +43,7 @@ impl Model for Library {
     ghost Value = { Holdings };
 
     ghost use Rattle.std.specs.Coded.{codes};
-    ghost use Rattle.yw_library.specs.contracts.items.Loaded as loaded;
+    ghost use Rattle.yw_state.specs.contracts.loaded.Loaded as loaded;
 
     ghost coded = { Prim.hlevel (codes, loaded.the_row.coded) };
 

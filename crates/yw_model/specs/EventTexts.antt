@@ -3,34 +3,12 @@ use Rattle.std.specs.Prelude.{ℕ, List, [], ◌∷◌, ◌++◌, map, fold, cod
 use Rattle.std.specs.Fmt.{decimal}
 use Rattle.std.specs.List.{range_with_len, join_with_byte}
 use Rattle.yw_base.specs.Identity.{dotted}
-use Rattle.yw_state.specs.Answers.{place_text}
+use Rattle.yw_model.specs.Kinds.{kind_text}
+use Rattle.yw_model.specs.Primitives.{primitive_text}
+use Rattle.yw_spec.specs.Net.{place_text}
 use Rattle.yw_state.specs.Identity.{child}
 use Rattle.yw_state.specs.declared.event.Event.{Event}
 use Rattle.yw_state.specs.declared.event.Event.TheVariants as events
-use Rattle.yw_state.specs.declared.tree.Primitive.{Primitive}
-use Rattle.yw_state.specs.declared.tree.Primitive.TheVariants as primitives
-use Rattle.yw_state.specs.declared.tree.TreeKind.{TreeKind}
-use Rattle.yw_state.specs.declared.tree.TreeKind.TheVariants as kinds
-
-abbrev pub kind_text : TreeKind → List ℕ
-kind_text kinds.Pre = codes "pre"
-kind_text kinds.Post = codes "post"
-kind_text kinds.Select = codes "select"
-kind_text kinds.External = codes "external"
-kind_text kinds.Timeout = codes "timeout"
-kind_text kinds.Abort = codes "abort"
-
-abbrev pub primitive_text : Primitive → List ℕ
-primitive_text primitives.SuspendItem = codes "suspend_item"
-primitive_text primitives.ContinueItem = codes "continue_item"
-primitive_text primitives.RestartItem = codes "restart_item"
-primitive_text primitives.CompleteItem = codes "complete_item"
-primitive_text primitives.RemoveItem = codes "remove_item"
-primitive_text primitives.SuspendCase = codes "suspend_case"
-primitive_text primitives.ContinueCase = codes "continue_case"
-primitive_text primitives.RemoveCase = codes "remove_case"
-primitive_text (primitives.Compensate name) = codes "compensate " ++ name
-primitive_text (primitives.Unknown text) = text
 
 -- one behind the other, with a comma between each two
 abbrev pub listed : List (List ℕ) → List ℕ

@@ -10,8 +10,6 @@ use Rattle.yw_base.specs.declared.value.Value.{Value}
 use Rattle.yw_state.specs.declared.command.Given.{Given}
 use Rattle.yw_state.specs.declared.tree.Conclusion.{Conclusion}
 use Rattle.yw_state.specs.declared.tree.Conclusion.TheVariants as conclusions
-use Rattle.yw_state.specs.declared.tree.TreeKind.{TreeKind}
-use Rattle.yw_state.specs.declared.tree.TreeKind.TheVariants as kinds
 use Rattle.yw_state.specs.Allowed.{are_roles}
 use Rattle.yw_model.specs.Identities.{identity_in}
 use Rattle.yw_model.specs.Lines.{line_limit}
@@ -53,22 +51,6 @@ identity_of d = option_and_then identity_in (as_str d)
 -- a text that is one of the words
 abbrev pub one_of : {A : Type 0} → (List ℕ → Option A) → Data → Option A
 one_of words d = option_and_then words (as_str d)
-
-abbrev pub kind_words : List ℕ → Option TreeKind
-kind_words word =
-    if bytes_eq word (codes "pre") then Some kinds.Pre else
-    if bytes_eq word (codes "post") then Some kinds.Post else
-    if bytes_eq word (codes "select") then Some kinds.Select else
-    if bytes_eq word (codes "external") then Some kinds.External else
-    if bytes_eq word (codes "timeout") then Some kinds.Timeout else
-    if bytes_eq word (codes "abort") then Some kinds.Abort else None
-
--- what may happen outside
-abbrev pub raised_words : List ℕ → Option TreeKind
-raised_words word =
-    if bytes_eq word (codes "external") then Some kinds.External else
-    if bytes_eq word (codes "timeout") then Some kinds.Timeout else
-    if bytes_eq word (codes "abort") then Some kinds.Abort else None
 
 -- the side of a node
 abbrev pub side_words : List ℕ → Option Bool

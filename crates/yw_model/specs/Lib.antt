@@ -2,6 +2,7 @@ pub mod Lines
 pub mod Words
 pub mod Identities
 pub mod Values
+pub mod Kinds
 pub mod Primitives
 pub mod Fields
 pub mod Shapes

@@ -1,7 +1,8 @@
 -- How the steps of an exlet are written: a word, and behind `compensate` one blank and a name.
-use Rattle.std.specs.Prelude.{ℕ, List, length, drop, take, ◌&&◌, codes, if◌then◌else◌}
+use Rattle.std.specs.Prelude.{ℕ, List, [], ◌∷◌, ◌++◌, length, drop, take, ◌&&◌, codes, unwrap_or, if◌then◌else◌}
 use Rattle.std.specs.Str.{bytes_eq}
 use Rattle.yw_base.specs.Spelling.{is_name}
+use Rattle.yw_model.specs.Words.{written}
 use Rattle.yw_state.specs.declared.tree.Primitive.{Primitive}
 use Rattle.yw_state.specs.declared.tree.Primitive.TheVariants as primitives
 
@@ -18,14 +19,23 @@ compensation_in text =
     then primitives.Compensate (behind_compensate text)
     else primitives.Unknown text
 
+abbrev pub primitive_text : Primitive → List ℕ
+primitive_text primitives.SuspendItem = codes "suspend_item"
+primitive_text primitives.ContinueItem = codes "continue_item"
+primitive_text primitives.RestartItem = codes "restart_item"
+primitive_text primitives.CompleteItem = codes "complete_item"
+primitive_text primitives.RemoveItem = codes "remove_item"
+primitive_text primitives.SuspendCase = codes "suspend_case"
+primitive_text primitives.ContinueCase = codes "continue_case"
+primitive_text primitives.RemoveCase = codes "remove_case"
+primitive_text (primitives.Compensate name) = compensate_front ++ name
+primitive_text (primitives.Unknown text) = text
+
+-- the primitives that are one word
+abbrev pub plain_primitives : List Primitive
+plain_primitives =
+    primitives.SuspendItem ∷ primitives.ContinueItem ∷ primitives.RestartItem ∷ primitives.CompleteItem ∷ primitives.RemoveItem
+    ∷ primitives.SuspendCase ∷ primitives.ContinueCase ∷ primitives.RemoveCase ∷ []
+
 unfoldable pub primitive_in : List ℕ → Primitive
-primitive_in text =
-    if bytes_eq text (codes "suspend_item") then primitives.SuspendItem else
-    if bytes_eq text (codes "continue_item") then primitives.ContinueItem else
-    if bytes_eq text (codes "restart_item") then primitives.RestartItem else
-    if bytes_eq text (codes "complete_item") then primitives.CompleteItem else
-    if bytes_eq text (codes "remove_item") then primitives.RemoveItem else
-    if bytes_eq text (codes "suspend_case") then primitives.SuspendCase else
-    if bytes_eq text (codes "continue_case") then primitives.ContinueCase else
-    if bytes_eq text (codes "remove_case") then primitives.RemoveCase else
-    compensation_in text
+primitive_in text = unwrap_or (written primitive_text plain_primitives text) (compensation_in text)

@@ -8,7 +8,8 @@ use Rattle.yw_state.specs.declared.command.Command.TheVariants as commands
 use Rattle.yw_state.specs.declared.command.Query.TheVariants as queries
 use Rattle.yw_model.specs.declared.word.Word.{Word}
 use Rattle.yw_model.specs.declared.word.Word.TheVariants as words
-use Rattle.yw_model.specs.Fields.{has_members, field, line_text_of, name_of, optional_name_of, identity_of, one_of, kind_words, raised_words, side_words, node_of, roles_of, givens_of, any_value_of, conclusion_of}
+use Rattle.yw_model.specs.Kinds.{kind_words, raised_words}
+use Rattle.yw_model.specs.Fields.{has_members, field, line_text_of, name_of, optional_name_of, identity_of, one_of, side_words, node_of, roles_of, givens_of, any_value_of, conclusion_of}
 
 -- A field says a value, or the line is of another shape.
 infixl 10 ◌>>=◌

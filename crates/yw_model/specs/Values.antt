@@ -1,10 +1,9 @@
 -- The values that JSON values stand for, and what is given under names.
-use Rattle.std.specs.Prelude.{ℕ, ℤ, List, [], ◌∷◌, length, nat_le, Option, Some, None, option_map, option_and_then, if◌then◌else◌}
+use Rattle.std.specs.Prelude.{ℕ, ℤ, List, [], ◌∷◌, nat_le, Option, Some, None, option_map, option_and_then, if◌then◌else◌}
 use Rattle.serde_json.specs.Data.{Data, null, boolean, number, string, array, object, Items, no_items, item, Members, no_members, member}
 use Rattle.serde_json.specs.Events.{items_len}
 use Rattle.serde_json.specs.Find.{as_i64, as_number, as_str}
-use Rattle.yw_lex.specs.Spelling.{most_text_bytes}
-use Rattle.yw_expr.specs.Small.{most_elements}
+use Rattle.yw_base.specs.Values.{is_short, most_elements}
 use Rattle.yw_base.specs.declared.value.Value.{Value}
 use Rattle.yw_base.specs.declared.value.Value.TheVariants as values
 use Rattle.yw_state.specs.declared.command.Given.{Given}
@@ -15,7 +14,7 @@ each_of kind no_items = Some []
 each_of kind (item d ds) = option_and_then (λ x. option_map (λ xs. x ∷ xs) (each_of kind ds)) (kind d)
 
 abbrev pub if_short : List ℕ → Option (List ℕ)
-if_short text = if nat_le (length text) most_text_bytes then Some text else None
+if_short text = if is_short text then Some text else None
 
 -- a whole number from -2^63 to 2^63 - 1
 abbrev pub int_of : Data → Option ℤ

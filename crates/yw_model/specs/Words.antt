@@ -1,8 +1,12 @@
--- The words under `cmd`, one for each command and each query.
+-- What words say, and the words under `cmd`, one for each command and each query.
 use Rattle.std.specs.Prelude.{ℕ, List, [], ◌∷◌, Option, find, codes}
 use Rattle.std.specs.Str.{bytes_eq}
 use Rattle.yw_model.specs.declared.word.Word.{Word}
 use Rattle.yw_model.specs.declared.word.Word.TheVariants as word
+
+-- the first of these that is written so
+abbrev pub written : {A : Type 0} → (A → List ℕ) → List A → List ℕ → Option A
+written text all word = find (λ x. bytes_eq word (text x)) all
 
 abbrev pub words : List Word
 words =
@@ -30,4 +34,4 @@ word_text word.Specs = codes "specs"
 
 -- the word with this text
 unfoldable pub word_in : List ℕ → Option Word
-word_in text = find (λ word. bytes_eq (word_text word) text) words
+word_in text = written word_text words text

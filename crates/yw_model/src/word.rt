@@ -1,7 +1,6 @@
 // The words of commands and queries.
-ghost use Rattle.std.specs.Prelude.{◌≡◌, find};
-ghost use Rattle.std.specs.Str.{bytes_eq};
-ghost use Rattle.yw_model.specs.Words.{word_in, word_text};
+ghost use Rattle.std.specs.Prelude.{◌≡◌};
+ghost use Rattle.yw_model.specs.Words.{word_in, word_text, written};
 
 /// The text under `cmd`: which command or query a line is. The words are our own.
 #[derive(Clone, Copy, Debug, PartialEq, Eq)]
@@ -26,9 +25,9 @@ pub enum Word {
 }
 
 fn word_among(words: &[Word], text: &str) -> Option<Word>
-    ensures { result ≡ find (λ word. bytes_eq (word_text word) text.now) words.now }
+    ensures { result ≡ written word_text words.now text.now }
 {
-    words.iter().copied().find(|word| word.text() == text)
+    words.iter().copied().find(|word| text == word.text())
 }
 
 impl Word {

@@ -1,5 +1,6 @@
 -- A variable begins with a value of its sort, within the limits.
 use Rattle.std.proofs.Common.{◌≡◌, ℕ, ◌+◌, List, [], Bool, true, false, Option, Some, None, option_map, option_and_then, Result, Ok, Err, ok_or, IfSome, IfOk, cond, codes, refl, subst}
+use Rattle.std.proofs.lemmas.Bool.{and_from}
 use Rattle.std.proofs.lemmas.List.Elements.{All-from_recursion}
 use Rattle.std.specs.List.{All, AllByRecursion}
 use Rattle.toml.specs.Data.{Data, Items, no_items, item, Members, get_member, as_table, as_array, as_bool, as_integer, as_str}
@@ -7,13 +8,13 @@ use Rattle.yw_base.specs.declared.value.Sort.{Sort}
 use Rattle.yw_base.specs.declared.value.Sort.TheVariants as sorts
 use Rattle.yw_base.specs.declared.value.Value.{Value}
 use Rattle.yw_base.specs.declared.value.Value.TheVariants as values
-use Rattle.yw_base.specs.Values.{sort_of}
+use Rattle.yw_base.specs.Values.{has_sort, is_small}
 use Rattle.yw_read.specs.declared.raw.RawNet.{RawNet}
 use Rattle.yw_read.specs.declared.raw.RawSpec.{RawSpec}
 use Rattle.yw_read.specs.Inits.{IsInit, HasInit, HasInits}
 use Rattle.yw_read.specs.declared.raw.ReadFault.{ReadFault}
 use Rattle.yw_read.specs.Keys.{◌>>=◌, Gives, held, required, value_or, optional, element, elements, below, place, tables_in, tables_held, optional_tables, required_tables, unless, unknown_key}
-use Rattle.yw_read.specs.Kinds.{any_value, flows_of, if_small, is_small, list_of, one_of, small_value, sort_words, texts_of, usage_words}
+use Rattle.yw_read.specs.Kinds.{any_value, flows_of, if_small, list_of, one_of, small_value, sort_words, texts_of, usage_words}
 use Rattle.yw_read.specs.Tables.{var_keys, var_table, task_table, net_keys, net_table, spec_keys, spec_table}
 use Rattle.yw_read.specs.declared.raw.RawUsage.TheVariants as usages
 
@@ -32,23 +33,23 @@ alone : {A : Type 0} (P : A → Type 0) (x : A) (o : Option (List ℕ)) → P x 
 alone P x None h = h
 alone P x (Some key) h = tt
 
-mapped : {A : Type 0} (wrap : A → Value) (sort : Sort) (o : Option A) → ((x : A) → sort_of (wrap x) ≡ sort) → IfSome (option_map wrap o) (λ value. sort_of value ≡ sort)
+mapped : {A : Type 0} (wrap : A → Value) (sort : Sort) (o : Option A) → ((x : A) → has_sort (wrap x) sort ≡ true) → IfSome (option_map wrap o) (λ value. has_sort value sort ≡ true)
 mapped wrap sort None h = tt
 mapped wrap sort (Some x) h = h x
 
 -- a value of a sort has it
-any_value-sort : (sort : Sort) (d : Data) → IfSome (any_value sort d) (λ value. sort_of value ≡ sort)
+any_value-sort : (sort : Sort) (d : Data) → IfSome (any_value sort d) (λ value. has_sort value sort ≡ true)
 any_value-sort sorts.Bool d = mapped values.Bool sorts.Bool (as_bool d) (λ _. refl)
 any_value-sort sorts.Int d = mapped values.Int sorts.Int (as_integer d) (λ _. refl)
 any_value-sort sorts.Text d = mapped values.Text sorts.Text (as_str d) (λ _. refl)
 any_value-sort sorts.Ints d = mapped values.Ints sorts.Ints (list_of as_integer d) (λ _. refl)
 any_value-sort sorts.Texts d = mapped values.Texts sorts.Texts (list_of as_str d) (λ _. refl)
 
-kept_by : (sort : Sort) (value : Value) (small : Bool) → is_small value ≡ small → sort_of value ≡ sort → IfSome (cond small (Some value) None) (IsInit sort)
-kept_by sort value true e h = (h, e)
+kept_by : (sort : Sort) (value : Value) (small : Bool) → is_small value ≡ small → has_sort value sort ≡ true → IfSome (cond small (Some value) None) (IsInit sort)
+kept_by sort value true e h = and_from _ _ h e
 kept_by sort value false e h = tt
 
-kept : (sort : Sort) (o : Option Value) → IfSome o (λ value. sort_of value ≡ sort) → IfSome (option_and_then if_small o) (IsInit sort)
+kept : (sort : Sort) (o : Option Value) → IfSome o (λ value. has_sort value sort ≡ true) → IfSome (option_and_then if_small o) (IsInit sort)
 kept sort None h = tt
 kept sort (Some value) h = kept_by sort value (is_small value) refl h
 

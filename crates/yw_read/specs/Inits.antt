@@ -3,14 +3,13 @@ use Rattle.std.specs.Prelude.{◌≡◌, true, IfSome}
 use Rattle.std.specs.List.{All}
 use Rattle.yw_base.specs.declared.value.Sort.{Sort}
 use Rattle.yw_base.specs.declared.value.Value.{Value}
-use Rattle.yw_base.specs.Values.{sort_of}
+use Rattle.yw_base.specs.Values.{may_hold}
 use Rattle.yw_read.specs.declared.raw.RawSpec.{RawSpec}
 use Rattle.yw_read.specs.declared.raw.RawVar.{RawVar}
-use Rattle.yw_read.specs.Kinds.{is_small}
 
 -- the value is of the sort and within the limits
 abbrev pub IsInit : Sort → Value → Type 0
-IsInit sort value = (sort_of value ≡ sort) × (is_small value ≡ true)
+IsInit sort value = may_hold sort value ≡ true
 
 -- the value that the variable begins with, where its table says one
 abbrev pub HasInit : RawVar → Type 0

@@ -1,8 +1,8 @@
 -- The kinds of values that keys hold: what a value says, if it is of the kind.
-use Rattle.std.specs.Prelude.{ℕ, List, [], ◌∷◌, length, Bool, true, ◌&&◌, nat_le, Option, Some, None, option_map, option_and_then, codes, if◌then◌else◌}
-use Rattle.std.specs.List.{list_all}
+use Rattle.std.specs.Prelude.{ℕ, List, [], ◌∷◌, Option, Some, None, option_map, option_and_then, codes, if◌then◌else◌}
 use Rattle.std.specs.Str.{bytes_eq}
 use Rattle.toml.specs.Data.{Data, Items, no_items, item, as_str, as_integer, as_bool, as_array}
+use Rattle.yw_base.specs.Values.{is_small}
 use Rattle.yw_base.specs.declared.value.Sort.{Sort}
 use Rattle.yw_base.specs.declared.value.Sort.TheVariants as sorts
 use Rattle.yw_base.specs.declared.value.Value.{Value}
@@ -74,26 +74,6 @@ gate_words word =
     if bytes_eq word (codes "and") then Some gates.And else
     if bytes_eq word (codes "xor") then Some gates.Xor else
     if bytes_eq word (codes "or") then Some gates.Or else None
-
-abbrev pub most_text_bytes : ℕ
-most_text_bytes = 4096
-
-abbrev pub most_items : ℕ
-most_items = 1000
-
-abbrev pub is_short : List ℕ → Bool
-is_short text = nat_le (length text) most_text_bytes
-
-abbrev pub are_few : {A : Type 0} → List A → Bool
-are_few xs = nat_le (length xs) most_items
-
--- the value is within the limits: a text is short, a list has few items, and each of its texts is short
-abbrev pub is_small : Value → Bool
-is_small (values.Bool b) = true
-is_small (values.Int n) = true
-is_small (values.Text t) = is_short t
-is_small (values.Ints ns) = are_few ns
-is_small (values.Texts ts) = are_few ts && list_all is_short ts
 
 -- a value of a sort, whatever its size
 abbrev pub any_value : Sort → Data → Option Value

@@ -3,7 +3,8 @@ ghost use Rattle.std.specs.Prelude.{◌≡◌, IfOk, Option};
 ghost use Rattle.std.specs.List.{list_all};
 ghost use Rattle.toml.specs.Data.{Data, as_bool, as_integer, as_str};
 ghost use Rattle.toml.specs.View.{items_view, view};
-ghost use Rattle.yw_read.specs.Kinds.{any_value, each_of, flow_between, flow_in, flow_of, gate_words, is_short, is_small, kind_words, list_of, one_of, small_value, sort_words, usage_words};
+ghost use Rattle.yw_base.specs.Values.{is_short, is_small};
+ghost use Rattle.yw_read.specs.Kinds.{any_value, each_of, flow_between, flow_in, flow_of, gate_words, kind_words, list_of, one_of, small_value, sort_words, usage_words};
 
 use crate::raw::{RawFlow, RawGate, RawKind, RawUsage};
 use std::alloc::{AllocError, Global};
@@ -14,7 +15,7 @@ use yw_base::{IntList, Items, Sort, Text, TextList, Value};
 const MOST_TEXT_BYTES: usize = 4096;
 
 /// The most values of a list that a variable begins with.
-const MOST_ITEMS: usize = 1000;
+const MOST_ELEMENTS: usize = 1000;
 
 /// What a key may hold: values of one kind.
 pub trait FromValue: Sized + Drop {
@@ -238,8 +239,8 @@ fn is_small(value: &Value) -> bool
         Value::Bool(_) => true,
         Value::Int(_) => true,
         Value::Text(text) => text.as_str().len() <= MOST_TEXT_BYTES,
-        Value::Ints(ints) => ints.len() <= MOST_ITEMS,
-        Value::Texts(texts) => texts.len() <= MOST_ITEMS && are_short(texts.as_slice()),
+        Value::Ints(ints) => ints.len() <= MOST_ELEMENTS,
+        Value::Texts(texts) => texts.len() <= MOST_ELEMENTS && are_short(texts.as_slice()),
     }
 }
 

@@ -177,7 +177,7 @@ net n i o";
 }
 
 /// The text of a specification with one variable.
-pub fn with_var(alloc: Global, sort: &str, init: &str) -> Result<String, Fail> {
+fn with_var(alloc: Global, sort: &str, init: &str) -> Result<String, Fail> {
     let net = "name = 'n', input = 'i', output = 'o', flows = []";
     Ok(format!(in alloc;
         "name = 's'\ntop = 'n'\nnet = [{{{net}, vars = [{{name = 'v', sort = '{sort}', init = {init}}}]}}]\n"

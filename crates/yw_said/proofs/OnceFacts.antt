@@ -1,11 +1,12 @@
 -- What no two things of an accepted document share: names and places.
 use Rattle.std.proofs.Common.{[], map, get_or, All, None}
+use Rattle.yw_spec.specs.Net.{place_text}
 use Rattle.yw_read.specs.declared.raw.RawIn.{RawIn}
 use Rattle.yw_read.specs.declared.raw.RawNet.{RawNet}
 use Rattle.yw_read.specs.declared.raw.RawSpec.{RawSpec}
 use Rattle.yw_read.specs.declared.raw.RawTask.{RawTask}
 use Rattle.yw_read.specs.declared.raw.RawVar.{RawVar}
-use Rattle.yw_accept.specs.Built.{places_of, place_text}
+use Rattle.yw_accept.specs.Built.{places_of}
 use Rattle.yw_accept.specs.Facts.{NetIsNamed, NetLeads}
 use Rattle.yw_accept.specs.Names.{NamesFit, FlowsFit, FlowFits}
 use Rattle.yw_accept.specs.Nodes.{named_places, task_names, nodes, net_names}

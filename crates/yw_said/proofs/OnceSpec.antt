@@ -1,13 +1,14 @@
 -- An accepted document says one specification at most.
 use Rattle.std.proofs.Common.{◌≡◌, filter, None, sym, ◌∙◌}
 use Rattle.std.specs.Prelude.{not}
+use Rattle.yw_spec.specs.Net.{place_text}
 use Rattle.yw_spec.specs.declared.spec.Net.{Net}
 use Rattle.yw_spec.specs.declared.spec.Spec.{Spec}
 use Rattle.yw_spec.specs.declared.task.Task.{Task}
 use Rattle.yw_read.specs.declared.raw.RawNet.{RawNet}
 use Rattle.yw_read.specs.declared.raw.RawSpec.{RawSpec}
 use Rattle.yw_read.specs.declared.raw.RawTask.{RawTask}
-use Rattle.yw_accept.specs.Built.{places_of, place_text, flows_to, flows_from, IsPlaceOf, IsPlaceCalled, IsTaskCalled, IsBranch, IsParam, IsAssign, IsTask, IsNet, IsSpec}
+use Rattle.yw_accept.specs.Built.{places_of, flows_to, flows_from, IsPlaceOf, IsPlaceCalled, IsTaskCalled, IsBranch, IsParam, IsAssign, IsTask, IsNet, IsSpec}
 use Rattle.yw_accept.specs.Nodes.{is_task, net_names}
 use Rattle.yw_accept.specs.Verdict.{IsVerdict}
 use Rattle.yw_said.proofs.Numbers.{Apart, one_called, one_list, one_made}

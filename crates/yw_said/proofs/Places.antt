@@ -11,11 +11,12 @@ use Rattle.std.proofs.lemmas.List.Kept.{AllPairs-filter}
 use Rattle.std.proofs.lemmas.List.Quantifiers.{all_pairs_push}
 use Rattle.std.proofs.lemmas.Slice.Eq.{bytes_eq-Decides}
 use Rattle.yw_base.specs.Spelling.{is_word_byte}
+use Rattle.yw_spec.specs.Net.{place_text}
 use Rattle.yw_spec.specs.declared.spec.Place.{Place}
 use Rattle.yw_spec.specs.declared.spec.Place.TheVariants as places
 use Rattle.yw_read.specs.declared.raw.RawFlow.{RawFlow}
 use Rattle.yw_read.specs.declared.raw.RawNet.{RawNet}
-use Rattle.yw_accept.specs.Built.{place_of, places_of, place_text}
+use Rattle.yw_accept.specs.Built.{place_of, places_of}
 use Rattle.yw_accept.specs.Facts.{NetIsNamed, NetLeads}
 use Rattle.yw_accept.specs.Names.{is_usable, is_same_flow, FlowFits}
 use Rattle.yw_accept.specs.Nodes.{is_among, is_task, is_implicit, named_places, task_names, nodes}

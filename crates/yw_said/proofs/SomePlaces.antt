@@ -4,11 +4,12 @@ use Rattle.std.specs.Prelude.{Contains, filter, cond}
 use Rattle.std.specs.Str.{bytes_eq}
 use Rattle.std.proofs.lemmas.Bool.{cases_Bool, and_parts, or_left, or_right}
 use Rattle.std.proofs.lemmas.List.Elements.{All-contains, filter_passes, Contains-append_left, Contains-append_right}
+use Rattle.yw_spec.specs.Net.{place_text}
 use Rattle.yw_spec.specs.declared.spec.Place.{Place}
 use Rattle.yw_spec.specs.declared.spec.Place.TheVariants as places
 use Rattle.yw_read.specs.declared.raw.RawFlow.{RawFlow}
 use Rattle.yw_read.specs.declared.raw.RawNet.{RawNet}
-use Rattle.yw_accept.specs.Built.{place_of, places_of, place_text, IsPlaceOf, IsPlaceCalled}
+use Rattle.yw_accept.specs.Built.{place_of, places_of, IsPlaceOf, IsPlaceCalled}
 use Rattle.yw_accept.specs.Names.{may_lead, may_be_emptied}
 use Rattle.yw_accept.specs.Nodes.{is_among, is_task, is_source, is_sink, is_implicit, named_places, implicit_places, arrow}
 use Rattle.yw_said.proofs.SomeLists.{contains_map, contains_unmap, contains_filter, among_contains, among_at, number_of, number_called}

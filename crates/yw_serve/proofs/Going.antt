@@ -7,10 +7,9 @@ use Rattle.yw_outside.specs.Moments.{IsSettled, LeavesOnly}
 use Rattle.yw_journal.specs.Files.{Content}
 use Rattle.yw_journal.specs.Journal.{IsCurrent}
 use Rattle.yw_journal.specs.declared.journal.Journal.{Journal}
-use Rattle.yw_journal.proofs.Passing.{weakened}
 use Rattle.yw_model.specs.Lines.{newline, HasNoNewline, whole_lines, last_part, last_line, all_lines}
 use Rattle.yw_state.specs.State.{State}
-use Rattle.yw_model.specs.Run.{Step, Answers, Run, HasRun}
+use Rattle.yw_model.specs.Run.{Step, Answers, Run}
 use Rattle.yw_model.proofs.LinesLemmas.{whole_lines-append, whole_lines-newline, last_part-newline, whole_lines-part, last_part-part}
 use Rattle.yw_model.proofs.Answering.{Answers-take}
 use Rattle.yw_model.proofs.RunLemmas.{Run-one, Run-append, has_run}
@@ -20,7 +19,7 @@ use Rattle.yw_serve.specs.declared.session.Stop.TheVariants.{Memory}
 use Rattle.yw_serve.specs.Kept.{most_kept, kept_of}
 use Rattle.yw_serve.specs.Session.{state_of, with_steps, OfSteps, AreDone, AnswersOn, Why, StopsWithin, IsAtByte, GoesOn, EndsLine, CutsLine}
 use Rattle.yw_serve.proofs.KeptLemmas.{kept_is, kept_over}
-use Rattle.yw_serve.proofs.Doing.{with_steps-none, with_steps-append, of_steps_longer, of_no_steps, nothing_done, done_both, leaves_nothing}
+use Rattle.yw_serve.proofs.Doing.{with_steps-none, with_steps-append, of_no_steps, nothing_done, done_both, leaves_nothing}
 
 -- to cut before more is added and to cut after it
 take_cut : {A : Type 0} (k : ℕ) (xs ys : List A) → take k (take k xs ++ ys) ≡ take k (xs ++ ys)

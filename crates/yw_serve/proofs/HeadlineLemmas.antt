@@ -1,11 +1,12 @@
 -- The state that a run reaches is the one that the files hold.
-use Rattle.std.proofs.Common.{◌≡◌, ◌⊎◌, ℕ, ◌+◌, ◌<◌, List, [], ◌∷◌, ◌++◌, length, map, Bool, true, false, Option, None, Some, inl, inr, ⊎_elim, refl, sym, ap, ◌∙◌, subst, arith, append_assoc, take, drop, take-append-drop}
+use Rattle.std.proofs.Common.{◌≡◌, ◌⊎◌, ℕ, ◌+◌, ◌<◌, List, [], ◌∷◌, ◌++◌, map, Bool, true, false, Option, None, inl, inr, ⊎_elim, refl, sym, ap, ◌∙◌, subst, arith, append_assoc, take, drop, take-append-drop}
 use Rattle.std.proofs.lemmas.List.{append-nil}
 use Rattle.yw_outside.specs.Image.{SaysPart, Speaks, other_in}
 use Rattle.yw_outside.specs.Moments.{After, LeavesOnly}
 use Rattle.yw_outside.specs.declared.desk.File.{File}
 use Rattle.yw_outside.specs.declared.desk.File.TheVariants.{A, B}
 use Rattle.yw_outside.specs.declared.image.Image.{Image}
+use Rattle.yw_outside.specs.Tells.{Tells}
 use Rattle.yw_journal.specs.Files.{Content, HasContent, Holds, IsLesser, generation_of, header_damage, is_live}
 use Rattle.yw_journal.specs.FileLaws.{content_generation, content_live}
 use Rattle.yw_codec.specs.Entries.{entry_bytes}
@@ -17,7 +18,7 @@ use Rattle.yw_serve.specs.Ends.{before_piece, has_ended, AllAnswered, SomeAnswer
 use Rattle.yw_serve.specs.Headline.{Serves, HoldsFront}
 use Rattle.yw_serve.specs.Notices.{full_line}
 use Rattle.yw_serve.specs.Opening.{LeftByOpening}
-use Rattle.yw_serve.specs.Served.{OpeningEnds, RunEnds, RunsFrom, Tells}
+use Rattle.yw_serve.specs.Served.{OpeningEnds, RunEnds, RunsFrom}
 use Rattle.yw_serve.specs.Session.{IsAtWork, IsBetween, IsIn, OfSteps, with_steps}
 use Rattle.yw_serve.specs.declared.session.Stop.{Stop}
 use Rattle.yw_serve.specs.declared.session.Stop.TheVariants as stops

@@ -1,5 +1,5 @@
 -- What is taken for a line is an entry that leads to the state after the line.
-use Rattle.std.proofs.Common.{◌≡◌, ◌&&◌, ℕ, ◌+◌, ◌≤◌, ◌<◌, List, [], ◌∷◌, ◌++◌, length, map, nat_lt, nat_le, Bool, true, false, Option, None, Some, Result, Ok, Err, refl, sym, ap, ◌∙◌, subst, arith}
+use Rattle.std.proofs.Common.{◌≡◌, ◌&&◌, ℕ, ◌+◌, ◌≤◌, List, [], ◌∷◌, length, map, nat_lt, nat_le, Bool, true, false, Option, None, Some, Result, Ok, Err, refl, sym, ap, ◌∙◌, subst, arith}
 use Rattle.std.proofs.lemmas.Bool.{leb-true, lt-ltb}
 use Rattle.std.proofs.lemmas.List.{map-append}
 use Rattle.std.specs.List.{list_all}
@@ -8,7 +8,6 @@ use Rattle.byteorder.specs.Endian.{big_bytes}
 use Rattle.yw_base.specs.Spelling.{is_name, are_distinct}
 use Rattle.yw_journal.specs.Files.{LeadsTo}
 use Rattle.yw_codec.specs.Entries.{IsEntry, entry_bytes, is_event, is_text, text_end}
-use Rattle.yw_state.specs.Allowed.{are_roles}
 use Rattle.yw_model.specs.Lines.{line_limit}
 use Rattle.yw_model.specs.Meaning as lines
 use Rattle.yw_state.specs.Broken.{placeless}
@@ -28,7 +27,7 @@ use Rattle.yw_state.specs.declared.event.Event.{Event}
 use Rattle.yw_state.specs.declared.event.Event.TheVariants as events
 use Rattle.yw_state.specs.declared.rule.Refusal.{Refusal}
 use Rattle.yw_state.specs.declared.rule.Rule.{Rule}
-use Rattle.yw_model.proofs.Answering.{IsAsWritten, AsksAsWritten, as_written, says_text}
+use Rattle.yw_model.proofs.Answering.{IsAsWritten, as_written, says_text}
 use Rattle.yw_model.proofs.Judging.{verdict_named}
 use Rattle.yw_serve.specs.Damage.{EntryLeads, meaning}
 use Rattle.yw_serve.proofs.OpenRecords.{LeadsTo-append}

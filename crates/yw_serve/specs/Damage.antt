@@ -1,5 +1,5 @@
 -- What the entries of a file mean, and which damages of the files are looked for now, before a file is ever compacted.
-use Rattle.std.specs.Prelude.{◌≡◌, ◌⊎◌, ◌==◌, ◌&&◌, ℕ, List, [], ◌∷◌, Bool, true, false, not, if◌then◌else◌, Option, None, Some}
+use Rattle.std.specs.Prelude.{◌≡◌, ◌⊎◌, ◌==◌, ◌&&◌, ℕ, List, [], ◌∷◌, true, false, not, if◌then◌else◌, Option, None, Some}
 use Rattle.yw_outside.specs.declared.desk.File.{File}
 use Rattle.yw_outside.specs.declared.desk.File.TheVariants.{A, B}
 use Rattle.yw_outside.specs.declared.image.Image.{Image}

@@ -1,5 +1,5 @@
 -- What the opening of the files finds and leaves.
-use Rattle.std.specs.Prelude.{◌≡◌, ◌≢◌, ◌⊎◌, ℕ, ◌+◌, ◌≤◌, List, [], ◌∷◌, ◌++◌, length, take, drop, Bool, true, false, Option, None, Some, MatchOption, Result, MatchResult}
+use Rattle.std.specs.Prelude.{◌≡◌, ◌≢◌, ◌⊎◌, ℕ, ◌+◌, ◌≤◌, List, [], ◌∷◌, ◌++◌, length, take, drop, Bool, true, false, Option, None, MatchOption, Result, MatchResult}
 use Rattle.std.specs.Int.{w32, from_be_bytes}
 use Rattle.yw_outside.specs.Causes.{Rose}
 use Rattle.yw_outside.specs.Moments.{LeavesOnly}

@@ -1,9 +1,9 @@
 -- What each status says of a run over an input, of the files and of the output.
 -- The source had `bytes`, has `left` now, and its last read gave `piece` bytes. At most `limit` bytes are answered, and no file is longer than
 -- `full_at`. The desk was `old` and is `new`.
-use Rattle.std.specs.Prelude.{◌≡◌, ◌⊎◌, ◌++◌, ℕ, List, Option}
-use Rattle.yw_outside.specs.Image.{SaysPart, Speaks}
-use Rattle.yw_outside.specs.Moments.{After, LeavesOnly}
+use Rattle.std.specs.Prelude.{◌≡◌, ◌⊎◌, ℕ, List, Option}
+use Rattle.yw_outside.specs.Moments.{LeavesOnly}
+use Rattle.yw_outside.specs.Tells.{Tells, TellsWhole}
 use Rattle.yw_outside.specs.declared.desk.File.{File}
 use Rattle.yw_outside.specs.declared.image.Image.{Image}
 use Rattle.yw_journal.specs.Files.{Content}
@@ -15,18 +15,6 @@ use Rattle.yw_serve.specs.Opening.{LeftByOpening}
 use Rattle.yw_serve.specs.declared.session.Stop.TheVariants as stops
 use Rattle.yw_serve.specs.declared.top.Status.{Status}
 use Rattle.yw_serve.specs.declared.top.Status.TheVariants.{Ok, Findings, Usage, Disk, Memory, Read, Write, Damaged, Full, InputLimit}
-
--- A text is said, all of it or a front; the files stay.
-pub record Tells {D : Type 0} (moment : D → ℕ) (left_since : D → ℕ → Image → Type 0) (state : D → Image) (may_leave : D → Image → Type 0) (text : List ℕ) (old new : D) : Type 0 where
-  pub a : (state new).a ≡ (state old).a
-  pub b : (state new).b ≡ (state old).b
-  pub said : SaysPart (state old).said text (state new).said
-  pub moments : LeavesOnly moment left_since old new (After (Speaks text) (may_leave old))
-
--- All of it is said.
-pub record TellsWhole {D : Type 0} (moment : D → ℕ) (left_since : D → ℕ → Image → Type 0) (state : D → Image) (may_leave : D → Image → Type 0) (text : List ℕ) (old new : D) : Type 0 where
-  pub tells : Tells moment left_since state may_leave text old new
-  pub whole : (state new).said ≡ (state old).said ++ text
 
 -- The text is said whole with this status, or in part with Write, or no memory was left to make it.
 abbrev pub IsTold : {D : Type 0} → (D → ℕ) → (D → ℕ → Image → Type 0) → (D → Image) → (D → Image → Type 0) → Status → Status → List ℕ → D → D → Type 0

@@ -1,5 +1,5 @@
 // The answer to each line when it has ended.
-ghost use Rattle.std.specs.Prelude.{◌≡◌, ◌+◌, ◌<◌, ◌≤◌, ◌^◌, ◌∷◌, ◌++◌, List, [], ℕ, length, IfErr, Err, OnOk, OnErr, IsTrue};
+ghost use Rattle.std.specs.Prelude.{◌≡◌, ◌≢◌, ◌+◌, ◌<◌, ◌≤◌, ◌^◌, ◌∷◌, ◌++◌, List, [], ℕ, length, IfErr, Err, OnOk, OnErr, IsTrue};
 ghost use Rattle.yw_model.specs.Lines.{newline, HasNoNewline, whole_lines, all_lines};
 ghost use Rattle.yw_model.specs.Run.{Step};
 ghost use Rattle.yw_outside.specs.Causes.{Rose};
@@ -55,6 +55,7 @@ fn carry_out<D: Desk>(journal: &mut Journal, plan: &Plan, desk: &mut D) -> Resul
     ensures counts { KeepsCounts D.tells D.disk_faults D.say_faults desk.old desk.new }
     ensures disk { result ≡ Err Stop.Disk → Rose (D.disk_faults desk.old) (D.disk_faults desk.new) }
     ensures write { result ≡ Err Stop.Write → Rose (D.say_faults desk.old) (D.say_faults desk.new) }
+    ensures memory { result ≢ Err Stop.Memory }
 {
     match plan {
         Plan::Refuse(reply) => tell(desk, reply.as_slice()),

@@ -20,7 +20,7 @@ pub const ANN: &str = r#"{"n":1,"ok":true,"quiet":true,"steps":["person ann"]}"#
 const HEADER: &[u8] = b"\x01YWJ1\0\0\0\0\0\0\0\x01\0\0\0\0\0\0\0\0\0\0\0\0\0\0\0\0";
 
 /// Words of the program.
-pub fn words_of(rt: &impl AllocGlobal, texts: &[&str]) -> Result<Vec<String>, Fail> {
+fn words_of(rt: &impl AllocGlobal, texts: &[&str]) -> Result<Vec<String>, Fail> {
     let mut words = Vec::new(rt.alloc());
     for text in texts {
         words.push(String::from_str(rt.alloc(), text)?)?;
@@ -29,7 +29,7 @@ pub fn words_of(rt: &impl AllocGlobal, texts: &[&str]) -> Result<Vec<String>, Fa
 }
 
 /// The lines of clerks of these names.
-pub fn lines_of(rt: &impl AllocGlobal, names: &[&str]) -> Result<String, Fail> {
+fn lines_of(rt: &impl AllocGlobal, names: &[&str]) -> Result<String, Fail> {
     let mut lines = String::new(rt.alloc());
     for name in names {
         let line = format!(in rt.alloc();
@@ -41,7 +41,7 @@ pub fn lines_of(rt: &impl AllocGlobal, names: &[&str]) -> Result<String, Fail> {
 }
 
 /// The replies to these lines.
-pub fn replies_of(rt: &impl AllocGlobal, names: &[&str]) -> Result<String, Fail> {
+fn replies_of(rt: &impl AllocGlobal, names: &[&str]) -> Result<String, Fail> {
     let mut replies = String::new(rt.alloc());
     let mut n = 1u32;
     for name in names {
@@ -55,7 +55,7 @@ pub fn replies_of(rt: &impl AllocGlobal, names: &[&str]) -> Result<String, Fail>
 }
 
 /// File A after these lines. The names have three letters.
-pub fn file_of(rt: &impl AllocGlobal, names: &[&str]) -> Result<Vec<u8>, Fail> {
+fn file_of(rt: &impl AllocGlobal, names: &[&str]) -> Result<Vec<u8>, Fail> {
     let mut file = HEADER.to_vec(rt.alloc())?;
     for name in names {
         file.extend_from_slice(b"\x01\0\0\0\x0e\0\x01\x01\x03")?;
@@ -67,7 +67,7 @@ pub fn file_of(rt: &impl AllocGlobal, names: &[&str]) -> Result<Vec<u8>, Fail> {
 }
 
 /// A desk over these files, at which these calls fail.
-pub fn desk_of(rt: &impl AllocGlobal, a: &[u8], b: &[u8], fail: &[u64]) -> Result<MemDesk, Fail> {
+fn desk_of(rt: &impl AllocGlobal, a: &[u8], b: &[u8], fail: &[u64]) -> Result<MemDesk, Fail> {
     let alloc = rt.alloc();
     let a = a.to_vec(alloc)?;
     let b = b.to_vec(alloc)?;
@@ -76,7 +76,7 @@ pub fn desk_of(rt: &impl AllocGlobal, a: &[u8], b: &[u8], fail: &[u64]) -> Resul
 }
 
 /// What the words do with this input, in pieces of 10 bytes, on the desk.
-pub fn serve_words(
+fn serve_words(
     rt: &impl AllocGlobal,
     words: &[&str],
     input: &str,
@@ -89,13 +89,13 @@ pub fn serve_words(
 }
 
 /// The files and the output of now.
-pub fn image_of(desk: &MemDesk) -> Result<Image, Fail> {
+fn image_of(desk: &MemDesk) -> Result<Image, Fail> {
     let calls = desk.calls();
     Ok(desk.image(calls, Fill::New)?)
 }
 
 /// The files and the output are these.
-pub fn expect_image(
+fn expect_image(
     rt: &impl Abort,
     desk: &MemDesk,
     a: &[u8],

@@ -1,5 +1,5 @@
 // The top call.
-ghost use Rattle.std.specs.Prelude.{◌≡◌, ◌≢◌, ◌≤◌, ◌<◌, ◌^◌, ◌↔◌, ◌⊎◌, ℕ, List, length, true, Some, IsTrue, MatchResult, string_bytes};
+ghost use Rattle.std.specs.Prelude.{◌≡◌, ◌≢◌, ◌≤◌, ◌<◌, ◌^◌, ◌↔◌, ◌⊎◌, ℕ, List, length, true, Some, IsErr, IsTrue, MatchResult, string_bytes};
 ghost use Rattle.std.specs.declared.option.Option.{Option};
 ghost use Rattle.yw_serve.specs.Ends.{EndsAs, EndsShort};
 ghost use Rattle.yw_serve.specs.Opening.{LeftByOpening, opened_state};
@@ -67,6 +67,7 @@ fn tell_notice<D: Desk>(line: Result<Bytes, AllocError>, status: Status, desk: &
     ensures statuses { (result ≡ status) ⊎ (result ≡ Status.Write) ⊎ (result ≡ Status.Memory) }
     ensures counts { KeepsCounts D.tells D.disk_faults D.say_faults desk.old desk.new }
     ensures write { result ≡ Status.Write → (status ≡ Status.Write) ⊎ Rose (D.say_faults desk.old) (D.say_faults desk.new) }
+    ensures memory { result ≡ Status.Memory → (status ≡ Status.Memory) ⊎ IsErr line }
 {
     match line {
         Ok(line) => match tell(desk, line.as_slice()) {

@@ -1,10 +1,21 @@
 -- A net: its nodes are the places and the tasks, and flows go from places to tasks and from tasks to places.
 -- The paper's extended workflow net, with an implicit place in each flow from a task to a task.
-use Rattle.std.specs.Prelude.{ℕ, List, [], Contains, slice_get}
+use Rattle.std.specs.Prelude.{ℕ, List, [], ◌++◌, Contains, codes, slice_get}
 use Rattle.std.specs.Option.{option_map_or}
 use Rattle.yw_reach.specs.Walks.{PathAlong}
 use Rattle.yw_spec.specs.declared.spec.Net.{Net}
+use Rattle.yw_spec.specs.declared.spec.Place.{Place}
+use Rattle.yw_spec.specs.declared.spec.Place.TheVariants.{Named, Between}
 use Rattle.yw_spec.specs.declared.task.Task.{Task}
+
+-- the implicit place of a flow, as a text: `t->u`
+abbrev pub arrow_text : List ℕ → List ℕ → List ℕ
+arrow_text from to = from ++ codes "->" ++ to
+
+-- a condition's name, or the text of an implicit place
+abbrev pub place_text : Place → List ℕ
+place_text (Named name) = name
+place_text (Between from to) = arrow_text from to
 
 -- a place or a task, by its number in the net
 pub data Node : Type 0 where

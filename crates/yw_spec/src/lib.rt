@@ -3,8 +3,10 @@
 
 mod spec;
 mod task;
+#[cfg(test)]
+mod tests;
 
-pub use spec::{Net, NetList, Place, PlaceList, Spec, TaskList, Usage, Var, VarList};
+pub use spec::{Net, NetList, Place, PlaceList, Spec, TaskList, Usage, Var, VarList, arrow_text};
 pub use task::{
     Assign, Branch, BranchList, Gate, IndexList, Kind, Many, Param, ParamList, SetList, Task,
 };

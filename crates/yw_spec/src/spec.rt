@@ -1,5 +1,9 @@
 // Specifications: nets, what they keep and where they lead.
+ghost use Rattle.std.specs.Prelude.{◌≡◌, IfOk, string_bytes};
+ghost use Rattle.yw_spec.specs.Net.{arrow_text, place_text};
+
 use crate::Task;
+use std::alloc::{AllocError, Global};
 use yw_base::{Items, Name, Sort, Value};
 
 /// A process as it is loaded: nets, of which the top one is a case's own. The paper's specification.
@@ -50,6 +54,28 @@ pub enum Place {
     Named(Name),
     /// The implicit place of a flow from one task to another, by their names.
     Between(Name, Name),
+}
+
+/// The text of the implicit place of a flow from one task to another: `t->u`. An `Err` says that no memory was left.
+pub fn arrow_text(alloc: Global, from: &str, to: &str) -> Result<String, AllocError>
+    ensures { IfOk result (λ text. string_bytes text ≡ arrow_text from.now to.now) }
+{
+    let mut text = String::from_str(alloc, from)?;
+    text.push_str("->")?;
+    text.push_str(to)?;
+    Ok(text)
+}
+
+impl Place {
+    /// The text by which the place is known in its net: a condition's name, or `t->u`. An `Err` says that no memory was left.
+    pub fn text(&self, alloc: Global) -> Result<String, AllocError>
+        ensures { IfOk result (λ text. string_bytes text ≡ place_text self.now) }
+    {
+        match self {
+            Place::Named(name) => String::from_str(alloc, name.as_str()),
+            Place::Between(from, to) => arrow_text(alloc, from.as_str(), to.as_str()),
+        }
+    }
 }
 
 /// A variable of a net. The passing of values by usage is our own.

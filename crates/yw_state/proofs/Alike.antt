@@ -13,7 +13,8 @@ use Rattle.yw_state.specs.Map.{Map, lexical, lexical_each, get, has_key}
 use Rattle.yw_state.specs.NewRule.{are_fit, is_known, may_conclude}
 use Rattle.yw_state.specs.Options.{is_some_and}
 use Rattle.yw_state.specs.RuleTree.{TreeRule}
-use Rattle.yw_state.specs.State.{State, Site, Sites, NetPart, ItemPart, ItemAt, NetAt, LoadedSpec, due_at, is_suspended, is_target, item_at, item_part, items_of, net_at, net_part, no_checks, run_part, spec_called, task_in}
+use Rattle.yw_state.specs.State.{State, Site, Sites, NetPart, ItemPart, ItemAt, NetAt, due_at, is_suspended, is_target, item_at, item_part, items_of, net_at, net_part, no_checks, run_part, spec_called, task_in}
+use Rattle.yw_state.specs.declared.loaded.Loaded.{Loaded}
 use Rattle.yw_state.specs.Texts.{Reader}
 use Rattle.yw_state.specs.Well.{NumbersFit, NetsStand, ParentsStand, MarksStand, ContentFits, IsWell, RulesFit, DepthFits, IsAtLevel, Stands, is_child_of, is_composite, is_top, most_items, wants_net}
 use Rattle.yw_state.specs.Well.IsAtLevel.{first, further}
@@ -46,7 +47,7 @@ all_weaker p q weaker (x ∷ xs) e =
 
 -- ---- the later state
 
-abbrev pub later : State → Map lexical LoadedSpec → Map lexical (List (List ℕ)) → Map lexical_each (List TreeRule) → Sites → State
+abbrev pub later : State → Map lexical Loaded → Map lexical (List (List ℕ)) → Map lexical_each (List TreeRule) → Sites → State
 later s specs persons rules sites = record s { specs = specs; persons = persons; rules = rules; sites = sites }
 
 abbrev has_some : State → TreePlace → Bool
@@ -54,7 +55,7 @@ has_some s place = nat_lt 0 (length (rules_at s place))
 
 -- Each specification is known as before, and a tree that had a rule has one.
 pub record KnowsMore (s t : State) : Type 0 where
-  pub specs : (name : List ℕ) (l : LoadedSpec) → get s.specs name ≡ Some l → get t.specs name ≡ Some l
+  pub specs : (name : List ℕ) (l : Loaded) → get s.specs name ≡ Some l → get t.specs name ≡ Some l
   pub rules : (place : TreePlace) → has_some s place ≡ true → has_some t place ≡ true
 
 -- The check may be due there: at a case or an item whose tree has a rule, and a choice of a worklet at an item that is ready.
@@ -94,15 +95,15 @@ pub record StandsAlike (s t : State) : Type 0 where
 
 -- What is new is as its text says, and within its bounds.
 pub record LearnsRight (reader : Reader) (s t : State) : Type 0 where
-  pub spec_text : (name : List ℕ) (l : LoadedSpec) → get t.specs name ≡ Some l → (get s.specs name ≡ Some l) ⊎ reader.spec l.text (Ok l.spec)
-  pub spec_name : (name : List ℕ) (l : LoadedSpec) → get t.specs name ≡ Some l → (get s.specs name ≡ Some l) ⊎ (l.spec.name ≡ name)
+  pub spec_text : (name : List ℕ) (l : Loaded) → get t.specs name ≡ Some l → (get s.specs name ≡ Some l) ⊎ reader.spec l.text (Ok l.spec)
+  pub spec_name : (name : List ℕ) (l : Loaded) → get t.specs name ≡ Some l → (get s.specs name ≡ Some l) ⊎ (l.spec.name ≡ name)
   pub person : (name : List ℕ) (roles : List (List ℕ)) → get t.persons name ≡ Some roles → (get s.persons name ≡ Some roles) ⊎ IsTrue (are_roles roles)
   pub rules : (key : List (List ℕ)) (rs : List TreeRule) → get t.rules key ≡ Some rs → (get s.rules key ≡ Some rs) ⊎ RulesFit reader t key rs
 
 -- ---- what is read off a specification, or off a net that stands
 
-abbrev spec_in : Option LoadedSpec → Option Spec
-spec_in o = option_map (λ (l : LoadedSpec). l.spec) o
+abbrev spec_in : Option Loaded → Option Spec
+spec_in o = option_map (λ (l : Loaded). l.spec) o
 
 abbrev pub net_in : NetPart → Option Spec → Option NetAt
 net_in n o = option_map (λ net. record { part = n; net = net }) (option_and_then (λ (spec : Spec). slice_get spec.nets n.net) o)
@@ -135,7 +136,7 @@ abbrev pub has_part : Option Site → Bool
 has_part o =
     is_some (option_and_then (λ (x : Site). x.net) o) || is_some (option_and_then (λ (x : Site). x.item) o) || is_some (option_and_then (λ (x : Site). x.run) o)
 
-module _ (s : State) (specs : Map lexical LoadedSpec) (persons : Map lexical (List (List ℕ))) (rules : Map lexical_each (List TreeRule)) (sites : Sites) where
+module _ (s : State) (specs : Map lexical Loaded) (persons : Map lexical (List (List ℕ))) (rules : Map lexical_each (List TreeRule)) (sites : Sites) where
   -- what stands isn't touched
   pub untouched : MarksStand s → StandsAlike s (later s specs persons rules s.sites)
   untouched marks =

@@ -4,6 +4,7 @@ use Rattle.std.proofs.Common.{sym, ◌∙◌, ap, subst, arith}
 use Rattle.std.proofs.lemmas.Bool.{and_from, and_parts, eq-eqb, eqb-true, le-ltb, leb-true, lt-ltb}
 use Rattle.std.proofs.lemmas.List.{length-replicate, length-set}
 use Rattle.std.proofs.lemmas.List.Elements.{All-replicate, All-set}
+use Rattle.yw_base.specs.Values.{may_hold}
 use Rattle.yw_base.specs.Identity.{number_end}
 use Rattle.yw_spec.specs.declared.spec.Net.{Net}
 use Rattle.yw_spec.specs.declared.spec.Spec.{Spec}
@@ -21,7 +22,7 @@ use Rattle.yw_state.specs.Nets.{comes_in, top_net}
 use Rattle.yw_state.specs.Options.{is_some_and}
 use Rattle.yw_state.specs.State.{State, Site, NetPart, is_target, spec_called, top_called}
 use Rattle.yw_state.specs.Texts.{Reader, Said}
-use Rattle.yw_state.specs.Values.{Row, may_hold, same_value}
+use Rattle.yw_state.specs.Values.{Row, same_value}
 use Rattle.yw_state.specs.Well.{IsWell, NetFits, vals_fit}
 use Rattle.yw_state.specs.declared.event.Event.TheVariants as events
 use Rattle.yw_state.specs.declared.tree.TreeKind.TheVariants.{Pre, Select}

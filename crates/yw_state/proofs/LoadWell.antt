@@ -10,13 +10,14 @@ use Rattle.yw_state.proofs.Alike.{KnowsMore, LearnsRight, later, later_is_well, 
 use Rattle.yw_state.specs.Allowed.{Allowed, allows}
 use Rattle.yw_state.specs.Events.{after}
 use Rattle.yw_state.specs.Map.{get, has_key, insert}
-use Rattle.yw_state.specs.State.{State, LoadedSpec}
+use Rattle.yw_state.specs.State.{State}
+use Rattle.yw_state.specs.declared.loaded.Loaded.{Loaded}
 use Rattle.yw_state.specs.Texts.{Reader, Said, Says, a_spec}
 use Rattle.yw_state.specs.Well.{IsWell}
 use Rattle.yw_state.specs.declared.event.Event.TheVariants as events
 
 module _ (s : State) (name text : List ℕ) (spec : Spec) where
-  abbrev loaded : LoadedSpec
+  abbrev loaded : Loaded
   loaded = record { text = text; spec = spec }
 
   abbrev with_spec : State
@@ -31,7 +32,7 @@ module _ (s : State) (name text : List ℕ) (spec : Spec) where
       }
 
   -- what is found is as before, or the new one
-  found_fits : (P : List ℕ → LoadedSpec → Type 0) → P name loaded → (other : List ℕ) (l : LoadedSpec) → get (insert s.specs name loaded) other ≡ Some l → (get s.specs other ≡ Some l) ⊎ P other l
+  found_fits : (P : List ℕ → Loaded → Type 0) → P name loaded → (other : List ℕ) (l : Loaded) → get (insert s.specs name loaded) other ≡ Some l → (get s.specs other ≡ Some l) ⊎ P other l
   found_fits P fits other l e = old_or_new (insert_stands by_name s.specs name loaded other l e)
     where
       old_or_new : (other ≡ name) × (loaded ≡ l) ⊎ (get s.specs other ≡ Some l) → (get s.specs other ≡ Some l) ⊎ P other l

@@ -5,6 +5,7 @@ use Rattle.std.specs.Prelude.{◌≡◌, ℕ, ◌+◌, ◌==◌, ◌&&◌, ◌||
 use Rattle.std.specs.Cmp.Lexicographic.{pointwise}
 use Rattle.std.specs.List.{list_all}
 use Rattle.std.specs.Str.{bytes_eq}
+use Rattle.yw_base.specs.Values.{may_hold}
 use Rattle.yw_base.specs.Identity.{number_end}
 use Rattle.yw_base.specs.Spelling.{are_distinct}
 use Rattle.yw_base.specs.declared.value.Value.{Value}
@@ -25,7 +26,7 @@ use Rattle.yw_state.specs.Options.{all_of, is_some_and}
 use Rattle.yw_state.specs.Passing.{entry_values, given_values, is_defined, kept_values, made_rows, made_rows_with, row_fits, split_places, within_bounds}
 use Rattle.yw_state.specs.State.{State, ItemAt, TaskAt, due_at, is_case, is_suspended, is_target, item_at, items_of, net_part, run_part, spec_called, task_at, tokens_on, top_called}
 use Rattle.yw_state.specs.Texts.{Said, a_spec, a_test}
-use Rattle.yw_state.specs.Values.{Row, may_hold, same_value}
+use Rattle.yw_state.specs.Values.{Row, same_value}
 use Rattle.yw_state.specs.Words.{active, busy, clear, done, is_executing, is_first_due, is_ready, urgent}
 use Rattle.yw_state.specs.declared.event.Event.{Event}
 use Rattle.yw_state.specs.declared.event.Event.TheVariants as events

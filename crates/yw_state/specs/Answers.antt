@@ -3,8 +3,8 @@ use Rattle.std.specs.Prelude.{◌≡◌, ◌↔◌, ℕ, ◌==◌, ◌&&◌, Boo
 use Rattle.std.specs.List.{filter_map, flat_map, enumerate_from}
 use Rattle.std.specs.Ordering.{is_lt, ordering_then}
 use Rattle.yw_base.specs.declared.value.Value.{Value}
+use Rattle.yw_spec.specs.Net.{place_text}
 use Rattle.yw_spec.specs.declared.spec.Place.{Place}
-use Rattle.yw_spec.specs.declared.spec.Place.TheVariants.{Named, Between}
 use Rattle.yw_spec.specs.declared.spec.Var.{Var}
 use Rattle.yw_state.specs.Broken.{Check, test, fact, test_at, fact_at, fault, First, enter_checks, start_checks, complete_checks}
 use Rattle.yw_state.specs.Identity.{Ident, case_number}
@@ -113,11 +113,6 @@ net_row s e =
 
 abbrev run_row : Ident × Site → Option RunRow
 run_row e = option_map (λ (r : RunPart). record { run = e.0; waiting = r.waiting; rest = r.rest }) e.1.run
-
--- a condition's name, or `t->u`
-abbrev pub place_text : Place → List ℕ
-place_text (Named name) = name
-place_text (Between from to) = from ++ 45 ∷ 62 ∷ to
 
 abbrev if_marked : Ident → ℕ → Place → Option TokenRow
 if_marked i count p = if count == 0 then None else Some (record { net = i; place = p; count = count })

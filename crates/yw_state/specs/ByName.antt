@@ -3,7 +3,7 @@
 use Rattle.std.specs.Prelude.{ℕ, List, map, zip, filter, find, Option, Some, None, option_map, option_and_then, unwrap_or, if◌then◌else◌}
 use Rattle.std.specs.Option.{option_or}
 use Rattle.std.specs.Str.{bytes_eq}
-use Rattle.yw_base.specs.Values.{has_sort}
+use Rattle.yw_base.specs.Values.{has_sort, zero_of}
 use Rattle.yw_base.specs.declared.value.Sort.{Sort}
 use Rattle.yw_base.specs.declared.value.Value.{Value}
 use Rattle.yw_spec.specs.declared.spec.Net.{Net}
@@ -12,7 +12,7 @@ use Rattle.yw_spec.specs.declared.task.Param.{Param}
 use Rattle.yw_state.specs.Identity.{Ident, is_case_ident}
 use Rattle.yw_state.specs.Nets.{comes_in, goes_out}
 use Rattle.yw_state.specs.State.{State, NetAt, ItemAt, net_at, item_at}
-use Rattle.yw_state.specs.Values.{Row, zero_of}
+use Rattle.yw_state.specs.Values.{Row}
 
 -- what has a value under which name
 abbrev pub Named : Type 0

@@ -5,6 +5,7 @@ use Rattle.std.specs.Option.{option_or}
 use Rattle.std.specs.List.{list_any}
 use Rattle.std.specs.Ordering.{is_lt}
 use Rattle.std.specs.Str.{bytes_eq}
+use Rattle.yw_base.specs.Values.{may_hold}
 use Rattle.yw_base.specs.declared.value.Sort.{Sort}
 use Rattle.yw_base.specs.declared.value.Sort.TheVariants as sorts
 use Rattle.yw_base.specs.declared.value.Value.{Value}
@@ -16,7 +17,7 @@ use Rattle.yw_state.specs.Allowed.{element_param}
 use Rattle.yw_state.specs.Map.{lexical}
 use Rattle.yw_state.specs.Nets.{comes_in}
 use Rattle.yw_state.specs.Options.{all_of}
-use Rattle.yw_state.specs.Values.{Row, may_hold}
+use Rattle.yw_state.specs.Values.{Row}
 use Rattle.yw_state.specs.declared.command.Given.{Given}
 
 abbrev meant : Sort → Value → Value

@@ -2,6 +2,7 @@
 -- for what happens outside, are the thesis's; which kinds of task have which is our own.
 use Rattle.std.specs.Prelude.{ℕ, ◌-◌, ◌==◌, ◌&&◌, ◌||◌, Bool, true, false, not, List, [], ◌∷◌, ◌++◌, map, length, Option, Some, None, is_some, option_map, option_and_then, unwrap_or, slice_get, nat_lt, if◌then◌else◌}
 use Rattle.std.specs.Option.{option_or}
+use Rattle.yw_base.specs.Values.{zero_of}
 use Rattle.yw_base.specs.declared.value.Value.{Value}
 use Rattle.yw_spec.specs.declared.spec.Spec.{Spec}
 use Rattle.yw_spec.specs.declared.task.Param.{Param}
@@ -13,7 +14,7 @@ use Rattle.yw_state.specs.Nets.{child_net, is_atomic, net_called, task_called}
 use Rattle.yw_state.specs.Options.{is_some_and}
 use Rattle.yw_state.specs.RuleTree.{TreeRule, concluded}
 use Rattle.yw_state.specs.State.{State, NetPart, ItemAt, TaskAt, net_part, item_at}
-use Rattle.yw_state.specs.Values.{Row, zero_of}
+use Rattle.yw_state.specs.Values.{Row}
 use Rattle.yw_state.specs.Words.{is_completed}
 use Rattle.yw_state.specs.declared.tree.Conclusion.{Conclusion}
 use Rattle.yw_state.specs.declared.tree.TreeKind.{TreeKind}

@@ -3,6 +3,7 @@
 -- own.
 use Rattle.std.specs.Prelude.{ℕ, ℤ, ◌&&◌, Bool, true, false, List, [], ◌∷◌, ◌++◌, map, filter, Option, Some, None, is_some, is_none, option_map, option_and_then, unwrap_or, slice_get, slice_set, nat_le, if◌then◌else◌}
 use Rattle.std.specs.List.{list_all, filter_map, enumerate_from}
+use Rattle.yw_base.specs.Values.{may_hold, zero_of}
 use Rattle.yw_base.specs.declared.value.Sort.{Sort}
 use Rattle.yw_base.specs.declared.value.Sort.TheVariants as sorts
 use Rattle.yw_base.specs.declared.value.Value.{Value}
@@ -21,7 +22,7 @@ use Rattle.yw_state.specs.Nets.{is_among}
 use Rattle.yw_state.specs.Options.{all_of, is_some_and}
 use Rattle.yw_state.specs.RuleTree.{holds}
 use Rattle.yw_state.specs.State.{ItemPart}
-use Rattle.yw_state.specs.Values.{Row, may_hold, zero_of}
+use Rattle.yw_state.specs.Values.{Row}
 use Rattle.yw_state.specs.Words.{is_completed}
 use Rattle.yw_state.specs.declared.part.Stage.TheVariants.{Completed}
 

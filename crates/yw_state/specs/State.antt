@@ -14,6 +14,7 @@ use Rattle.yw_state.specs.Nets.{task_number, top_net}
 use Rattle.yw_state.specs.Options.{is_some_and}
 use Rattle.yw_state.specs.RuleTree.{TreeRule}
 use Rattle.yw_state.specs.Values.{Row}
+use Rattle.yw_state.specs.declared.loaded.Loaded.{Loaded}
 use Rattle.yw_state.specs.declared.part.Checks.{Checks}
 use Rattle.yw_state.specs.declared.part.Stage.{Stage}
 use Rattle.yw_state.specs.declared.part.Way.{Way}
@@ -56,15 +57,10 @@ no_checks = record { pre = false; select = false; post = false }
 
 -- ---- the state
 
--- a text that was accepted, and the specification that it says
-pub record LoadedSpec : Type 0 where
-  pub text : List ℕ
-  pub spec : Spec
-
 -- Specifications and the roles of persons by name, the rules of each tree by its place, the number that is drawn next, what stands in
 -- cases, and how cases ended.
 pub record State : Type 0 where
-  pub specs : Map lexical LoadedSpec
+  pub specs : Map lexical Loaded
   pub persons : Map lexical (List (List ℕ))
   pub rules : Map lexical_each (List TreeRule)
   pub next : ℕ
@@ -103,7 +99,7 @@ some_site s p = list_any (λ e. p e.0 e.1) (entries s.sites)
 -- ---- what stands, with what the specification says of it
 
 abbrev pub spec_called : State → List ℕ → Option Spec
-spec_called s name = option_map (λ (l : LoadedSpec). l.spec) (get s.specs name)
+spec_called s name = option_map (λ (l : Loaded). l.spec) (get s.specs name)
 
 abbrev pub top_called : State → List ℕ → Option Net
 top_called s name = option_and_then top_net (spec_called s name)

@@ -4,6 +4,7 @@ use Rattle.std.specs.Prelude.{◌≡◌, ◌≤◌, ◌<◌, ℕ, ◌+◌, ◌==
 use Rattle.std.specs.List.{list_all}
 use Rattle.std.specs.Option.{option_map_or}
 use Rattle.std.specs.Str.{bytes_eq}
+use Rattle.yw_base.specs.Values.{may_hold}
 use Rattle.yw_base.specs.Identity.{is_identity, number_end}
 use Rattle.yw_spec.specs.declared.spec.Spec.{Spec}
 use Rattle.yw_spec.specs.declared.spec.Var.{Var}
@@ -18,9 +19,10 @@ use Rattle.yw_state.specs.NewRule.{are_fit, is_side, is_taken, may_conclude, mos
 use Rattle.yw_state.specs.Options.{is_some_and}
 use Rattle.yw_state.specs.Passing.{row_fits}
 use Rattle.yw_state.specs.RuleTree.{TreeRule}
-use Rattle.yw_state.specs.State.{State, Site, NetPart, ItemPart, RunPart, NetAt, ItemAt, LoadedSpec, due_at, is_suspended, is_target, item_at, item_part, items_of, net_at, net_part, run_part, spec_called}
+use Rattle.yw_state.specs.State.{State, Site, NetPart, ItemPart, RunPart, NetAt, ItemAt, due_at, is_suspended, is_target, item_at, item_part, items_of, net_at, net_part, run_part, spec_called}
+use Rattle.yw_state.specs.declared.loaded.Loaded.{Loaded}
 use Rattle.yw_state.specs.Texts.{Reader}
-use Rattle.yw_state.specs.Values.{Row, may_hold}
+use Rattle.yw_state.specs.Values.{Row}
 use Rattle.yw_state.specs.Words.{has_check, is_completed, is_executing, is_ready}
 use Rattle.yw_state.specs.declared.part.Way.{Way}
 use Rattle.yw_state.specs.declared.tree.TreeKind.{TreeKind}
@@ -147,8 +149,8 @@ pub record RulesFit (reader : Reader) (s : State) (key : List (List ℕ)) (rs : 
 
 -- What is kept is as its texts say, and within its bounds.
 pub record ContentFits (reader : Reader) (s : State) : Type 0 where
-  pub spec_text : (name : List ℕ) (l : LoadedSpec) → get s.specs name ≡ Some l → reader.spec l.text (Ok l.spec)
-  pub spec_name : (name : List ℕ) (l : LoadedSpec) → get s.specs name ≡ Some l → l.spec.name ≡ name
+  pub spec_text : (name : List ℕ) (l : Loaded) → get s.specs name ≡ Some l → reader.spec l.text (Ok l.spec)
+  pub spec_name : (name : List ℕ) (l : Loaded) → get s.specs name ≡ Some l → l.spec.name ≡ name
   pub person : (name : List ℕ) (roles : List (List ℕ)) → get s.persons name ≡ Some roles → IsTrue (are_roles roles)
   pub of_spec : (j : Ident) (n : NetPart) → net_part s j ≡ Some n → IsSome (net_at s j)
   pub net : (j : Ident) (n : NetAt) → net_at s j ≡ Some n → NetFits n

@@ -7,6 +7,7 @@ mod answer;
 mod command;
 mod event;
 pub mod laws;
+mod loaded;
 mod part;
 mod rule;
 mod tree;
@@ -17,6 +18,7 @@ pub use answer::{
 };
 pub use command::{Asked, Command, Given, GivenList, Query};
 pub use event::{Event, EventList};
+pub use loaded::{Loaded, LoadedList};
 pub use part::{Checks, Ended, EndedList, Stage, Way};
 pub use rule::{Refusal, Rule};
 pub use tree::{Conclusion, Primitive, PrimitiveList, TreeKind, TreePlace};

@@ -1,7 +1,7 @@
 -- What each verdict says of the text, of the output and of the files. The desk was `old` and is `new`.
-use Rattle.std.specs.Prelude.{◌≡◌, ◌++◌, ℕ, List, Option}
-use Rattle.yw_outside.specs.Image.{SaysPart, Speaks}
+use Rattle.std.specs.Prelude.{◌≡◌, ℕ, List, Option}
 use Rattle.yw_outside.specs.Moments.{After, LeavesOnly}
+use Rattle.yw_outside.specs.Tells.{Tells, TellsWhole}
 use Rattle.yw_outside.specs.declared.image.Image.{Image}
 use Rattle.yw_verdict.specs.Found.{IsFound, text_limit}
 use Rattle.yw_verdict.specs.Lines.{finding_line}
@@ -10,18 +10,6 @@ use Rattle.yw_verdict.specs.declared.finding.Finding.{Finding}
 use Rattle.yw_verdict.specs.declared.finding.Finding.TheVariants as findings
 use Rattle.yw_verdict.specs.declared.verdict.Verdict.{Verdict}
 use Rattle.yw_verdict.specs.declared.verdict.Verdict.TheVariants.{Accepted, Refused, Memory, Read, Write}
-
--- A line is said, all of it or a front; the files stay, also in what a crash at any moment leaves.
-pub record Tells {D : Type 0} (moment : D → ℕ) (left_since : D → ℕ → Image → Type 0) (state : D → Image) (may_leave : D → Image → Type 0) (line : List ℕ) (old new : D) : Type 0 where
-  pub a : (state new).a ≡ (state old).a
-  pub b : (state new).b ≡ (state old).b
-  pub said : SaysPart (state old).said line (state new).said
-  pub moments : LeavesOnly moment left_since old new (After (Speaks line) (may_leave old))
-
--- All of it is said.
-pub record TellsWhole {D : Type 0} (moment : D → ℕ) (left_since : D → ℕ → Image → Type 0) (state : D → Image) (may_leave : D → Image → Type 0) (line : List ℕ) (old new : D) : Type 0 where
-  pub tells : Tells moment left_since state may_leave line old new
-  pub whole : (state new).said ≡ (state old).said ++ line
 
 -- the verdict where a finding is said whole
 abbrev pub verdict_of : Finding → Verdict

@@ -1,7 +1,8 @@
 // The kinds of fields: names, identities, words and numbers.
 ghost use Rattle.std.specs.Prelude.{◌≡◌, codes};
 ghost use Rattle.serde_json.specs.Find.{as_str};
-ghost use Rattle.yw_model.specs.Fields.{field, identity_of, kind_words, line_text_of, may_be_name, name_of, node_of, one_of, only_if, optional_name_of, raised_words, roles_of, side_words};
+ghost use Rattle.yw_model.specs.Kinds.{kind_words, raised_words};
+ghost use Rattle.yw_model.specs.Fields.{field, identity_of, line_text_of, may_be_name, name_of, node_of, one_of, only_if, optional_name_of, roles_of, side_words};
 ghost use Rattle.serde_json.specs.View.{view};
 ghost use Rattle.yw_base.specs.Spelling.{is_name};
 ghost use Rattle.yw_model.specs.Identities.{identity_in};

@@ -2,8 +2,10 @@
 ghost use Rattle.std.specs.Prelude.{◌≡◌, [], ◌∷◌, codes, map, IfOk, OnOk, string_bytes};
 ghost use Rattle.std.specs.Fmt.{decimal};
 ghost use Rattle.yw_base.specs.Identity.{dotted};
-ghost use Rattle.yw_model.specs.EventTexts.{item_idents, kind_text, listed, primitive_text, spaced, step_text, words_text};
-ghost use Rattle.yw_state.specs.Answers.{place_text};
+ghost use Rattle.yw_spec.specs.Net.{place_text};
+ghost use Rattle.yw_model.specs.EventTexts.{item_idents, listed, spaced, step_text, words_text};
+ghost use Rattle.yw_model.specs.Kinds.{kind_text};
+ghost use Rattle.yw_model.specs.Primitives.{primitive_text};
 ghost use Rattle.yw_state.specs.Identity.{child};
 
 use std::alloc::{AllocError, Global};
@@ -43,16 +45,6 @@ fn primitive_text(alloc: Global, primitive: &Primitive) -> Result<String, AllocE
     }
 }
 
-/// A place's name, or `t->u`.
-fn place_text(alloc: Global, place: &Place) -> Result<String, AllocError>
-    ensures { IfOk result (λ text. string_bytes text ≡ place_text place.now) }
-{
-    match place {
-        Place::Named(name) => String::from_str(alloc, name.as_str()),
-        Place::Between(from, to) => format!(in alloc; "{}->{}", from.as_str(), to.as_str()),
-    }
-}
-
 /// The identity with this number behind. The number is wide, so that the last of many items has one too.
 fn child_text(alloc: Global, ident: &Ident, number: u128) -> Result<String, AllocError>
     ensures { IfOk result (λ text. string_bytes text ≡ dotted (child ident.now number)) }
@@ -71,7 +63,7 @@ fn place_texts(alloc: Global, places: &[Place]) -> Result<Vec<String>, AllocErro
 {
     let mut texts = Vec::new(alloc);
     for place in places {
-        texts.push(place_text(alloc, place)?)?;
+        texts.push(place.text(alloc)?)?;
     }
     Ok(texts)
 }

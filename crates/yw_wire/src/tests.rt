@@ -14,7 +14,7 @@ use std::test::Fail;
 use yw_model::Word;
 
 /// What a line asks, or the name of its fault.
-pub fn answer(alloc: Global, line: &[u8], built: &[Word]) -> Result<String, Fail> {
+fn answer(alloc: Global, line: &[u8], built: &[Word]) -> Result<String, Fail> {
     match read_command(alloc, line, built) {
         Ok(asked) => shown(alloc, &asked),
         Err(fault) => Ok(format!(in alloc; "{fault:?}")?),
@@ -22,14 +22,14 @@ pub fn answer(alloc: Global, line: &[u8], built: &[Word]) -> Result<String, Fail
 }
 
 /// The line asks this, or has this fault, where all words are built.
-pub fn assert_line(rt: &impl Abort, alloc: Global, line: &str, want: &str) -> Result<(), Fail> {
+fn assert_line(rt: &impl Abort, alloc: Global, line: &str, want: &str) -> Result<(), Fail> {
     let answer = answer(alloc, line.as_bytes(), &Word::ALL)?;
     assert!(rt; answer.as_str() == want, "{line}: {answer}, and not {want}");
     Ok(())
 }
 
 /// The lines ask these, or have these faults, where all words are built.
-pub fn assert_lines(rt: &impl Abort, alloc: Global, rows: &[(&str, &str)]) -> Result<(), Fail> {
+fn assert_lines(rt: &impl Abort, alloc: Global, rows: &[(&str, &str)]) -> Result<(), Fail> {
     for (line, want) in rows {
         assert_line(rt, alloc, line, want)?;
     }

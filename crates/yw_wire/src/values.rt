@@ -2,8 +2,8 @@
 ghost use Rattle.std.specs.Prelude.{◌≡◌, Some, nat_le};
 ghost use Rattle.serde_json.specs.Events.{items_len};
 ghost use Rattle.serde_json.specs.View.{items_view, members_view, view};
+ghost use Rattle.yw_base.specs.Values.{most_elements};
 ghost use Rattle.yw_model.specs.Fields.{any_value_of, givens_of};
-ghost use Rattle.yw_expr.specs.Small.{most_elements};
 ghost use Rattle.yw_model.specs.Values.{each_of, givens_in, if_short, int_of, list_value, short_of, value_in};
 ghost use Rattle.yw_wire.specs.Faults.{Says};
 

@@ -2,7 +2,7 @@
 use std::alloc::{AllocError, Global};
 
 /// A specification `s` of one net `main`, whose other keys and tasks are these.
-pub fn one_net(alloc: Global, keys: &str) -> Result<String, AllocError> {
+pub(super) fn one_net(alloc: Global, keys: &str) -> Result<String, AllocError> {
     let mut document = String::from_str(
         alloc,
         r#"name = "s"
@@ -19,7 +19,7 @@ output = "o"
 }
 
 /// So many nets, each but the last with a task whose work is the next.
-pub fn deep_nets(alloc: Global, count: usize) -> Result<String, AllocError> {
+pub(super) fn deep_nets(alloc: Global, count: usize) -> Result<String, AllocError> {
     let mut document = String::from_str(
         alloc,
         r#"name = "s"
@@ -55,7 +55,7 @@ net = "n{next}"
 }
 
 /// One task with so many parameters, and further keys.
-pub fn many_ins(alloc: Global, count: usize, keys: &str) -> Result<String, AllocError> {
+pub(super) fn many_ins(alloc: Global, count: usize, keys: &str) -> Result<String, AllocError> {
     let mut ins = String::from_str(
         alloc,
         r#"flows = [["i","a"],["a","o"]]
@@ -71,7 +71,7 @@ ins = ["#,
     one_net(alloc, ins.as_str())
 }
 
-pub fn seq() -> &'static str {
+pub(super) fn seq() -> &'static str {
     r#"name = "seq"
 top = "main"
 [[net]]
@@ -87,7 +87,7 @@ name = "b"
 }
 
 /// A net with one variable and one task for an officer.
-pub fn deep() -> &'static str {
+pub(super) fn deep() -> &'static str {
     r#"name = "deep"
 top = "main"
 [[net]]
@@ -103,7 +103,7 @@ role = "officer"
 }
 
 /// A net with one task for a clerk.
-pub fn remind() -> &'static str {
+pub(super) fn remind() -> &'static str {
     r#"name = "remind"
 top = "main"
 [[net]]
@@ -118,7 +118,7 @@ role = "clerk"
 }
 
 /// A loan: two nets, with a split and a task of several items.
-pub fn loan() -> &'static str {
+pub(super) fn loan() -> &'static str {
     r#"
 name = "loan"
 top = "main"
@@ -174,7 +174,7 @@ threshold = 2
 
 /// Two nets, the lower one first, with conditions, removals, values of each sort, branches in another order
 /// than flows, and tasks of several items with and without bounds.
-pub fn rich() -> &'static str {
+pub(super) fn rich() -> &'static str {
     r#"
 name = "rich"
 top = "main"

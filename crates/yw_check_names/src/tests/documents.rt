@@ -3,7 +3,7 @@ use std::alloc::Global;
 use std::test::Fail;
 
 /// Two tasks one after the other.
-pub fn seq() -> &'static str {
+pub(super) fn seq() -> &'static str {
     r#"
 name = "seq"
 top = "main"
@@ -20,7 +20,7 @@ name = "b"
 }
 
 /// A loan: two nets, with a split and a task of several items.
-pub fn loan() -> &'static str {
+pub(super) fn loan() -> &'static str {
     r#"
 name = "loan"
 top = "main"
@@ -75,7 +75,7 @@ threshold = 2
 }
 
 /// One net `main` without flows, with these keys and tables beside its name.
-pub fn with_names(alloc: Global, keys: &str) -> Result<String, Fail> {
+pub(super) fn with_names(alloc: Global, keys: &str) -> Result<String, Fail> {
     let document = format!(in alloc;
         "name = \"s\"\ntop = \"main\"\n[[net]]\nname = \"main\"\nflows = []\n{keys}\n"
     )?;
@@ -83,7 +83,7 @@ pub fn with_names(alloc: Global, keys: &str) -> Result<String, Fail> {
 }
 
 /// One net `main` with one task `a`, with these keys beside its name.
-pub fn one_task(alloc: Global, keys: &str) -> Result<String, Fail> {
+pub(super) fn one_task(alloc: Global, keys: &str) -> Result<String, Fail> {
     let document = format!(in alloc;
         r#"
 name = "s"
@@ -102,7 +102,7 @@ name = "a"
 }
 
 /// One net `main` with conditions `i`, `o`, `c` and `d`, tasks `a` and `b`, and these flows.
-pub fn with_flows(alloc: Global, flows: &str) -> Result<String, Fail> {
+pub(super) fn with_flows(alloc: Global, flows: &str) -> Result<String, Fail> {
     let document = format!(in alloc;
         r#"
 name = "s"
@@ -123,7 +123,7 @@ name = "b"
 }
 
 /// Two nets. In `main` are the conditions `i`, `o` and `c`, and the task `b` removes these.
-pub fn with_removals(alloc: Global, removals: &str) -> Result<String, Fail> {
+pub(super) fn with_removals(alloc: Global, removals: &str) -> Result<String, Fail> {
     let document = format!(in alloc;
         r#"
 name = "s"
@@ -155,7 +155,7 @@ name = "u"
 }
 
 /// Two nets with these keys, beside their conditions `i` and `o`. The top is `main`.
-pub fn two_nets(alloc: Global, one: &str, two: &str) -> Result<String, Fail> {
+pub(super) fn two_nets(alloc: Global, one: &str, two: &str) -> Result<String, Fail> {
     let document = format!(in alloc;
         r#"
 name = "s"

@@ -2,7 +2,7 @@
 use std::alloc::{AllocError, Global};
 
 /// A specification `s` of one net `main`, whose other keys and tasks are these.
-pub fn one_net(alloc: Global, keys: &str) -> Result<String, AllocError> {
+pub(super) fn one_net(alloc: Global, keys: &str) -> Result<String, AllocError> {
     let mut document = String::from_str(
         alloc,
         r#"name = "s"
@@ -19,7 +19,7 @@ output = "o"
 }
 
 /// Two tasks, one after the other.
-pub fn seq() -> &'static str {
+pub(super) fn seq() -> &'static str {
     r#"name = "seq"
 top = "main"
 [[net]]
@@ -35,7 +35,7 @@ name = "b"
 }
 
 /// A net with one variable and one task for an officer.
-pub fn deep() -> &'static str {
+pub(super) fn deep() -> &'static str {
     r#"name = "deep"
 top = "main"
 [[net]]
@@ -51,7 +51,7 @@ role = "officer"
 }
 
 /// A net with one task for a clerk.
-pub fn remind() -> &'static str {
+pub(super) fn remind() -> &'static str {
     r#"name = "remind"
 top = "main"
 [[net]]
@@ -66,7 +66,7 @@ role = "clerk"
 }
 
 /// A loan: two nets, with a split and a task of several items.
-pub fn loan() -> &'static str {
+pub(super) fn loan() -> &'static str {
     r#"
 name = "loan"
 top = "main"

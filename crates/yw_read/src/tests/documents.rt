@@ -4,17 +4,17 @@
 pub type Line = (&'static str, bool, &'static str);
 
 /// Two tasks one after the other.
-pub fn seq() -> &'static str {
+pub(super) fn seq() -> &'static str {
     SEQ
 }
 
 /// A loan that a board votes on.
-pub fn loan() -> &'static str {
+pub(super) fn loan() -> &'static str {
     LOAN
 }
 
 /// Each key of each table.
-pub fn each_key() -> &'static [Line] {
+pub(super) fn each_key() -> &'static [Line] {
     &EACH_KEY
 }
 

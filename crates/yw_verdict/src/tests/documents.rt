@@ -2,22 +2,22 @@
 // their letters.
 
 /// Two tasks one after the other.
-pub fn seq() -> &'static str {
+pub(super) fn seq() -> &'static str {
     SEQ
 }
 
 /// The same with a condition on no path.
-pub fn seq_with_condition() -> &'static str {
+pub(super) fn seq_with_condition() -> &'static str {
     SEQ_WITH_CONDITION
 }
 
 /// A net that no `top` names.
-pub fn without_top() -> &'static str {
+pub(super) fn without_top() -> &'static str {
     WITHOUT_TOP
 }
 
 /// A loan that a board votes on: two nets, a split, and a task of several items.
-pub fn loan() -> &'static str {
+pub(super) fn loan() -> &'static str {
     LOAN
 }
 

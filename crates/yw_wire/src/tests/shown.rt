@@ -174,7 +174,7 @@ fn put_query(alloc: Global, out: &mut String, query: &Query) -> Result<(), Fail>
 }
 
 /// What is asked, as a text.
-pub fn shown(alloc: Global, asked: &Asked) -> Result<String, Fail> {
+pub(super) fn shown(alloc: Global, asked: &Asked) -> Result<String, Fail> {
     let mut out = String::new(alloc);
     match asked {
         Asked::Command(command) => put_command(alloc, &mut out, command)?,

@@ -1,5 +1,5 @@
 use Rattle.std.proofs.Common.{take, map}
-use Rattle.yw_accept.specs.Built.{place_text}
+use Rattle.yw_spec.specs.Net.{place_text}
 use Rattle.yw_accept.specs.Index.{IsIndexOf}
 use Rattle.yw_build.proofs.index.index_of_places.Given as goal
 

@@ -1,5 +1,6 @@
 use Rattle.std.proofs.Common.{◌≡◌, ◌∙◌, sym, ap, subst, map, ℕ, List, true, false}
-use Rattle.yw_accept.specs.Built.{place_text, places_of}
+use Rattle.yw_spec.specs.Net.{place_text}
+use Rattle.yw_accept.specs.Built.{places_of}
 use Rattle.yw_accept.specs.Nodes.{is_among, is_task, task_names}
 use Rattle.yw_build.proofs.PlaceLemmas.{emptied_place}
 use Rattle.yw_build.proofs.removals.add_place.Goals as goal

@@ -1,4 +1,4 @@
-use Rattle.std.proofs.Common.{◌∷◌, [], ℕ, List, Result, Ok, Err, inl, inr, refl, subst}
+use Rattle.std.proofs.Common.{ℕ, List, Result, Ok, Err, inl, inr, refl, subst}
 use Rattle.std.specs.Prelude.{OnErr, IfErr}
 use Rattle.std.proofs.lemmas.Result.{IfOk-weaker}
 use Rattle.yw_state.specs.State.{State}

@@ -1,10 +1,8 @@
-use Rattle.std.proofs.Common.{◌≡◌, ◌∷◌, List, Bool, true, false, IfOk, sym, ap, ◌∙◌, subst, rules}
+use Rattle.std.proofs.Common.{List, IfOk, subst, rules}
 use Rattle.std.proofs.lemmas.Result.{IfOk-weaker}
-use Rattle.std.specs.Bool.{MatchBool}
 use Rattle.yw_library.specs.Holdings as library
 use Rattle.yw_state.specs.State.{State}
 use Rattle.yw_state.specs.declared.event.Event.{Event}
-use Rattle.yw_serve.specs.Damage.{EntryLeads}
 use Rattle.yw_serve.specs.Opening.{AreApplied}
 use Rattle.yw_serve.proofs.OpenEntries.{by_answer, part_stops, none_stops}
 use Rattle.yw_serve.proofs.opening_entries.apply_entry.Goals as goal

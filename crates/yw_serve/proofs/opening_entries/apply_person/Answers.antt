@@ -1,4 +1,4 @@
-use Rattle.std.proofs.Common.{◌≡◌, ◌<◌, ◌≤◌, length, true, false, arith, rules}
+use Rattle.std.proofs.Common.{◌≡◌, ◌<◌, ◌≤◌, length, true, false, rules}
 use Rattle.yw_base.specs.Spelling.{are_distinct}
 use Rattle.yw_model.proofs.Loading.{person_leads_to}
 use Rattle.yw_library.specs.Holdings as library

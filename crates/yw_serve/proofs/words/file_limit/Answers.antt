@@ -1,6 +1,5 @@
-use Rattle.std.proofs.Common.{◌≡◌, ℕ, List, [], ◌∷◌, length, get_or, Bool, true, Option, None, Some, map, String, Global, string_bytes, inl, inr, ⊎_elim, refl, sym, ap, ◌∙◌, subst, arith}
+use Rattle.std.proofs.Common.{◌≡◌, ℕ, List, [], ◌∷◌, length, get_or, Option, None, Some, map, String, Global, string_bytes, inl, inr, ⊎_elim, refl, sym, ap, ◌∙◌, subst, arith}
 use Rattle.std.specs.Prelude.{IfSome, codes}
-use Rattle.std.specs.Str.{bytes_eq}
 use Rattle.yw_serve.specs.Words.{greatest_limit, IsLimit}
 use Rattle.yw_serve.proofs.WordsLemmas.{one_word, same_text}
 use Rattle.yw_serve.proofs.words.file_limit.Goals as goal

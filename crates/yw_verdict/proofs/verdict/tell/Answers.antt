@@ -1,5 +1,5 @@
 use Rattle.std.proofs.Common.{◌≡◌, List, ℕ, ◌∙◌, subst}
-use Rattle.yw_verdict.specs.Ends.{Tells}
+use Rattle.yw_outside.specs.Tells.{Tells}
 use Rattle.yw_verdict.specs.Lines.{finding_line}
 use Rattle.yw_verdict.proofs.TellLemmas.{told}
 use Rattle.yw_verdict.proofs.verdict.tell.Goals as goal

@@ -1,5 +1,5 @@
 use Rattle.std.proofs.Common.{◌≡◌, map, take, string_bytes}
-use Rattle.yw_state.specs.Answers.{place_text}
+use Rattle.yw_spec.specs.Net.{place_text}
 use Rattle.yw_wire.proofs.steps.place_texts.Given as goal
 
 abbrev pub invariant-loop-place : goal.invariant-loop-place

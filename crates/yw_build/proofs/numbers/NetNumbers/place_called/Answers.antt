@@ -1,6 +1,7 @@
 use Rattle.std.proofs.Common.{◌∙◌, sym, map, refl}
 use Rattle.std.proofs.lemmas.Option.{slice_get-map}
-use Rattle.yw_accept.specs.Built.{place_text, places_of}
+use Rattle.yw_spec.specs.Net.{place_text}
+use Rattle.yw_accept.specs.Built.{places_of}
 use Rattle.yw_build.proofs.numbers.NetNumbers.place_called.Goals as goal
 
 pub returns : goal.returns

@@ -1,0 +1,17 @@
+pub mod Places
+pub mod Changes
+pub mod Turning
+pub mod Values
+pub mod Ancestors
+pub mod ReadyItems
+pub mod RunsGoOn
+pub mod NetsEnd
+pub mod NetsBegin
+pub mod Found
+pub mod Accepted
+pub mod Tasks
+pub mod CutBack
+pub mod CompensationBegins
+pub mod PrimitivesWell
+pub mod ItemsEnd
+pub mod WorkletBegins
