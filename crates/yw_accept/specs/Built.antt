@@ -12,13 +12,9 @@ use Rattle.yw_spec.specs.declared.spec.Net.{Net}
 use Rattle.yw_spec.specs.declared.spec.Place.{Place}
 use Rattle.yw_spec.specs.declared.spec.Place.TheVariants as places
 use Rattle.yw_spec.specs.declared.spec.Spec.{Spec}
-use Rattle.yw_spec.specs.declared.spec.Usage.{Usage}
-use Rattle.yw_spec.specs.declared.spec.Usage.TheVariants as usages
 use Rattle.yw_spec.specs.declared.spec.Var.{Var}
 use Rattle.yw_spec.specs.declared.task.Assign.{Assign}
 use Rattle.yw_spec.specs.declared.task.Branch.{Branch}
-use Rattle.yw_spec.specs.declared.task.Gate.{Gate}
-use Rattle.yw_spec.specs.declared.task.Gate.TheVariants as gates
 use Rattle.yw_spec.specs.declared.task.Kind.{Kind}
 use Rattle.yw_spec.specs.declared.task.Kind.TheVariants as kinds
 use Rattle.yw_spec.specs.declared.task.Many.{Many}
@@ -26,8 +22,6 @@ use Rattle.yw_spec.specs.declared.task.Param.{Param}
 use Rattle.yw_spec.specs.declared.task.Task.{Task}
 use Rattle.yw_read.specs.declared.raw.RawBranch.{RawBranch}
 use Rattle.yw_read.specs.declared.raw.RawFlow.{RawFlow}
-use Rattle.yw_read.specs.declared.raw.RawGate.{RawGate}
-use Rattle.yw_read.specs.declared.raw.RawGate.TheVariants as raw_gates
 use Rattle.yw_read.specs.declared.raw.RawIn.{RawIn}
 use Rattle.yw_read.specs.declared.raw.RawKind.{RawKind}
 use Rattle.yw_read.specs.declared.raw.RawKind.TheVariants as raw_kinds
@@ -36,28 +30,13 @@ use Rattle.yw_read.specs.declared.raw.RawOut.{RawOut}
 use Rattle.yw_read.specs.declared.raw.RawSet.{RawSet}
 use Rattle.yw_read.specs.declared.raw.RawSpec.{RawSpec}
 use Rattle.yw_read.specs.declared.raw.RawTask.{RawTask}
-use Rattle.yw_read.specs.declared.raw.RawUsage.{RawUsage}
-use Rattle.yw_read.specs.declared.raw.RawUsage.TheVariants as raw_usages
 use Rattle.yw_read.specs.declared.raw.RawVar.{RawVar}
 use Rattle.yw_accept.specs.Nodes.{named_places, is_task, is_implicit}
 use Rattle.yw_accept.specs.Scopes.{vars_scope, set_scope}
 use Rattle.yw_accept.specs.Tasks.{least, greatest, enough}
 
--- ---- words that have the same meaning on both sides
-
-abbrev pub gate_of : RawGate → Gate
-gate_of raw_gates.And = gates.And
-gate_of raw_gates.Xor = gates.Xor
-gate_of raw_gates.Or = gates.Or
-
-abbrev pub usage_of : RawUsage → Usage
-usage_of raw_usages.In = usages.In
-usage_of raw_usages.Out = usages.Out
-usage_of raw_usages.InOut = usages.InOut
-usage_of raw_usages.Local = usages.Local
-
 abbrev pub var_of : RawVar → Var
-var_of v = record { name = v.name; sort = v.sort; usage = usage_of v.usage; init = option_map_or (λ x. x) v.init (zero_of v.sort) }
+var_of v = record { name = v.name; sort = v.sort; usage = v.usage; init = option_map_or (λ x. x) v.init (zero_of v.sort) }
 
 abbrev pub out_of : RawOut → Param
 out_of p = record { name = p.name; sort = p.sort; value = None }
@@ -147,8 +126,8 @@ pub record IsTask (raw : RawSpec) (net : RawNet) (said : RawTask) (task : Task) 
   pub name : task.name ≡ said.name
   pub kind : IsKind raw said.kind said.net task.kind
   pub role : task.role ≡ said.role
-  pub join : task.join ≡ gate_of said.join
-  pub split : task.split ≡ gate_of said.split
+  pub join : task.join ≡ said.join
+  pub split : task.split ≡ said.split
   pub before : AllZip (IsPlaceOf net) (flows_to net said.name) task.before
   pub after : AllZip (IsPlaceOf net) (flows_from net said.name) task.after
   pub branch : AllZip (IsBranch net said) said.branch task.branch

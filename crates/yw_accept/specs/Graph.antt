@@ -6,7 +6,7 @@ use Rattle.std.specs.Str.{bytes_eq}
 use Rattle.yw_read.specs.declared.raw.RawTask.{RawTask}
 use Rattle.yw_read.specs.declared.raw.RawKind.{RawKind}
 use Rattle.yw_read.specs.declared.raw.RawKind.TheVariants as kinds
-use Rattle.yw_read.specs.declared.raw.RawGate.TheVariants as gates
+use Rattle.yw_base.specs.declared.gate.Gate.TheVariants as gates
 use Rattle.yw_read.specs.declared.raw.RawNet.{RawNet}
 use Rattle.yw_read.specs.declared.raw.RawSpec.{RawSpec}
 use Rattle.yw_reach.specs.Walks.{PathAlong, CycleAlong, IsBehindAlong}

@@ -4,6 +4,7 @@ use Rattle.std.specs.Prelude.{◌≡◌, ℕ, ◌&&◌, ◌||◌, ◌==◌, List
 use Rattle.std.specs.List.{list_any, list_all}
 use Rattle.std.specs.Option.{option_map_or}
 use Rattle.std.specs.Str.{bytes_eq}
+use Rattle.yw_base.specs.Usages.{comes_in, goes_out}
 use Rattle.yw_base.specs.declared.value.Sort.{Sort}
 use Rattle.yw_base.specs.declared.value.Sort.TheVariants as sorts
 use Rattle.yw_expr.specs.declared.scope.Binding.{Binding}
@@ -15,8 +16,6 @@ use Rattle.yw_read.specs.declared.raw.RawIn.{RawIn}
 use Rattle.yw_read.specs.declared.raw.RawOut.{RawOut}
 use Rattle.yw_read.specs.declared.raw.RawSet.{RawSet}
 use Rattle.yw_read.specs.declared.raw.RawVar.{RawVar}
-use Rattle.yw_read.specs.declared.raw.RawUsage.{RawUsage}
-use Rattle.yw_read.specs.declared.raw.RawUsage.TheVariants as usages
 use Rattle.yw_read.specs.declared.raw.RawKind.{RawKind}
 use Rattle.yw_read.specs.declared.raw.RawKind.TheVariants as kinds
 use Rattle.yw_read.specs.declared.raw.RawTask.{RawTask}
@@ -110,27 +109,17 @@ is_single sort = false
 abbrev pub outs_fit : RawTask → Bool
 outs_fit task = option_map_or (λ _. list_all (λ (q : RawOut). is_single q.sort) task.outs) task.each true
 
-abbrev pub takes : RawUsage → Bool
-takes usages.In = true
-takes usages.InOut = true
-takes usage = false
-
-abbrev pub gives : RawUsage → Bool
-gives usages.Out = true
-gives usages.InOut = true
-gives usage = false
-
 abbrev pub is_in_var : RawIn → RawVar → Bool
-is_in_var p v = takes v.usage && bytes_eq p.name v.name && is_same_sort p.sort v.sort
+is_in_var p v = comes_in v.usage && bytes_eq p.name v.name && is_same_sort p.sort v.sort
 
 abbrev pub is_out_var : RawOut → RawVar → Bool
-is_out_var q v = gives v.usage && bytes_eq q.name v.name && is_same_sort q.sort v.sort
+is_out_var q v = goes_out v.usage && bytes_eq q.name v.name && is_same_sort q.sort v.sort
 
 -- `ins` are exactly the variables that the net takes, and `outs` are among those that it gives
 abbrev pub fits_child : RawTask → RawNet → Bool
 fits_child task net =
     list_all (λ (p : RawIn). list_any (is_in_var p) net.vars) task.ins
-    && list_all (λ (v : RawVar). not (takes v.usage) || list_any (λ (p : RawIn). is_in_var p v) task.ins) net.vars
+    && list_all (λ (v : RawVar). not (comes_in v.usage) || list_any (λ (p : RawIn). is_in_var p v) task.ins) net.vars
     && list_all (λ (q : RawOut). list_any (is_out_var q) net.vars) task.outs
 
 abbrev pub net_named : RawSpec → List ℕ → Option RawNet

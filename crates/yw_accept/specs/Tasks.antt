@@ -4,12 +4,11 @@ use Rattle.std.specs.Prelude.{◌≡◌, ℕ, ◌&&◌, ◌==◌, List, [], leng
 use Rattle.std.specs.List.{list_all}
 use Rattle.std.specs.Option.{option_map_or}
 use Rattle.std.specs.Str.{bytes_eq}
+use Rattle.yw_read.specs.TaskKinds.{is_empty}
 use Rattle.yw_read.specs.declared.raw.RawBranch.{RawBranch}
 use Rattle.yw_read.specs.declared.raw.RawIn.{RawIn}
-use Rattle.yw_read.specs.declared.raw.RawKind.{RawKind}
-use Rattle.yw_read.specs.declared.raw.RawKind.TheVariants as kinds
-use Rattle.yw_read.specs.declared.raw.RawGate.{RawGate}
-use Rattle.yw_read.specs.declared.raw.RawGate.TheVariants as gates
+use Rattle.yw_base.specs.declared.gate.Gate.{Gate}
+use Rattle.yw_base.specs.declared.gate.Gate.TheVariants as gates
 use Rattle.yw_read.specs.declared.raw.RawTask.{RawTask}
 use Rattle.yw_read.specs.declared.raw.RawNet.{RawNet}
 use Rattle.yw_read.specs.declared.raw.RawSpec.{RawSpec}
@@ -22,10 +21,6 @@ use Rattle.yw_accept.specs.Order.{Check, Demand, Then, InOrder}
 
 abbrev pub most_items : ℤ
 most_items = pos 1000
-
-abbrev pub is_empty_kind : RawKind → Bool
-is_empty_kind kinds.Empty = true
-is_empty_kind kind = false
 
 abbrev pub least : RawTask → ℤ
 least task = option_map_or (λ n. n) task.min (pos 1)
@@ -52,7 +47,7 @@ has_no_bounds task = is_none task.item && is_none task.min && is_none task.max &
 
 abbrev pub items_fit : RawTask → Bool
 items_fit task =
-    option_map_or (λ _. not (is_empty_kind task.kind) && bounds_fit task && item_fits task) task.each (has_no_bounds task)
+    option_map_or (λ _. not (is_empty task.kind) && bounds_fit task && item_fits task) task.each (has_no_bounds task)
 
 unfoldable pub ItemsFit : RawSpec → Check
 ItemsFit raw =
@@ -68,7 +63,7 @@ branches_fit outputs branches =
     && list_all (λ output. count_by (λ (b : RawBranch). bytes_eq output b.to) branches == 1) outputs
     && count_by (λ (b : RawBranch). is_none b.when) branches == 1
 
-abbrev pub split_fits : RawGate → List (List ℕ) → List RawBranch → Bool
+abbrev pub split_fits : Gate → List (List ℕ) → List RawBranch → Bool
 split_fits gates.And outputs branches = length branches == 0
 split_fits gate outputs branches = branches_fit outputs branches
 

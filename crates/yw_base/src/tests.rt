@@ -1,5 +1,7 @@
 // What no clause says: that calls succeed, and that the definitions mean what is wanted.
-use crate::{Ident, IdentFault, Items, Name, NameFault, Row, Sort, Text, Val, Value};
+use crate::{
+    Gate, Ident, IdentFault, Items, Name, NameFault, Row, Sort, Text, Usage, Val, Value,
+};
 use std::cmp::Ordering;
 use std::test::Fail;
 
@@ -171,4 +173,25 @@ fn reads_names(rt: HostRuntime) -> Result<(), Fail> {
         }
     }
     Ok(())
+}
+
+#[test]
+fn tells_or_from_other_gates(rt: HostRuntime) {
+    assert!(rt; Gate::Or.is_or());
+    assert!(rt; !Gate::And.is_or());
+    assert!(rt; !Gate::Xor.is_or());
+}
+
+#[test]
+fn tells_what_comes_in_and_goes_out(rt: HostRuntime) {
+    let table = [
+        (Usage::In, true, false),
+        (Usage::Out, false, true),
+        (Usage::InOut, true, true),
+        (Usage::Local, false, false),
+    ];
+    for (usage, comes_in, goes_out) in table {
+        assert_eq!(rt; usage.comes_in(), comes_in);
+        assert_eq!(rt; usage.goes_out(), goes_out);
+    }
 }

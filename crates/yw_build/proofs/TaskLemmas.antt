@@ -11,8 +11,8 @@ use Rattle.yw_base.specs.declared.value.Sort.{Sort}
 use Rattle.yw_expr.specs.declared.scope.Binding.{Binding}
 use Rattle.yw_read.specs.declared.raw.RawBranch.{RawBranch}
 use Rattle.yw_read.specs.declared.raw.RawFlow.{RawFlow}
-use Rattle.yw_read.specs.declared.raw.RawGate.{RawGate}
-use Rattle.yw_read.specs.declared.raw.RawGate.TheVariants as gates
+use Rattle.yw_base.specs.declared.gate.Gate.{Gate}
+use Rattle.yw_base.specs.declared.gate.Gate.TheVariants as gates
 use Rattle.yw_read.specs.declared.raw.RawIn.{RawIn}
 use Rattle.yw_read.specs.declared.raw.RawOut.{RawOut}
 use Rattle.yw_read.specs.declared.raw.RawNet.{RawNet}
@@ -38,7 +38,7 @@ meanings scope Wanted texts h i d lt = meaning scope Wanted (get_or texts i d) (
 empty_all : {A : Type 0} (P : A → Type 0) (xs : List A) → length xs ≡ 0 → All P xs
 empty_all P xs none i d lt = absurd (omega (arith, lt, none))
 
-to_outputs : (gate : RawGate) (outputs : List (List ℕ)) (branches : List RawBranch) → split_fits gate outputs branches ≡ true → All (λ (b : RawBranch). is_among outputs b.to ≡ true) branches
+to_outputs : (gate : Gate) (outputs : List (List ℕ)) (branches : List RawBranch) → split_fits gate outputs branches ≡ true → All (λ (b : RawBranch). is_among outputs b.to ≡ true) branches
 to_outputs gates.And outputs branches h = empty_all (λ (b : RawBranch). is_among outputs b.to ≡ true) branches (grind (arith, nat_tests))
 to_outputs gates.Xor outputs branches h = AllPass-from_list_all (λ (b : RawBranch). is_among outputs b.to) branches (and_parts _ _ (and_parts _ _ h).0).0
 to_outputs gates.Or outputs branches h = AllPass-from_list_all (λ (b : RawBranch). is_among outputs b.to) branches (and_parts _ _ (and_parts _ _ h).0).0

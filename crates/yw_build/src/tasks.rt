@@ -18,7 +18,7 @@ use crate::parameters::{ins_of, sets_of};
 use crate::removals::{removed_places, removed_tasks};
 use crate::rows::{Around, places_around, row_of};
 use crate::values::outs_of;
-use crate::words::{gate_of, maybe_name, name_of};
+use crate::words::{maybe_name, name_of};
 use std::alloc::{AllocError, Global};
 use yw_base::Items;
 use yw_read::RawTask;
@@ -48,8 +48,8 @@ fn task_of(
         name: name_of(alloc, &said.name)?,
         kind: kind_of(spec, said),
         role: maybe_name(alloc, said.role.as_ref())?,
-        join: gate_of(said.join),
-        split: gate_of(said.split),
+        join: said.join,
+        split: said.split,
         before: row_of(alloc, &around.before, number)?,
         after: row_of(alloc, &around.after, number)?,
         branch: branches_of(alloc, numbers, said)?,

@@ -5,7 +5,7 @@ ghost use Rattle.yw_base.specs.Values.{zero_of};
 ghost use Rattle.yw_accept.specs.Built.{var_of, out_of};
 ghost use Rattle.yw_accept.specs.Names.{is_usable};
 
-use crate::words::{name_of, usage_of, zero_of};
+use crate::words::{name_of, zero_of};
 use std::alloc::{AllocError, Global};
 use yw_base::{Items, Value};
 use yw_read::{RawOut, RawVar};
@@ -28,7 +28,7 @@ fn var_of(alloc: Global, said: &RawVar) -> Result<Var, AllocError>
     Ok(Var {
         name: name_of(alloc, &said.name)?,
         sort: said.sort,
-        usage: usage_of(said.usage),
+        usage: said.usage,
         init: init_of(alloc, said)?,
     })
 }

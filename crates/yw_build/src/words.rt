@@ -1,14 +1,11 @@
-// Names, gates, usages and values.
+// Names and values.
 ghost use Rattle.std.specs.Prelude.{◌≡◌, true, IfOk, All, option_to_list};
 ghost use Rattle.std.specs.Option.{option_copied};
 ghost use Rattle.yw_base.specs.Values.{zero_of};
-ghost use Rattle.yw_accept.specs.Built.{gate_of, usage_of};
 ghost use Rattle.yw_accept.specs.Names.{is_usable};
 
 use std::alloc::{AllocError, Global};
 use yw_base::{Items, Name, NameFault, Sort, Text, Value};
-use yw_read::{RawGate, RawUsage};
-use yw_spec::{Gate, Usage};
 
 /// The name that a text is, which may be used.
 pub fn name_of(alloc: Global, text: &Text) -> Result<Name, AllocError>
@@ -30,29 +27,6 @@ pub fn maybe_name(alloc: Global, text: Option<&Text>) -> Result<Option<Name>, Al
     match text {
         Some(text) => Ok(Some(name_of(alloc, text)?)),
         None => Ok(None),
-    }
-}
-
-/// The join or split that a document says.
-pub fn gate_of(said: RawGate) -> Gate
-    ensures { result ≡ gate_of said }
-{
-    match said {
-        RawGate::And => Gate::And,
-        RawGate::Xor => Gate::Xor,
-        RawGate::Or => Gate::Or,
-    }
-}
-
-/// The usage that a document says.
-pub fn usage_of(said: RawUsage) -> Usage
-    ensures { result ≡ usage_of said }
-{
-    match said {
-        RawUsage::In => Usage::In,
-        RawUsage::Out => Usage::Out,
-        RawUsage::InOut => Usage::InOut,
-        RawUsage::Local => Usage::Local,
     }
 }
 

@@ -1,7 +1,7 @@
 -- A net as a graph of numbers: a node's number is its place among the nodes.
 use Rattle.std.specs.Prelude.{◌≡◌, ℕ, ◌<◌, List, [], length, get_or, true, All, Option, Some, None}
 use Rattle.yw_read.specs.declared.raw.RawFlow.{RawFlow}
-use Rattle.yw_read.specs.declared.raw.RawGate.TheVariants as gates
+use Rattle.yw_base.specs.declared.gate.Gate.TheVariants as gates
 use Rattle.yw_read.specs.declared.raw.RawNet.{RawNet}
 use Rattle.yw_read.specs.declared.raw.RawTask.{RawTask}
 use Rattle.std.specs.Borrow.{Bor}

@@ -1,10 +1,8 @@
 -- The nets as a graph of numbers: a net's number is its place among the nets, and a flow goes from a net to each net
 -- that a task of it names.
-use Rattle.std.specs.Prelude.{◌≡◌, ℕ, ◌<◌, ◌++◌, List, length, get_or, Bool, true, false, All, Option, Some, None, option_map}
+use Rattle.std.specs.Prelude.{◌≡◌, ℕ, ◌<◌, ◌++◌, List, length, get_or, Bool, true, All, Option, Some, None, option_map}
 use Rattle.std.specs.List.{filter_map, flat_map}
 use Rattle.yw_read.specs.declared.raw.RawFlow.{RawFlow}
-use Rattle.yw_read.specs.declared.raw.RawKind.{RawKind}
-use Rattle.yw_read.specs.declared.raw.RawKind.TheVariants as kinds
 use Rattle.yw_read.specs.declared.raw.RawNet.{RawNet}
 use Rattle.yw_read.specs.declared.raw.RawSpec.{RawSpec}
 use Rattle.yw_read.specs.declared.raw.RawTask.{RawTask}
@@ -16,10 +14,6 @@ use Rattle.yw_accept.specs.Nodes.{is_among, net_names}
 use Rattle.yw_accept.specs.Order.{Check, Demand, InOrder}
 use Rattle.yw_check_graph.specs.declared.nets.NetGraph.{NetGraph}
 use Rattle.yw_check_graph.specs.Graph.{AreNumbered, flow_between, name_at}
-
-abbrev pub is_sub : RawKind → Bool
-is_sub kinds.Sub = true
-is_sub kind = false
 
 -- the flow from the net `outer` to the net that a task of it names
 abbrev pub link : List ℕ → RawTask → Option RawFlow

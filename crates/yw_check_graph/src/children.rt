@@ -13,7 +13,7 @@ ghost use Rattle.yw_reach.specs.Flows.{IsWithin};
 ghost use Rattle.yw_reach.specs.Marking.{Marked};
 
 use crate::graph::index_of;
-use crate::nets::{NetGraph, broken_net, is_sub, names_of, net_graph};
+use crate::nets::{NetGraph, broken_net, names_of, net_graph};
 use std::alloc::{AllocError, Global};
 use yw_accept::{Broken, Index, has};
 use yw_base::Text;
@@ -34,8 +34,8 @@ fn may_be_child(raw: &RawSpec, index: &Index, task: &RawTask) -> bool
     ensures { result ≡ may_be_child raw.now task.now.kind task.now.net }
 {
     match &task.net {
-        Some(net) => is_sub(task.kind) && is_other(raw, index, net),
-        None => !is_sub(task.kind),
+        Some(net) => task.kind.is_composite() && is_other(raw, index, net),
+        None => !task.kind.is_composite(),
     }
 }
 

@@ -11,8 +11,9 @@ ghost use Rattle.yw_reach.specs.Walks.{CycleAlong};
 use crate::graph::{flows_of, index_of, nodes_of};
 use std::alloc::{AllocError, Global};
 use yw_accept::Broken;
+use yw_base::Gate;
 use yw_reach::is_cyclic;
-use yw_read::{RawGate, RawNet, RawSpec, RawTask};
+use yw_read::{RawNet, RawSpec, RawTask};
 
 fn has_cycle(alloc: Global, net: &RawNet) -> Result<bool, AllocError>
     requires named { NetIsNamed net.now }
@@ -31,7 +32,7 @@ fn or_join(tasks: &[RawTask]) -> Option<&RawTask>
     ensures { FindsOrJoin tasks.now result }
 {
     for task in tasks {
-        if task.join == RawGate::Or {
+        if task.join == Gate::Or {
             return Some(task);
         }
     }

@@ -7,14 +7,14 @@ ghost use Rattle.yw_accept.specs.Graph.{child};
 ghost use Rattle.yw_accept.specs.Index.{IsIndexOf};
 ghost use Rattle.yw_accept.specs.Nodes.{net_names};
 ghost use Rattle.yw_check_graph.specs.Graph.{AreNumbered, name_at};
-ghost use Rattle.yw_check_graph.specs.Nets.{AddsFlows, ChildIsAmong, ChildrenAreAmong, IsNetGraph, is_sub, link, links, links_from};
+ghost use Rattle.yw_check_graph.specs.Nets.{AddsFlows, ChildIsAmong, ChildrenAreAmong, IsNetGraph, link, links, links_from};
 
 use crate::graph::{index_of, number_in, push_copy};
 use std::alloc::{AllocError, Global};
 use yw_accept::{Broken, Index};
 use yw_base::Text;
 use yw_reach::Flow;
-use yw_read::{RawKind, RawNet, RawSpec, RawTask};
+use yw_read::{RawNet, RawSpec, RawTask};
 
 /// The nets by their numbers. A flow goes from a net to each net that a task of it names.
 #[derive(Drop)]
@@ -38,21 +38,11 @@ pub fn names_of(alloc: Global, nets: &[RawNet]) -> Result<Vec<Text>, AllocError>
     Ok(names)
 }
 
-/// A task of this kind stands for a net.
-pub fn is_sub(kind: RawKind) -> bool
-    ensures { result ≡ is_sub kind }
-{
-    match kind {
-        RawKind::Sub => true,
-        RawKind::Atomic | RawKind::Empty => false,
-    }
-}
-
 /// The name of the net that the task's items run in, or `None` where it names none.
 fn child_of(task: &RawTask) -> Option<&Text>
     ensures { option_copied result ≡ child task.now }
 {
-    if is_sub(task.kind) {
+    if task.kind.is_composite() {
         return task.net.as_ref();
     }
     None

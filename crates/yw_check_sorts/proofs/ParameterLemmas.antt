@@ -11,7 +11,8 @@ use Rattle.yw_read.specs.declared.raw.RawTask.{RawTask}
 use Rattle.yw_read.specs.declared.raw.RawNet.{RawNet}
 use Rattle.yw_read.specs.declared.raw.RawSpec.{RawSpec}
 use Rattle.yw_accept.specs.Nodes.{is_among}
-use Rattle.yw_accept.specs.Scopes.{ParametersFit, gives, is_in_var, is_out_var, is_same_sort, names_var, parameters_fit, takes, vars_scope}
+use Rattle.yw_base.specs.Usages.{comes_in, goes_out}
+use Rattle.yw_accept.specs.Scopes.{ParametersFit, is_in_var, is_out_var, is_same_sort, names_var, parameters_fit, vars_scope}
 use Rattle.yw_check_sorts.specs.Agreeing.{ItemFitsOver}
 use Rattle.yw_check_sorts.proofs.Deciding.{decides_along}
 use Rattle.yw_check_sorts.proofs.NamedLemmas.{list_any_of_map}
@@ -26,21 +27,21 @@ turned : (a b c : List ℕ) → c ≡ a → bytes_eq a b ≡ bytes_eq b c
 turned a b c e = nat_list_eq_equiv.symm a b ∙ ap (bytes_eq b) (sym e)
 
 -- of a parameter and each variable
-pub in_var : (p : RawIn) (name : List ℕ) → name ≡ p.name → (v : RawVar) → is_in_var p v ≡ (bytes_eq v.name name && (takes v.usage && is_same_sort p.sort v.sort))
+pub in_var : (p : RawIn) (name : List ℕ) → name ≡ p.name → (v : RawVar) → is_in_var p v ≡ (bytes_eq v.name name && (comes_in v.usage && is_same_sort p.sort v.sort))
 in_var p name e v =
-    ap (λ b. takes v.usage && b && is_same_sort p.sort v.sort) (turned p.name v.name name e)
-    ∙ swapped (takes v.usage) (bytes_eq v.name name) (is_same_sort p.sort v.sort)
+    ap (λ b. comes_in v.usage && b && is_same_sort p.sort v.sort) (turned p.name v.name name e)
+    ∙ swapped (comes_in v.usage) (bytes_eq v.name name) (is_same_sort p.sort v.sort)
 
-pub out_var : (q : RawOut) (name : List ℕ) → name ≡ q.name → (v : RawVar) → is_out_var q v ≡ (bytes_eq v.name name && (gives v.usage && is_same_sort q.sort v.sort))
+pub out_var : (q : RawOut) (name : List ℕ) → name ≡ q.name → (v : RawVar) → is_out_var q v ≡ (bytes_eq v.name name && (goes_out v.usage && is_same_sort q.sort v.sort))
 out_var q name e v =
-    ap (λ b. gives v.usage && b && is_same_sort q.sort v.sort) (turned q.name v.name name e)
-    ∙ swapped (gives v.usage) (bytes_eq v.name name) (is_same_sort q.sort v.sort)
+    ap (λ b. goes_out v.usage && b && is_same_sort q.sort v.sort) (turned q.name v.name name e)
+    ∙ swapped (goes_out v.usage) (bytes_eq v.name name) (is_same_sort q.sort v.sort)
 
 -- of a variable and each parameter
-pub var_in : (v : RawVar) (name : List ℕ) → name ≡ v.name → (p : RawIn) → is_in_var p v ≡ (bytes_eq p.name name && (takes v.usage && is_same_sort p.sort v.sort))
+pub var_in : (v : RawVar) (name : List ℕ) → name ≡ v.name → (p : RawIn) → is_in_var p v ≡ (bytes_eq p.name name && (comes_in v.usage && is_same_sort p.sort v.sort))
 var_in v name e p =
-    ap (λ (n : List ℕ). takes v.usage && bytes_eq p.name n && is_same_sort p.sort v.sort) (sym e)
-    ∙ swapped (takes v.usage) (bytes_eq p.name name) (is_same_sort p.sort v.sort)
+    ap (λ (n : List ℕ). comes_in v.usage && bytes_eq p.name n && is_same_sort p.sort v.sort) (sym e)
+    ∙ swapped (comes_in v.usage) (bytes_eq p.name name) (is_same_sort p.sort v.sort)
 
 pub both_taken : (t s b : Bool) → t ≡ true → b ≡ s → b ≡ (t && s)
 both_taken t s b e h = h ∙ ap (λ c. c && s) (sym e)

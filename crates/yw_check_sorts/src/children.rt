@@ -6,7 +6,8 @@ ghost use Rattle.std.specs.Option.{option_and_then, option_map_or};
 ghost use Rattle.yw_accept.specs.Facts.{AreDistinct, IsNamed, NetIsNamed, TaskIsNamed};
 ghost use Rattle.yw_accept.specs.Index.{IsIndexOf};
 ghost use Rattle.yw_accept.specs.Nodes.{net_names};
-ghost use Rattle.yw_accept.specs.Scopes.{fits_child, gives, is_in_var, is_out_var, is_same_sort, net_named, takes};
+ghost use Rattle.yw_base.specs.Usages.{comes_in, goes_out};
+ghost use Rattle.yw_accept.specs.Scopes.{fits_child, is_in_var, is_out_var, is_same_sort, net_named};
 ghost use Rattle.yw_read.specs.declared.raw.RawIn.{RawIn};
 ghost use Rattle.yw_read.specs.declared.raw.RawOut.{RawOut};
 ghost use Rattle.yw_read.specs.declared.raw.RawVar.{RawVar};
@@ -15,7 +16,7 @@ use crate::named::{find_named, index_of};
 use std::alloc::{AllocError, Global};
 use yw_accept::Index;
 use yw_base::Sort;
-use yw_read::{RawIn, RawNet, RawOut, RawSpec, RawTask, RawUsage, RawVar};
+use yw_read::{RawIn, RawNet, RawOut, RawSpec, RawTask, RawVar};
 
 /// The two sorts are the same.
 pub fn is_same_sort(one: Sort, two: Sort) -> bool
@@ -31,38 +32,18 @@ pub fn is_same_sort(one: Sort, two: Sort) -> bool
     }
 }
 
-/// The net is given the first value of a variable with this use.
-fn takes(usage: RawUsage) -> bool
-    ensures { result ≡ takes usage }
-{
-    match usage {
-        RawUsage::In | RawUsage::InOut => true,
-        RawUsage::Out | RawUsage::Local => false,
-    }
-}
-
-/// The net gives the last value of a variable with this use.
-fn gives(usage: RawUsage) -> bool
-    ensures { result ≡ gives usage }
-{
-    match usage {
-        RawUsage::Out | RawUsage::InOut => true,
-        RawUsage::In | RawUsage::Local => false,
-    }
-}
-
 /// The net takes the first value of the variable, of this sort.
 fn takes_sort(var: &RawVar, sort: Sort) -> bool
-    ensures { result ≡ (takes var.now.usage && is_same_sort sort var.now.sort) }
+    ensures { result ≡ (comes_in var.now.usage && is_same_sort sort var.now.sort) }
 {
-    takes(var.usage) && is_same_sort(sort, var.sort)
+    var.usage.comes_in() && is_same_sort(sort, var.sort)
 }
 
 /// The net gives the last value of the variable, of this sort.
 fn gives_sort(var: &RawVar, sort: Sort) -> bool
-    ensures { result ≡ (gives var.now.usage && is_same_sort sort var.now.sort) }
+    ensures { result ≡ (goes_out var.now.usage && is_same_sort sort var.now.sort) }
 {
-    gives(var.usage) && is_same_sort(sort, var.sort)
+    var.usage.goes_out() && is_same_sort(sort, var.sort)
 }
 
 /// The net takes what is given to the parameter.
@@ -90,9 +71,9 @@ fn are_taken(vars: &[RawVar], index: &Index, ins: &[RawIn]) -> bool
 fn is_handed(ins: &[RawIn], index: &Index, var: &RawVar) -> bool
     requires index { IsIndexOf (map (λ (p : RawIn). p.name) ins.now) index.now }
     requires distinct { AreDistinct (map (λ (p : RawIn). p.name) ins.now) }
-    ensures { result ≡ (not (takes var.now.usage) || list_any (λ (p : RawIn). is_in_var p var.now) ins.now) }
+    ensures { result ≡ (not (comes_in var.now.usage) || list_any (λ (p : RawIn). is_in_var p var.now) ins.now) }
 {
-    if !takes(var.usage) {
+    if !var.usage.comes_in() {
         return true;
     }
     match find_named(index, ins, var.name.as_str()) {
@@ -105,7 +86,7 @@ fn is_handed(ins: &[RawIn], index: &Index, var: &RawVar) -> bool
 fn are_handed(ins: &[RawIn], index: &Index, vars: &[RawVar]) -> bool
     requires index { IsIndexOf (map (λ (p : RawIn). p.name) ins.now) index.now }
     requires distinct { AreDistinct (map (λ (p : RawIn). p.name) ins.now) }
-    ensures { result ≡ list_all (λ (v : RawVar). not (takes v.usage) || list_any (λ (p : RawIn). is_in_var p v) ins.now) vars.now }
+    ensures { result ≡ list_all (λ (v : RawVar). not (comes_in v.usage) || list_any (λ (p : RawIn). is_in_var p v) ins.now) vars.now }
 {
     vars.iter().all(|var| is_handed(ins, index, var))
 }

@@ -3,25 +3,16 @@ ghost use Rattle.std.specs.Prelude.{◌≡◌, ℕ, IfOk};
 ghost use Rattle.std.specs.List.{list_any};
 ghost use Rattle.std.specs.Str.{bytes_eq};
 ghost use Rattle.yw_read.specs.declared.raw.RawIn.{RawIn};
-ghost use Rattle.yw_accept.specs.Tasks.{is_empty_kind, bounds_fit, item_fits, has_no_bounds, items_fit, ItemsFit};
+ghost use Rattle.yw_accept.specs.Tasks.{bounds_fit, item_fits, has_no_bounds, items_fit, ItemsFit};
 ghost use Rattle.yw_check_tasks.specs.Steps.{TaskItemsFit, NetItemsFit};
 
 use std::alloc::{AllocError, Global};
 use yw_accept::Broken;
 use yw_base::Text;
-use yw_read::{RawIn, RawKind, RawNet, RawSpec, RawTask};
+use yw_read::{RawIn, RawNet, RawSpec, RawTask};
 
 /// The most items of a task, and the most that may be waited for.
 const MOST_ITEMS: i64 = 1000;
-
-fn is_empty_kind(kind: RawKind) -> bool
-    ensures { result ≡ is_empty_kind kind }
-{
-    match kind {
-        RawKind::Empty => true,
-        RawKind::Atomic | RawKind::Sub => false,
-    }
-}
 
 fn bounds_fit(task: &RawTask) -> bool
     ensures { result ≡ bounds_fit task.now }
@@ -62,7 +53,7 @@ fn has_items(task: &RawTask) -> bool
     ensures { result ≡ items_fit task.now }
 {
     match &task.each {
-        Some(_) => !is_empty_kind(task.kind) && bounds_fit(task) && item_fits(task),
+        Some(_) => !task.kind.is_empty() && bounds_fit(task) && item_fits(task),
         None => has_no_bounds(task),
     }
 }

@@ -10,7 +10,8 @@ ghost use Rattle.yw_check_tasks.specs.Outputs.{outputs_at, AddsOutput, AreOutput
 use std::alloc::{AllocError, Global};
 use std::collections::BTreeMap;
 use yw_accept::Broken;
-use yw_read::{RawBranch, RawFlow, RawGate, RawNet, RawSpec, RawTask};
+use yw_base::Gate;
+use yw_read::{RawBranch, RawFlow, RawNet, RawSpec, RawTask};
 
 /// The outputs of each node from which flows go, in flow order.
 type Outputs<'a> = BTreeMap<&'a str, Vec<&'a str>>;
@@ -153,8 +154,8 @@ fn split_fits<'a>(
         fit ≡ split_fits task.now.split (outputs_at outputs.now task.now.name) task.now.branch) }
 {
     match task.split {
-        RawGate::And => Ok(task.branch.is_empty()),
-        RawGate::Xor | RawGate::Or => {
+        Gate::And => Ok(task.branch.is_empty()),
+        Gate::Xor | Gate::Or => {
             let fit = branches_fit_at(alloc, outputs, task.name.as_str(), task.branch.as_slice())?;
             Ok(fit)
         }

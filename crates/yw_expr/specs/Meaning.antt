@@ -1,5 +1,6 @@
 -- What an expression is worth over a row of values, or that it is undefined, by cases on the tree.
 use Rattle.std.specs.Prelude.{ℕ, Bool, true, false, not, ◌^◌, ℤ, pos, negsuc, neg_ℤ, ◌+ℤ◌, ◌-ℤ◌, ◌*ℤ◌, int_div, int_lt, int_le, List, length, fold, Option, Some, None, option_and_then, option_map, nat_lt, slice_get, if◌then◌else◌}
+use Rattle.std.specs.Bool.{beq}
 use Rattle.std.specs.Ordering.{int_eq}
 use Rattle.std.specs.Str.{bytes_eq}
 use Rattle.yw_base.specs.declared.value.Value.{Value}
@@ -70,13 +71,9 @@ ints_value GreaterOrEqual a b = a_bool (int_le b a)
 ints_value And a b = None
 ints_value Or a b = None
 
-abbrev pub same_bool : Bool → Bool → Bool
-same_bool true b = b
-same_bool false b = not b
-
 abbrev pub bools_value : Infix → Bool → Bool → Option Value
-bools_value Equal a b = a_bool (same_bool a b)
-bools_value NotEqual a b = a_bool (not (same_bool a b))
+bools_value Equal a b = a_bool (beq a b)
+bools_value NotEqual a b = a_bool (not (beq a b))
 bools_value op a b = None
 
 abbrev pub texts_value : Infix → List ℕ → List ℕ → Option Value

@@ -37,7 +37,8 @@ use Rattle.yw_read.specs.declared.raw.ReadFault.TheVariants.{NotToml}
 use Rattle.yw_read.proofs.InitLemmas.{given-inits}
 use Rattle.yw_accept.specs.Built.{IsKind, IsNet, IsSpec, IsTask, out_of, var_of}
 use Rattle.yw_accept.specs.Nodes.{net_names}
-use Rattle.yw_accept.specs.Scopes.{agrees, fits_child, gives, hands_over, is_given, is_in_var, is_out_var, is_same_sort, names_var, net_named, outs_fit, takes}
+use Rattle.yw_base.specs.Usages.{comes_in, goes_out}
+use Rattle.yw_accept.specs.Scopes.{agrees, fits_child, hands_over, is_given, is_in_var, is_out_var, is_same_sort, names_var, net_named, outs_fit}
 use Rattle.yw_accept.specs.Verdict.{IsVerdict}
 use Rattle.yw_said.proofs.Numbers.{Apart}
 use Rattle.yw_said.proofs.OnceFacts.{IsApart, NetIsApart, accepted_apart}
@@ -116,8 +117,8 @@ module _ (raw : RawSpec) (said : RawTask) (t : Task) where
     has_var : (q : RawOut) → list_any (is_out_var q) net.vars ≡ true → HasVar child (out_of q)
     has_var q e =
         let (m, v, at, passes) = any_at (is_out_var q) net.vars e in
-        let parts = and_parts (gives v.usage && bytes_eq q.name v.name) (is_same_sort q.sort v.sort) passes in
-        let named = (bytes_eq-Decides q.name v.name).0 (and_parts (gives v.usage) (bytes_eq q.name v.name) parts.0).1 in
+        let parts = and_parts (goes_out v.usage && bytes_eq q.name v.name) (is_same_sort q.sort v.sort) passes in
+        let named = (bytes_eq-Decides q.name v.name).0 (and_parts (goes_out v.usage) (bytes_eq q.name v.name) parts.0).1 in
         let found = found_first (λ (x : Var). x.name) (map var_of net.vars) built_names m (var_of v) (slice_get-map var_of net.vars m ∙ ap (option_map var_of) at) in
         (var_of v, ap (λ (xs : List Var). find (λ (x : Var). bytes_eq x.name q.name) xs) built ∙ ap (λ (n : List ℕ). find (λ (x : Var). bytes_eq x.name n) (map var_of net.vars)) named ∙ found, same_sort q.sort v.sort parts.1)
 
@@ -157,7 +158,7 @@ module _ (raw : RawSpec) (verdict : IsVerdict raw None) (inits : HasInits raw) (
             let (cn, cat, cbuilt) = zip_at (IsNet raw) raw.net spec.nets is_spec.nets c child child_at in
             let there = all_at NetIsApart raw.net apart.nets c cn cat in
             let fit = named_child raw rt t rt.kind t.kind is.kind hands c e apart.names cn cat in
-            let gives_all = (and_parts (list_all (λ (p : RawIn). list_any (is_in_var p) cn.vars) rt.ins && list_all (λ (v : RawVar). not (takes v.usage) || list_any (λ (p : RawIn). is_in_var p v) rt.ins) cn.vars) (list_all (λ (q : RawOut). list_any (is_out_var q) cn.vars) rt.outs) fit).1 in
+            let gives_all = (and_parts (list_all (λ (p : RawIn). list_any (is_in_var p) cn.vars) rt.ins && list_all (λ (v : RawVar). not (comes_in v.usage) || list_any (λ (p : RawIn). is_in_var p v) rt.ins) cn.vars) (list_all (λ (q : RawOut). list_any (is_out_var q) cn.vars) rt.outs) fit).1 in
             subst (All (HasVar child)) (sym is.outs) (has_vars raw rt t apart.names cn there.vars child cbuilt.vars rt.outs gives_all);
       }
 

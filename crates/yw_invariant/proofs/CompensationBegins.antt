@@ -19,7 +19,7 @@ use Rattle.yw_state.proofs.Absent.{part-kept}
 use Rattle.yw_state.specs.After.{change, new_net, stands, where_some, where_spec, with_run, with_sites}
 use Rattle.yw_state.specs.Allowed.{depth_end}
 use Rattle.yw_state.specs.ByName.{Named, first_values, given_named, source_at, var_named}
-use Rattle.yw_state.specs.Exlets.{end_if_over}
+use Rattle.yw_state.specs.Exlets.{end_if_over, is_over, taken_first}
 use Rattle.yw_state.specs.Identity.{Ident, is_case_ident, parent}
 use Rattle.yw_state.specs.Map as Map
 use Rattle.yw_state.specs.Map.{get, update}
@@ -54,14 +54,14 @@ module _ (reader : Reader) (sound : ReadsSound reader) (s : State) (well : IsWel
       by_kind false e = of_item (item_at s j) refl e
 
   abbrev waits_then : RunPart → RunPart
-  waits_then z = record (runs.takes_first z) { waiting = true }
+  waits_then z = record (taken_first z) { waiting = true }
 
   module _ (name : List ℕ) (spec : Spec) (net : Net) (called : spec_called s name ≡ Some spec) (top : slice_get spec.nets spec.top ≡ Some net) (short : length r < depth_end) where
     abbrev part : NetPart
     part = new_net name spec.top net (first_values (source_at s j) net)
 
     abbrev begun : Site → Site
-    begun x = stands part (with_run (λ (z : RunPart). record z { waiting = true }) (with_run runs.takes_first x))
+    begun x = stands part (with_run (λ (z : RunPart). record z { waiting = true }) (with_run taken_first x))
 
     its_top : is_top s part ≡ true
     its_top = ap (λ o. is_some_and o (λ (other : Spec). spec.top == other.top)) called ∙ eq-eqb spec.top spec.top refl
@@ -77,7 +77,7 @@ module _ (reader : Reader) (sound : ReadsSound reader) (s : State) (well : IsWel
           deep = λ l level. let some = level_counts s level in omega (arith, some, short);
         }
 
-    to_waiting : (o : Option RunPart) → option_map (λ (z : RunPart). record z { waiting = true }) (option_map runs.takes_first o) ≡ option_map waits_then o
+    to_waiting : (o : Option RunPart) → option_map (λ (z : RunPart). record z { waiting = true }) (option_map taken_first o) ≡ option_map waits_then o
     to_waiting None = refl
     to_waiting (Some z) = refl
 
@@ -113,10 +113,10 @@ module _ (reader : Reader) (sound : ReadsSound reader) (s : State) (well : IsWel
   -- ---- as the run takes it
 
   abbrev taken : State
-  taken = change s r (with_run runs.takes_first)
+  taken = change s r (with_run taken_first)
 
   net_kept : (k : Ident) → net_part taken k ≡ net_part s k
-  net_kept k = part-kept (λ x. x.net) (with_run runs.takes_first) (λ x. refl) s.sites r k
+  net_kept k = part-kept (λ x. x.net) (with_run taken_first) (λ x. refl) s.sites r k
 
   same_source : (name : List ℕ) → source_at taken j name ≡ source_at s j name
   same_source name =
@@ -126,23 +126,23 @@ module _ (reader : Reader) (sound : ReadsSound reader) (s : State) (well : IsWel
   abbrev begins_with : State → List ℕ → Spec → Net → Site → Site
   begins_with t name spec net x = stands (new_net name spec.top net (first_values (source_at t j) net)) (with_run (λ (z : RunPart). record z { waiting = true }) x)
 
-  run_waits : (name : List ℕ) (spec : Spec) (net : Net) → run_part (change s r (λ x. begins_with s name spec net (with_run runs.takes_first x))) r ≡ Some (waits_then y)
+  run_waits : (name : List ℕ) (spec : Spec) (net : Net) → run_part (change s r (λ x. begins_with s name spec net (with_run taken_first x))) r ≡ Some (waits_then y)
   run_waits name spec net =
-      ap (option_and_then (λ (x : Site). x.run)) (get-update_same by_name s.sites r (λ x. begins_with s name spec net (with_run runs.takes_first x))) ∙ mapped (get s.sites r) ∙ ap (option_map waits_then) run
+      ap (option_and_then (λ (x : Site). x.run)) (get-update_same by_name s.sites r (λ x. begins_with s name spec net (with_run taken_first x))) ∙ mapped (get s.sites r) ∙ ap (option_map waits_then) run
     where
-      mapped : (o : Option Site) → option_and_then (λ (x : Site). x.run) (option_map (λ x. begins_with s name spec net (with_run runs.takes_first x)) o) ≡ option_map waits_then (option_and_then (λ (x : Site). x.run) o)
+      mapped : (o : Option Site) → option_and_then (λ (x : Site). x.run) (option_map (λ x. begins_with s name spec net (with_run taken_first x)) o) ≡ option_map waits_then (option_and_then (λ (x : Site). x.run) o)
       mapped None = refl
       mapped (Some x) = to_waiting name spec net x.run
         where
-          to_waiting : (name : List ℕ) (spec : Spec) (net : Net) (o : Option RunPart) → option_map (λ (z : RunPart). record z { waiting = true }) (option_map runs.takes_first o) ≡ option_map waits_then o
+          to_waiting : (name : List ℕ) (spec : Spec) (net : Net) (o : Option RunPart) → option_map (λ (z : RunPart). record z { waiting = true }) (option_map taken_first o) ≡ option_map waits_then o
           to_waiting name spec net None = refl
           to_waiting name spec net (Some z) = refl
 
-  with_source : (name : List ℕ) (spec : Spec) (net : Net) (source : Named) → ((n : List ℕ) → source n ≡ source_at s j n) → IsWell reader (end_if_over (change s r (λ x. begins_with s name spec net (with_run runs.takes_first x))) r)
-      → IsWell reader (end_if_over (with_sites s (update (update s.sites r (with_run runs.takes_first)) r (λ x. stands (new_net name spec.top net (first_values source net)) (with_run (λ (z : RunPart). record z { waiting = true }) x)))) r)
+  with_source : (name : List ℕ) (spec : Spec) (net : Net) (source : Named) → ((n : List ℕ) → source n ≡ source_at s j n) → IsWell reader (end_if_over (change s r (λ x. begins_with s name spec net (with_run taken_first x))) r)
+      → IsWell reader (end_if_over (with_sites s (update (update s.sites r (with_run taken_first)) r (λ x. stands (new_net name spec.top net (first_values source net)) (with_run (λ (z : RunPart). record z { waiting = true }) x)))) r)
   with_source name spec net source same w =
-      subst (λ (m : Sites). IsWell reader (end_if_over (with_sites s m) r)) (sym (updated_twice s.sites r (with_run runs.takes_first) (λ x. stands (new_net name spec.top net (first_values source net)) (with_run (λ (z : RunPart). record z { waiting = true }) x))))
-      (subst (λ (f : Named). IsWell reader (end_if_over (change s r (λ x. stands (new_net name spec.top net (first_values f net)) (with_run (λ (z : RunPart). record z { waiting = true }) (with_run runs.takes_first x)))) r)) (λ i n. sym (same n) i) w)
+      subst (λ (m : Sites). IsWell reader (end_if_over (with_sites s m) r)) (sym (updated_twice s.sites r (with_run taken_first) (λ x. stands (new_net name spec.top net (first_values source net)) (with_run (λ (z : RunPart). record z { waiting = true }) x))))
+      (subst (λ (f : Named). IsWell reader (end_if_over (change s r (λ x. stands (new_net name spec.top net (first_values f net)) (with_run (λ (z : RunPart). record z { waiting = true }) (with_run taken_first x)))) r)) (λ i n. sym (same n) i) w)
 
   pub compensated_is_well : (name : List ℕ)
       → IsWell reader (end_if_over (if nat_lt (length r) depth_end then where_spec taken name (λ spec net. change taken r (begins_with taken name spec net)) else taken) r)
@@ -154,7 +154,7 @@ module _ (reader : Reader) (sound : ReadsSound reader) (s : State) (well : IsWel
       begins_here : (spec : Spec) (net : Net) → spec_called s name ≡ Some spec → slice_get spec.nets spec.top ≡ Some net → length r < depth_end → IsWell reader (end_if_over (change taken r (begins_with taken name spec net)) r)
       begins_here spec net called top short =
           with_source name spec net (source_at taken j) same_source
-          (subst (λ (o : Option RunPart). IsWell reader (if is_some_and o runs.is_over then with_sites s (Map.remove (update s.sites r (λ x. begins_with s name spec net (with_run runs.takes_first x))) r) else change s r (λ x. begins_with s name spec net (with_run runs.takes_first x))))
+          (subst (λ (o : Option RunPart). IsWell reader (if is_some_and o is_over then with_sites s (Map.remove (update s.sites r (λ x. begins_with s name spec net (with_run taken_first x))) r) else change s r (λ x. begins_with s name spec net (with_run taken_first x))))
           (sym (run_waits name spec net)) (begun_is_well name spec net called top short))
 
       with_top : (spec : Spec) → spec_called s name ≡ Some spec → length r < depth_end → IsWell reader (end_if_over (where_some (top_called s name) taken (λ net. change taken r (begins_with taken name spec net))) r)

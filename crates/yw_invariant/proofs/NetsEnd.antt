@@ -5,7 +5,7 @@ use Rattle.std.proofs.Common.{sym, ◌∙◌, ap, subst, arith}
 use Rattle.std.proofs.lemmas.Bool.{and_parts, or_left, or_right}
 use Rattle.yw_base.specs.Identity.{under}
 use Rattle.yw_invariant.proofs.ReadyItems as items
-use Rattle.yw_invariant.proofs.RunsGoOn.{is_over, some_left}
+use Rattle.yw_invariant.proofs.RunsGoOn.{some_left}
 use Rattle.yw_invariant.proofs.Turning.{Turns, target_same, turned_is_well, same_option}
 use Rattle.yw_invariant.proofs.Changes.{dropped_is_well, numbers_left, updated_twice}
 use Rattle.yw_invariant.proofs.Places.{deep_is_no_case, not_under_itself, stays_above, strictly_under_other, strictly_under_parent, under_itself}
@@ -20,7 +20,7 @@ use Rattle.yw_state.specs.After.{change, complete, completed, end_net, make_due,
 use Rattle.yw_state.specs.Allowed.{Allowed, allows}
 use Rattle.yw_state.specs.ByName.{made_by_worklet}
 use Rattle.yw_state.specs.Events.{after}
-use Rattle.yw_state.specs.Exlets.{end_compensation, end_if_over}
+use Rattle.yw_state.specs.Exlets.{end_compensation, end_if_over, going_on, is_over}
 use Rattle.yw_state.specs.Identity.{Ident, case_number, parent, strictly_under}
 use Rattle.yw_state.specs.Map.{get, lexical, remove, retain}
 use Rattle.yw_state.specs.Options.{is_some_and}
@@ -155,11 +155,8 @@ module _ (reader : Reader) (s : State) (j : Ident) (said : Said) (well : IsWell 
 
 -- ---- a compensation
 
-abbrev goes_on : RunPart → RunPart
-goes_on x = record x { waiting = false }
-
 abbrev resumed : Site → Site
-resumed x = with_run goes_on (record x { net = None })
+resumed x = with_run going_on (record x { net = None })
 
 module _ (reader : Reader) (s : State) (r : Ident) (well : IsWell reader s) (y : RunPart) (run : run_part s r ≡ Some y) where
   abbrev clear_there : State
@@ -168,13 +165,13 @@ module _ (reader : Reader) (s : State) (r : Ident) (well : IsWell reader s) (y :
   abbrev gone_on : State
   gone_on = change clear_there r resumed
 
-  run_now : run_part gone_on r ≡ Some (goes_on y)
+  run_now : run_part gone_on r ≡ Some (going_on y)
   run_now =
       ap (option_and_then (λ (x : Site). x.run)) (get-update_same by_name clear_there.sites r resumed ∙ ap (option_map resumed) (same_here reader s r well))
       ∙ mapped (get s.sites r)
-      ∙ ap (option_map goes_on) run
+      ∙ ap (option_map going_on) run
     where
-      mapped : (o : Option Site) → option_and_then (λ (x : Site). x.run) (option_map resumed o) ≡ option_map goes_on (option_and_then (λ (x : Site). x.run) o)
+      mapped : (o : Option Site) → option_and_then (λ (x : Site). x.run) (option_map resumed o) ≡ option_map going_on (option_and_then (λ (x : Site). x.run) o)
       mapped None = refl
       mapped (Some x) = refl
 
@@ -191,7 +188,7 @@ module _ (reader : Reader) (s : State) (r : Ident) (well : IsWell reader s) (y :
   no_item_at : (x : ItemAt) → item_at clear_there r ≡ Some x → ⊥
   no_item_at x e = nowhere (ap (λ o. item_in o (net_at clear_there (parent r))) (sym no_item) ∙ e)
 
-  goes : is_over (goes_on y) ≡ false → Turns clear_there r None resumed (λ x. x) goes_on
+  goes : is_over (going_on y) ≡ false → Turns clear_there r None resumed (λ x. x) going_on
   goes more =
       let here = cleared_is_well reader s r well in
       record {
@@ -210,7 +207,7 @@ module _ (reader : Reader) (s : State) (r : Ident) (well : IsWell reader s) (y :
         item_fits = λ x e. absurd (no_item_at x e);
         run_fits = λ x e.
             record {
-              works = subst (λ (z : RunPart). has_work (goes_on z) ≡ true) (some_same y x (sym run ∙ sym run_same ∙ e)) (some_left (length y.rest) more);
+              works = subst (λ (z : RunPart). has_work (going_on z) ≡ true) (some_same y x (sym run ∙ sym run_same ∙ e)) (some_left (length y.rest) more);
               most = here.content.run_length r x e;
               fit = here.content.run_fit r x e;
             };
@@ -238,14 +235,14 @@ module _ (reader : Reader) (s : State) (r : Ident) (well : IsWell reader s) (y :
       ∙ ap (λ b. cond (not b) (get s.sites q) None) (strictly_under_other q r other)
       ∙ sym (get-retain by_name s.sites (λ k. not (under k r)) q)))
 
-  over_or_not : (b : Bool) → is_over (goes_on y) ≡ b → IsWell reader (if b then with_sites s (remove gone_on.sites r) else gone_on)
+  over_or_not : (b : Bool) → is_over (going_on y) ≡ b → IsWell reader (if b then with_sites s (remove gone_on.sites r) else gone_on)
   over_or_not true e = subst (λ (m : Sites). IsWell reader (with_sites s m)) (sym all_gone) (dropped_is_well reader s well r)
-  over_or_not false e = turned_is_well clear_there r None resumed (λ x. x) goes_on (goes e) (cleared_is_well reader s r well).parents reader (cleared_is_well reader s r well)
+  over_or_not false e = turned_is_well clear_there r None resumed (λ x. x) going_on (goes e) (cleared_is_well reader s r well).parents reader (cleared_is_well reader s r well)
 
   compensation_ended_is_well : IsWell reader (end_compensation s r)
   compensation_ended_is_well =
-      subst (λ (m : Sites). IsWell reader (end_if_over (with_sites s m) r)) (sym (updated_twice clear_there.sites r (λ x. record x { net = None }) (with_run goes_on)))
-      (subst (λ (o : Option RunPart). IsWell reader (if is_some_and o is_over then with_sites s (remove gone_on.sites r) else gone_on)) (sym run_now) (over_or_not (is_over (goes_on y)) refl))
+      subst (λ (m : Sites). IsWell reader (end_if_over (with_sites s m) r)) (sym (updated_twice clear_there.sites r (λ x. record x { net = None }) (with_run going_on)))
+      (subst (λ (o : Option RunPart). IsWell reader (if is_some_and o is_over then with_sites s (remove gone_on.sites r) else gone_on)) (sym run_now) (over_or_not (is_over (going_on y)) refl))
 
 module _ (reader : Reader) (s : State) (r : Ident) (said : Said) (well : IsWell reader s) where
   pub compensated_keeps_well : Allowed s (events.Compensated r) said → IsWell reader (after s (events.Compensated r) said)

@@ -24,7 +24,7 @@ use Rattle.yw_state.specs.After.{change, completed, due_where, end_case, make_du
 use Rattle.yw_state.specs.Allowed.{Allowed, allows}
 use Rattle.yw_state.specs.ByName.{made_of_given}
 use Rattle.yw_state.specs.Events.{after}
-use Rattle.yw_state.specs.Exlets.{end_if_over, take_primitive}
+use Rattle.yw_state.specs.Exlets.{end_if_over, is_over, take_primitive, taken_first}
 use Rattle.yw_state.specs.Identity.{Ident, case_ident, case_number, is_case_ident, parent, same, strictly_under}
 use Rattle.yw_state.specs.Judged.{has_rule}
 use Rattle.yw_state.specs.Map as Map
@@ -100,7 +100,7 @@ module _ (reader : Reader) (sound : ReadsSound reader) (s : State) (well : IsWel
   j = parent r
 
   abbrev takes : Site → Site
-  takes x = with_run runs.takes_first x
+  takes x = with_run taken_first x
 
   abbrev taken : State
   taken = change s r takes
@@ -130,7 +130,7 @@ module _ (reader : Reader) (sound : ReadsSound reader) (s : State) (well : IsWel
   run_is_gone : (t : State) → IsWell reader t → get t.sites r ≡ None → IsWell reader (end_if_over (change t r takes) r)
   run_is_gone t well_t none =
       subst (λ (m : Sites). IsWell reader (end_if_over (with_sites t m) r)) (sym unchanged)
-      (subst (λ (o : Option RunPart). IsWell reader (if is_some_and o runs.is_over then with_sites t (Map.remove t.sites r) else t)) (sym (ap (option_and_then (λ (x : Site). x.run)) none)) well_t)
+      (subst (λ (o : Option RunPart). IsWell reader (if is_some_and o is_over then with_sites t (Map.remove t.sites r) else t)) (sym (ap (option_and_then (λ (x : Site). x.run)) none)) well_t)
     where
       unchanged : update t.sites r takes ≡ t.sites
       unchanged = rw none refl

@@ -11,53 +11,24 @@ use Rattle.yw_invariant.proofs.Turning.{Turns, turned_is_well, same_option}
 use Rattle.yw_state.proofs.Alike.{due_test, item_in}
 use Rattle.yw_state.proofs.MapLemmas.{by_name, by_option, by_test, get-remove_other, get-remove_same, get-retain, get-retain_gone, get-update_other, get-update_same, never, nowhere, same_map, some_same}
 use Rattle.yw_state.specs.After.{change, with_run, with_sites}
-use Rattle.yw_state.specs.Exlets.{end_if_over}
+use Rattle.yw_state.specs.Exlets.{end_if_over, is_over, taken_first, without_first}
 use Rattle.yw_state.specs.Identity.{Ident, is_case_ident, parent}
 use Rattle.yw_state.specs.Map.{get, remove}
-use Rattle.yw_state.specs.NewRule.{are_fit, is_known}
+use Rattle.yw_state.specs.NewRule.{are_fit, is_known, is_of_item, is_removal, removes_last}
 use Rattle.yw_state.specs.Options.{is_some_and}
 use Rattle.yw_state.specs.State.{State, Site, Sites, ItemAt, ItemPart, RunPart, drop, due_at, item_at, item_part, net_at, net_part, run_part}
 use Rattle.yw_state.specs.Texts.{Reader}
 use Rattle.yw_state.specs.Well.{IsWell, Stands, has_work}
 use Rattle.yw_state.specs.Words.{has_check, is_ready}
 use Rattle.yw_state.specs.declared.tree.Primitive.{Primitive}
-use Rattle.yw_state.specs.declared.tree.Primitive.TheVariants as primitives
 use Rattle.yw_state.specs.declared.tree.TreeKind.{TreeKind}
 use Rattle.yw_state.specs.declared.tree.TreeKind.TheVariants.{Select}
 
-abbrev pub behind_first : List Primitive → List Primitive
-behind_first [] = []
-behind_first (p ∷ ps) = ps
-
-abbrev pub takes_first : RunPart → RunPart
-takes_first x = record x { rest = behind_first x.rest }
-
-abbrev pub is_over : RunPart → Bool
-is_over x = not x.waiting && length x.rest == 0
-
-pub no_longer : (ps : List Primitive) → length (behind_first ps) ≤ length ps
+pub no_longer : (ps : List Primitive) → length (without_first ps) ≤ length ps
 no_longer [] = omega arith
 no_longer (p ∷ ps) = omega arith
 
--- as `are_fit` tells what may be done
-abbrev is_of_item : Primitive → Bool
-is_of_item primitives.SuspendItem = true
-is_of_item primitives.ContinueItem = true
-is_of_item primitives.RestartItem = true
-is_of_item primitives.CompleteItem = true
-is_of_item primitives.RemoveItem = true
-is_of_item p = false
-
-abbrev is_removal : Primitive → Bool
-is_removal primitives.RemoveItem = true
-is_removal primitives.RemoveCase = true
-is_removal p = false
-
-abbrev removes_last : List Primitive → Bool
-removes_last [] = true
-removes_last (p ∷ ps) = (length ps == 0 || not (is_removal p)) && removes_last ps
-
-pub still_fit : (s : State) (of_case : Bool) (ps : List Primitive) → are_fit s of_case ps ≡ true → are_fit s of_case (behind_first ps) ≡ true
+pub still_fit : (s : State) (of_case : Bool) (ps : List Primitive) → are_fit s of_case ps ≡ true → are_fit s of_case (without_first ps) ≡ true
 still_fit s of_case [] e = e
 still_fit s of_case (p ∷ ps) e =
     let parts = and_parts (list_all (λ q. is_known s q && not (of_case && is_of_item q)) (p ∷ ps)) (removes_last (p ∷ ps)) e in
@@ -102,17 +73,17 @@ module _ (reader : Reader) (s : State) (well : IsWell reader s) (r : Ident) (y :
   never_select x stands e = never (sym (ap (λ o. is_some_and o (λ (z : ItemPart). is_ready z.stage)) no_item) ∙ well.marks.select r (is_due x stands Select e))
 
   abbrev taken : State
-  taken = change s r (with_run takes_first)
+  taken = change s r (with_run taken_first)
 
-  run_now : run_part taken r ≡ Some (takes_first y)
+  run_now : run_part taken r ≡ Some (taken_first y)
   run_now =
-      ap (option_and_then (λ (x : Site). x.run)) (get-update_same by_name s.sites r (with_run takes_first)) ∙ mapped (get s.sites r) ∙ ap (option_map takes_first) run
+      ap (option_and_then (λ (x : Site). x.run)) (get-update_same by_name s.sites r (with_run taken_first)) ∙ mapped (get s.sites r) ∙ ap (option_map taken_first) run
     where
-      mapped : (o : Option Site) → option_and_then (λ (x : Site). x.run) (option_map (with_run takes_first) o) ≡ option_map takes_first (option_and_then (λ (x : Site). x.run) o)
+      mapped : (o : Option Site) → option_and_then (λ (x : Site). x.run) (option_map (with_run taken_first) o) ≡ option_map taken_first (option_and_then (λ (x : Site). x.run) o)
       mapped None = refl
       mapped (Some x) = refl
 
-  takes : is_over (takes_first y) ≡ false → Turns s r None (with_run takes_first) (λ x. x) takes_first
+  takes : is_over (taken_first y) ≡ false → Turns s r None (with_run taken_first) (λ x. x) taken_first
   takes more =
       record {
         apart = apart;
@@ -130,30 +101,30 @@ module _ (reader : Reader) (s : State) (well : IsWell reader s) (r : Ident) (y :
         item_fits = λ x e. absurd (no_item_at x e);
         run_fits = λ x e.
             record {
-              works = subst (λ (z : RunPart). has_work (takes_first z) ≡ true) (some_same y x (sym run ∙ e)) (left more);
+              works = subst (λ (z : RunPart). has_work (taken_first z) ≡ true) (some_same y x (sym run ∙ e)) (left more);
               most = le_trans (no_longer x.rest) (well.content.run_length r x e);
               fit = still_fit s (is_case_ident (parent r)) x.rest (well.content.run_fit r x e);
             };
         begins = λ n e. nowhere e;
       }
     where
-      left : is_over (takes_first y) ≡ false → has_work (takes_first y) ≡ true
-      left e = or_right y.waiting (nat_lt 0 (length (behind_first y.rest))) (some_left (length (behind_first y.rest)) (sym (ap (λ b. not b && length (behind_first y.rest) == 0) idle) ∙ e))
+      left : is_over (taken_first y) ≡ false → has_work (taken_first y) ≡ true
+      left e = or_right y.waiting (nat_lt 0 (length (without_first y.rest))) (some_left (length (without_first y.rest)) (sym (ap (λ b. not b && length (without_first y.rest) == 0) idle) ∙ e))
 
   all_gone : remove taken.sites r ≡ drop s.sites r
   all_gone = same_map by_name _ _ (at_each r (λ q. get (remove taken.sites r) q ≡ get (drop s.sites r) q)
       (get-remove_same by_name taken.sites r ∙ sym (get-retain_gone by_name s.sites (λ k. not (under k r)) r (ap not (under_itself r))))
       (λ q other.
       get-remove_other by_name taken.sites r q other
-      ∙ get-update_other by_name s.sites r (with_run takes_first) q other
+      ∙ get-update_other by_name s.sites r (with_run taken_first) q other
       ∙ by_test (under q r)
       (λ lies. ancestors.none_below reader s well r y run no_net q (strictly_under_other q r other ∙ lies) ∙ sym (get-retain_gone by_name s.sites (λ k. not (under k r)) q (ap not lies)))
       (λ aside. sym (get-retain by_name s.sites (λ k. not (under k r)) q ∙ ap (λ b. cond (not b) (get s.sites q) None) aside))))
 
-  over_or_not : (b : Bool) → is_over (takes_first y) ≡ b → IsWell reader (if b then with_sites s (remove taken.sites r) else taken)
+  over_or_not : (b : Bool) → is_over (taken_first y) ≡ b → IsWell reader (if b then with_sites s (remove taken.sites r) else taken)
   over_or_not true e = subst (λ (m : Sites). IsWell reader (with_sites s m)) (sym all_gone) (dropped_is_well reader s well r)
-  over_or_not false e = turned_is_well s r None (with_run takes_first) (λ x. x) takes_first (takes e) well.parents reader well
+  over_or_not false e = turned_is_well s r None (with_run taken_first) (λ x. x) taken_first (takes e) well.parents reader well
 
   pub taken_is_well : IsWell reader (end_if_over taken r)
   taken_is_well =
-      subst (λ (o : Option RunPart). IsWell reader (if is_some_and o is_over then with_sites s (remove taken.sites r) else taken)) (sym run_now) (over_or_not (is_over (takes_first y)) refl)
+      subst (λ (o : Option RunPart). IsWell reader (if is_some_and o is_over then with_sites s (remove taken.sites r) else taken)) (sym run_now) (over_or_not (is_over (taken_first y)) refl)

@@ -15,7 +15,7 @@ use Rattle.yw_spec.specs.declared.task.Param.{Param}
 use Rattle.yw_invariant.specs.Sound.{HasVar}
 use Rattle.yw_state.proofs.MapLemmas.{never, by_test, by_option, nowhere, some_same}
 use Rattle.yw_state.specs.ByName.{Named, given_named, made_by_child, made_by_worklet, made_of_given, of_sort, var_named}
-use Rattle.yw_state.specs.Nets.{comes_in, goes_out}
+use Rattle.yw_base.specs.Usages.{comes_in, goes_out}
 use Rattle.yw_state.specs.Passing.{row_fits}
 use Rattle.yw_state.specs.State.{NetAt, ItemAt}
 use Rattle.yw_state.specs.Values.{Row}

@@ -1,36 +1,17 @@
 // What a specification uses of what is built.
 ghost use Rattle.std.specs.Prelude.{◌≡◌};
-ghost use Rattle.yw_model.specs.Accepted.{is_built_net, is_built_spec, is_built_task, is_composite, is_or};
+ghost use Rattle.yw_model.specs.Accepted.{is_built_net, is_built_spec, is_built_task};
 
-use yw_read::{RawGate, RawKind, RawNet, RawSpec, RawTask};
-
-/// The task stands for a net.
-fn is_composite(kind: RawKind) -> bool
-    ensures { result ≡ is_composite kind }
-{
-    match kind {
-        RawKind::Sub => true,
-        RawKind::Atomic | RawKind::Empty => false,
-    }
-}
-
-fn is_or(gate: RawGate) -> bool
-    ensures { result ≡ is_or gate }
-{
-    match gate {
-        RawGate::Or => true,
-        RawGate::And | RawGate::Xor => false,
-    }
-}
+use yw_read::{RawNet, RawSpec, RawTask};
 
 /// The task has neither a net nor a removal set, is no OR-join and no OR-split, and hands nothing over.
 fn is_built_task(task: &RawTask) -> bool
     ensures { result ≡ is_built_task task.now }
 {
-    !is_composite(task.kind)
+    !task.kind.is_composite()
         && task.remove.len() == 0
-        && !is_or(task.join)
-        && !is_or(task.split)
+        && !task.join.is_or()
+        && !task.split.is_or()
         && task.ins.len() == 0
         && task.outs.len() == 0
         && task.set.len() == 0

@@ -3,11 +3,9 @@
 use Rattle.std.specs.Prelude.{◌≡◌, ◌==◌, ◌&&◌, ℕ, List, length, Bool, true, false, not, is_none, Option, Some, Result, Ok, Err, option_map, if◌then◌else◌}
 use Rattle.std.specs.List.{list_all}
 use Rattle.std.specs.Str.{is_utf8}
+use Rattle.yw_base.specs.Gates.{is_or}
 use Rattle.yw_read.specs.Reading.{spec_in}
-use Rattle.yw_read.specs.declared.raw.RawGate.{RawGate}
-use Rattle.yw_read.specs.declared.raw.RawGate.TheVariants as gates
-use Rattle.yw_read.specs.declared.raw.RawKind.{RawKind}
-use Rattle.yw_read.specs.declared.raw.RawKind.TheVariants as kinds
+use Rattle.yw_read.specs.TaskKinds.{is_composite}
 use Rattle.yw_read.specs.declared.raw.RawNet.{RawNet}
 use Rattle.yw_read.specs.declared.raw.RawSpec.{RawSpec}
 use Rattle.yw_read.specs.declared.raw.RawTask.{RawTask}
@@ -18,20 +16,20 @@ use Rattle.yw_accept.specs.Faults.{broken_text}
 use Rattle.yw_accept.specs.Verdict.{IsVerdict}
 use Rattle.yw_state.specs.declared.rule.Refusal.{Refusal}
 use Rattle.yw_state.specs.declared.rule.Rule.TheVariants.{SpecText, SpecShape, SpecCheck}
-use Rattle.yw_state.specs.Broken.{placeless}
+use Rattle.yw_state.specs.Broken.{placed, placeless}
 
 -- what a text says; bytes that aren't UTF-8 are no document
 unfoldable pub document_in : List ℕ → Result RawSpec ReadFault
 document_in text = if is_utf8 text then spec_in text else Err NotToml
 
 abbrev pub check_refusal : Broken → Refusal
-check_refusal broken = record { rule = SpecCheck; at = broken_text broken }
+check_refusal broken = placed SpecCheck (broken_text broken)
 
 -- what is found wrong with a document: the first check that fails, if one does
 abbrev pub JudgesSaid : Result RawSpec ReadFault → Option Refusal → Type 0
 JudgesSaid (Ok raw) found = (broken : Option Broken) × IsVerdict raw broken × (found ≡ option_map check_refusal broken)
 JudgesSaid (Err NotToml) found = found ≡ Some (placeless SpecText)
-JudgesSaid (Err (Shape path)) found = found ≡ Some (record { rule = SpecShape; at = path })
+JudgesSaid (Err (Shape path)) found = found ≡ Some (placed SpecShape path)
 JudgesSaid (Err Memory) found = ⊥
 
 -- the first fault of a text, or none where it is accepted
@@ -39,14 +37,6 @@ abbrev pub IsJudged : List ℕ → Option Refusal → Type 0
 IsJudged text found = JudgesSaid (document_in text) found
 
 -- ---- what specifications may use of what is built
-
-abbrev pub is_composite : RawKind → Bool
-is_composite kinds.Sub = true
-is_composite kind = false
-
-abbrev pub is_or : RawGate → Bool
-is_or gates.Or = true
-is_or gate = false
 
 -- it has neither a net nor a removal set, is no OR-join and no OR-split, and hands nothing over
 abbrev pub is_built_task : RawTask → Bool

@@ -16,7 +16,7 @@ use Rattle.yw_read.specs.declared.raw.ReadFault.{ReadFault}
 use Rattle.yw_read.specs.Keys.{◌>>=◌, Gives, held, required, value_or, optional, element, elements, below, place, tables_in, tables_held, optional_tables, required_tables, unless, unknown_key}
 use Rattle.yw_read.specs.Kinds.{any_value, flows_of, if_small, list_of, one_of, small_value, sort_words, texts_of, usage_words}
 use Rattle.yw_read.specs.Tables.{var_keys, var_table, task_table, net_keys, net_table, spec_keys, spec_table}
-use Rattle.yw_read.specs.declared.raw.RawUsage.TheVariants as usages
+use Rattle.yw_base.specs.declared.usage.Usage.TheVariants as usages
 
 -- of what is read in the end, after what was read before
 bind_any : {A B : Type 0} (P : B → Type 0) (said : Result A (List ℕ)) (f : A → Result B (List ℕ)) → ((x : A) → IfOk (f x) P) → IfOk (said >>= f) P

@@ -9,7 +9,8 @@ use Rattle.std.specs.Str.{bytes_eq}
 use Rattle.std.specs.String.{string_cmp}
 use Rattle.toml.proofs.Views.{Entry}
 use Rattle.toml.specs.View.{members_view}
-use Rattle.yw_read.specs.Keys.{◌>>=◌, lesser, unknown_key}
+use Rattle.yw_base.specs.Order.{lesser}
+use Rattle.yw_read.specs.Keys.{◌>>=◌, unknown_key}
 
 -- what was read before, and what is still read
 abbrev pub with_front : {A : Type 0} → List A → Result (List A) (List ℕ) → Result (List A) (List ℕ)

@@ -9,7 +9,8 @@ use Rattle.std.specs.List.{list_any}
 use Rattle.std.specs.Ordering.{match_ordering, ordering_reverse, is_gt}
 use Rattle.std.specs.Str.{bytes_eq}
 use Rattle.toml.specs.Data.{Data, Members, no_members, member, get_member}
-use Rattle.yw_read.specs.Keys.{lesser, unknown_key, IsLeastUnknown, HasKnownKeys}
+use Rattle.yw_base.specs.Order.{lesser}
+use Rattle.yw_read.specs.Keys.{unknown_key, IsLeastUnknown, HasKnownKeys}
 
 abbrev order : List ℕ → List ℕ → Ordering
 order = slice_cmp nat_cmp

@@ -2,8 +2,9 @@
 use Rattle.std.specs.Prelude.{◌≡◌, ℕ, ◌+◌, List, [], ◌∷◌, ◌++◌, Option, Some, None, IsSome, false, true, Result, Ok, Err, codes, decimal, if◌then◌else◌, ok_or, option_map}
 use Rattle.std.specs.Cmp.Lexicographic.{slice_cmp}
 use Rattle.std.specs.List.{list_any}
-use Rattle.std.specs.Ordering.{nat_cmp, match_ordering, is_gt}
+use Rattle.std.specs.Ordering.{nat_cmp, is_gt}
 use Rattle.std.specs.Str.{bytes_eq}
+use Rattle.yw_base.specs.Order.{lesser}
 use Rattle.toml.specs.Data.{Data, Items, no_items, item, Members, no_members, member, get_member, as_table, as_array}
 use Rattle.yw_read.specs.declared.raw.ReadFault.{ReadFault}
 use Rattle.yw_read.specs.declared.raw.ReadFault.TheVariants.{NotToml, Shape, Memory}
@@ -65,11 +66,6 @@ required_tables shape key t = tables_held shape (Err key) key (get_member key t)
 -- a key with a list of tables, of which there are none where it is missing
 abbrev pub optional_tables : {A : Type 0} → (Members → Result A (List ℕ)) → List ℕ → Members → Result (List A) (List ℕ)
 optional_tables shape key t = tables_held shape (Ok []) key (get_member key t)
-
--- the lesser in byte order of a key and another, where there is another
-abbrev pub lesser : List ℕ → Option (List ℕ) → List ℕ
-lesser key None = key
-lesser key (Some other) = match_ordering (slice_cmp nat_cmp key other) key key other
 
 -- the least key in byte order that is none of those known
 abbrev pub unknown_key : List (List ℕ) → Members → Option (List ℕ)

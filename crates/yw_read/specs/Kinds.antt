@@ -8,12 +8,12 @@ use Rattle.yw_base.specs.declared.value.Sort.TheVariants as sorts
 use Rattle.yw_base.specs.declared.value.Value.{Value}
 use Rattle.yw_base.specs.declared.value.Value.TheVariants as values
 use Rattle.yw_read.specs.declared.raw.RawFlow.{RawFlow}
-use Rattle.yw_read.specs.declared.raw.RawGate.{RawGate}
-use Rattle.yw_read.specs.declared.raw.RawGate.TheVariants as gates
+use Rattle.yw_base.specs.declared.gate.Gate.{Gate}
+use Rattle.yw_base.specs.declared.gate.Gate.TheVariants as gates
 use Rattle.yw_read.specs.declared.raw.RawKind.{RawKind}
 use Rattle.yw_read.specs.declared.raw.RawKind.TheVariants as kinds
-use Rattle.yw_read.specs.declared.raw.RawUsage.{RawUsage}
-use Rattle.yw_read.specs.declared.raw.RawUsage.TheVariants as usages
+use Rattle.yw_base.specs.declared.usage.Usage.{Usage}
+use Rattle.yw_base.specs.declared.usage.Usage.TheVariants as usages
 
 -- a list whose items are all of a kind
 abbrev pub each_of : {A : Type 0} → (Data → Option A) → Items → Option (List A)
@@ -56,7 +56,7 @@ sort_words word =
     if bytes_eq word (codes "ints") then Some sorts.Ints else
     if bytes_eq word (codes "texts") then Some sorts.Texts else None
 
-abbrev pub usage_words : List ℕ → Option RawUsage
+abbrev pub usage_words : List ℕ → Option Usage
 usage_words word =
     if bytes_eq word (codes "in") then Some usages.In else
     if bytes_eq word (codes "out") then Some usages.Out else
@@ -69,7 +69,7 @@ kind_words word =
     if bytes_eq word (codes "empty") then Some kinds.Empty else
     if bytes_eq word (codes "sub") then Some kinds.Sub else None
 
-abbrev pub gate_words : List ℕ → Option RawGate
+abbrev pub gate_words : List ℕ → Option Gate
 gate_words word =
     if bytes_eq word (codes "and") then Some gates.And else
     if bytes_eq word (codes "xor") then Some gates.Xor else

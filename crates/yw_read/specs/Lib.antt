@@ -3,3 +3,4 @@ pub mod Keys
 pub mod Kinds
 pub mod Reading
 pub mod Tables
+pub mod TaskKinds

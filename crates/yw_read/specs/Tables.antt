@@ -3,7 +3,7 @@
 use Rattle.std.specs.Prelude.{ℕ, List, [], ◌∷◌, Result, codes}
 use Rattle.toml.specs.Data.{Members, as_str, as_integer, as_bool}
 use Rattle.yw_read.specs.declared.raw.RawBranch.{RawBranch}
-use Rattle.yw_read.specs.declared.raw.RawGate.TheVariants as gates
+use Rattle.yw_base.specs.declared.gate.Gate.TheVariants as gates
 use Rattle.yw_read.specs.declared.raw.RawIn.{RawIn}
 use Rattle.yw_read.specs.declared.raw.RawKind.TheVariants as kinds
 use Rattle.yw_read.specs.declared.raw.RawNet.{RawNet}
@@ -11,7 +11,7 @@ use Rattle.yw_read.specs.declared.raw.RawOut.{RawOut}
 use Rattle.yw_read.specs.declared.raw.RawSet.{RawSet}
 use Rattle.yw_read.specs.declared.raw.RawSpec.{RawSpec}
 use Rattle.yw_read.specs.declared.raw.RawTask.{RawTask}
-use Rattle.yw_read.specs.declared.raw.RawUsage.TheVariants as usages
+use Rattle.yw_base.specs.declared.usage.Usage.TheVariants as usages
 use Rattle.yw_read.specs.declared.raw.RawVar.{RawVar}
 use Rattle.yw_read.specs.Keys.{◌>>=◌, required, value_or, optional, required_tables, optional_tables, with_no_other}
 use Rattle.yw_read.specs.Kinds.{texts_of, flows_of, one_of, sort_words, usage_words, kind_words, gate_words, small_value}

@@ -6,10 +6,10 @@ ghost use Rattle.toml.specs.View.{items_view, view};
 ghost use Rattle.yw_base.specs.Values.{is_short, is_small};
 ghost use Rattle.yw_read.specs.Kinds.{any_value, each_of, flow_between, flow_in, flow_of, gate_words, kind_words, list_of, one_of, small_value, sort_words, usage_words};
 
-use crate::raw::{RawFlow, RawGate, RawKind, RawUsage};
+use crate::raw::{RawFlow, RawKind};
 use std::alloc::{AllocError, Global};
 use toml::Value as TomlValue;
-use yw_base::{IntList, Items, Sort, Text, TextList, Value};
+use yw_base::{Gate, IntList, Items, Sort, Text, TextList, Usage, Value};
 
 /// The most bytes of a text that a variable begins with.
 const MOST_TEXT_BYTES: usize = 4096;
@@ -143,22 +143,22 @@ impl FromValue for Sort {
     }
 }
 
-fn usage_of(word: &str) -> Option<RawUsage>
+fn usage_of(word: &str) -> Option<Usage>
     ensures { result ≡ usage_words word.now }
 {
     match word {
-        "in" => Some(RawUsage::In),
-        "out" => Some(RawUsage::Out),
-        "inout" => Some(RawUsage::InOut),
-        "local" => Some(RawUsage::Local),
+        "in" => Some(Usage::In),
+        "out" => Some(Usage::Out),
+        "inout" => Some(Usage::InOut),
+        "local" => Some(Usage::Local),
         _ => None,
     }
 }
 
-impl FromValue for RawUsage {
+impl FromValue for Usage {
     ghost kind = { one_of usage_words };
 
-    fn from_value(_alloc: Global, value: &TomlValue) -> Result<Option<RawUsage>, AllocError> {
+    fn from_value(_alloc: Global, value: &TomlValue) -> Result<Option<Usage>, AllocError> {
         match value.as_str() {
             None => Ok(None),
             Some(word) => Ok(usage_of(word)),
@@ -188,21 +188,21 @@ impl FromValue for RawKind {
     }
 }
 
-fn gate_of(word: &str) -> Option<RawGate>
+fn gate_of(word: &str) -> Option<Gate>
     ensures { result ≡ gate_words word.now }
 {
     match word {
-        "and" => Some(RawGate::And),
-        "xor" => Some(RawGate::Xor),
-        "or" => Some(RawGate::Or),
+        "and" => Some(Gate::And),
+        "xor" => Some(Gate::Xor),
+        "or" => Some(Gate::Or),
         _ => None,
     }
 }
 
-impl FromValue for RawGate {
+impl FromValue for Gate {
     ghost kind = { one_of gate_words };
 
-    fn from_value(_alloc: Global, value: &TomlValue) -> Result<Option<RawGate>, AllocError> {
+    fn from_value(_alloc: Global, value: &TomlValue) -> Result<Option<Gate>, AllocError> {
         match value.as_str() {
             None => Ok(None),
             Some(word) => Ok(gate_of(word)),

@@ -8,9 +8,9 @@ mod reading;
 mod tables;
 
 pub use raw::{
-    RawBranch, RawBranchList, RawFlow, RawFlowList, RawGate, RawIn, RawInList, RawKind, RawNet,
-    RawNetList, RawOut, RawOutList, RawSet, RawSetList, RawSpec, RawTask, RawTaskList, RawUsage,
-    RawVar, RawVarList, ReadFault,
+    RawBranch, RawBranchList, RawFlow, RawFlowList, RawIn, RawInList, RawKind, RawNet, RawNetList,
+    RawOut, RawOutList, RawSet, RawSetList, RawSpec, RawTask, RawTaskList, RawVar, RawVarList,
+    ReadFault,
 };
 pub use reading::read_spec;
 

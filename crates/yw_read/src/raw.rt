@@ -1,8 +1,10 @@
 // A specification as its document says it, before any check of what it means.
+ghost use Rattle.std.specs.Prelude.{◌≡◌};
+ghost use Rattle.yw_read.specs.TaskKinds.{is_composite, is_empty};
 ghost use Rattle.yw_read.specs.declared.raw.ReadFault.TheVariants.{Memory};
 
 use std::alloc::{AllocError, AllocFailed};
-use yw_base::{Items, Sort, Text, TextList, Value};
+use yw_base::{Gate, Items, Sort, Text, TextList, Usage, Value};
 
 /// A specification as its document says it. Nothing is checked but the kinds of values: a text that stands
 /// for a name needn't be one, and what a reference names needn't be there.
@@ -61,23 +63,10 @@ pub struct RawVar {
     /// The key `sort`.
     pub sort: Sort,
     /// The key `use`. It is `Local` where the key is missing.
-    pub usage: RawUsage,
+    pub usage: Usage,
     /// The key `init`: the first value, of the sort. Its texts have at most 4,096 bytes and its lists at most
     /// 1,000 values. `None` where the key is missing, which stands for the zero of the sort.
     pub init: Option<Value>,
-}
-
-/// How values come into a variable and leave it.
-#[derive(Clone, Copy, Debug, PartialEq, Eq)]
-pub enum RawUsage {
-    /// `in`: the net is given its first value.
-    In,
-    /// `out`: the net gives its last value.
-    Out,
-    /// `inout`: both.
-    InOut,
-    /// `local`: neither.
-    Local,
 }
 
 /// Tasks in the order of the document.
@@ -95,9 +84,9 @@ pub struct RawTask {
     /// The key `role`: the role of who may do the work. `None` where the key is missing.
     pub role: Option<Text>,
     /// The key `join`. It is `And` where the key is missing.
-    pub join: RawGate,
+    pub join: Gate,
     /// The key `split`. It is `And` where the key is missing.
-    pub split: RawGate,
+    pub split: Gate,
     /// The key `branch`: the branches of the split. It is empty where the key is missing.
     pub branch: RawBranchList,
     /// The key `remove`: the places and tasks that are emptied at the exit. It is empty where the key is missing.
@@ -135,15 +124,26 @@ pub enum RawKind {
     Sub,
 }
 
-/// What a join waits for, and what a split gives.
-#[derive(Clone, Copy, Debug, PartialEq, Eq)]
-pub enum RawGate {
-    /// `and`: all flows.
-    And,
-    /// `xor`: one flow.
-    Xor,
-    /// `or`: some flows.
-    Or,
+impl RawKind {
+    /// Its items run in a net: the paper's composite task.
+    pub fn is_composite(self) -> bool
+        ensures { result ≡ is_composite self }
+    {
+        match self {
+            RawKind::Sub => true,
+            RawKind::Atomic | RawKind::Empty => false,
+        }
+    }
+
+    /// Nobody does its items.
+    pub fn is_empty(self) -> bool
+        ensures { result ≡ is_empty self }
+    {
+        match self {
+            RawKind::Empty => true,
+            RawKind::Atomic | RawKind::Sub => false,
+        }
+    }
 }
 
 /// Branches in the order of the document.

@@ -7,12 +7,11 @@ use crate::keys::{
     with_no_other,
 };
 use crate::raw::{
-    RawBranch, RawGate, RawIn, RawKind, RawNet, RawOut, RawSet, RawSpec, RawTask, RawUsage, RawVar,
-    ReadFault,
+    RawBranch, RawIn, RawKind, RawNet, RawOut, RawSet, RawSpec, RawTask, RawVar, ReadFault,
 };
 use std::alloc::Global;
 use toml::Table;
-use yw_base::Items;
+use yw_base::{Gate, Items, Usage};
 
 const VAR_KEYS: [&str; 4] = ["name", "sort", "use", "init"];
 
@@ -63,7 +62,7 @@ impl FromTable for RawVar {
     fn from_table(alloc: Global, table: &Table) -> Result<RawVar, ReadFault> {
         let name = required(alloc, table, "name")?;
         let sort = required(alloc, table, "sort")?;
-        let usage = value_or(alloc, table, "use", RawUsage::Local)?;
+        let usage = value_or(alloc, table, "use", Usage::Local)?;
         let init = optional_value(alloc, table, "init", sort)?;
         with_no_other(
             alloc,
@@ -133,8 +132,8 @@ impl FromTable for RawTask {
         let kind = value_or(alloc, table, "kind", RawKind::Atomic)?;
         let net = optional(alloc, table, "net")?;
         let role = optional(alloc, table, "role")?;
-        let join = value_or(alloc, table, "join", RawGate::And)?;
-        let split = value_or(alloc, table, "split", RawGate::And)?;
+        let join = value_or(alloc, table, "join", Gate::And)?;
+        let split = value_or(alloc, table, "split", Gate::And)?;
         let branch = optional_tables(alloc, table, "branch")?;
         let remove = value_or(alloc, table, "remove", Items::new(alloc))?;
         let ins = optional_tables(alloc, table, "ins")?;

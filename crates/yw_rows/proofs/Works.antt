@@ -9,7 +9,7 @@ use Rattle.yw_state.specs.Answers.{IsWork}
 use Rattle.yw_state.specs.Broken.{Check, First, enter_checks, fact, fact_at, fault, placed, placeless, test, test_at}
 use Rattle.yw_state.specs.Identity.{Ident}
 use Rattle.yw_state.specs.Joins.{Waits}
-use Rattle.yw_state.specs.Nets.{is_or}
+use Rattle.yw_base.specs.Gates.{is_or}
 use Rattle.yw_state.specs.Options.{is_some_and}
 use Rattle.yw_state.specs.State.{State, TaskAt, task_at}
 use Rattle.yw_state.specs.declared.answer.What.TheVariants.{Enter}

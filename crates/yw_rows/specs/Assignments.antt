@@ -13,8 +13,8 @@ use Rattle.yw_rows.specs.Written.{load, net, net_row, nothing_shown, person, pla
 use Rattle.yw_spec.specs.declared.spec.Net.{Net}
 use Rattle.yw_spec.specs.declared.spec.Place.TheVariants.{Between, Named}
 use Rattle.yw_spec.specs.declared.spec.Spec.{Spec}
-use Rattle.yw_spec.specs.declared.spec.Usage.TheVariants as usages
-use Rattle.yw_spec.specs.declared.task.Gate.TheVariants.{Xor}
+use Rattle.yw_base.specs.declared.usage.Usage.TheVariants as usages
+use Rattle.yw_base.specs.declared.gate.Gate.TheVariants.{Xor}
 use Rattle.yw_spec.specs.declared.task.Kind.TheVariants.{Empty}
 use Rattle.yw_state.specs.declared.answer.Shown.{Shown}
 use Rattle.yw_state.specs.declared.event.Event.TheVariants as events

@@ -8,7 +8,7 @@ use Rattle.yw_rows.specs.Written.{item, load, net, net_row, nothing_shown, perso
 use Rattle.yw_spec.specs.declared.spec.Net.{Net}
 use Rattle.yw_spec.specs.declared.spec.Place.TheVariants.{Named}
 use Rattle.yw_spec.specs.declared.spec.Spec.{Spec}
-use Rattle.yw_spec.specs.declared.task.Gate.TheVariants.{Or}
+use Rattle.yw_base.specs.declared.gate.Gate.TheVariants.{Or}
 use Rattle.yw_state.specs.declared.answer.Shown.{Shown}
 use Rattle.yw_state.specs.declared.event.Event.TheVariants as events
 use Rattle.yw_state.specs.declared.part.Stage.TheVariants as stages

@@ -15,7 +15,7 @@ use Rattle.yw_rows.specs.Written.{load, net, person, plain, rule, spec, task, tr
 use Rattle.yw_spec.specs.declared.spec.Net.{Net}
 use Rattle.yw_spec.specs.declared.spec.Place.TheVariants.{Named}
 use Rattle.yw_spec.specs.declared.spec.Spec.{Spec}
-use Rattle.yw_spec.specs.declared.spec.Usage.TheVariants as usages
+use Rattle.yw_base.specs.declared.usage.Usage.TheVariants as usages
 use Rattle.yw_state.specs.declared.event.Event.TheVariants as events
 use Rattle.yw_state.specs.declared.tree.Conclusion.TheVariants.{Exlet}
 use Rattle.yw_state.specs.declared.tree.Primitive.TheVariants as primitives

@@ -7,9 +7,9 @@ use Rattle.yw_rows.specs.Play.{Entry}
 use Rattle.yw_spec.specs.declared.spec.Net.{Net}
 use Rattle.yw_spec.specs.declared.spec.Place.{Place}
 use Rattle.yw_spec.specs.declared.spec.Spec.{Spec}
-use Rattle.yw_spec.specs.declared.spec.Usage.{Usage}
+use Rattle.yw_base.specs.declared.usage.Usage.{Usage}
 use Rattle.yw_spec.specs.declared.spec.Var.{Var}
-use Rattle.yw_spec.specs.declared.task.Gate.TheVariants.{And}
+use Rattle.yw_base.specs.declared.gate.Gate.TheVariants.{And}
 use Rattle.yw_spec.specs.declared.task.Kind.TheVariants.{Atomic}
 use Rattle.yw_spec.specs.declared.task.Task.{Task}
 use Rattle.yw_state.specs.Identity.{Ident}

@@ -18,10 +18,11 @@ use Rattle.yw_spec.specs.declared.task.Kind.{Kind}
 use Rattle.yw_spec.specs.declared.task.Kind.TheVariants as kinds
 use Rattle.yw_spec.specs.declared.task.Many.{Many}
 use Rattle.yw_spec.specs.declared.task.Param.{Param}
+use Rattle.yw_read.specs.TaskKinds.{is_empty}
 use Rattle.yw_read.specs.declared.raw.RawBranch.{RawBranch}
 use Rattle.yw_read.specs.declared.raw.RawFlow.{RawFlow}
-use Rattle.yw_read.specs.declared.raw.RawGate.{RawGate}
-use Rattle.yw_read.specs.declared.raw.RawGate.TheVariants as gates
+use Rattle.yw_base.specs.declared.gate.Gate.{Gate}
+use Rattle.yw_base.specs.declared.gate.Gate.TheVariants as gates
 use Rattle.yw_read.specs.declared.raw.RawIn.{RawIn}
 use Rattle.yw_read.specs.declared.raw.RawKind.{RawKind}
 use Rattle.yw_read.specs.declared.raw.RawKind.TheVariants as raw_kinds
@@ -36,7 +37,7 @@ use Rattle.yw_accept.specs.Graph.{may_be_child}
 use Rattle.yw_accept.specs.Names.{may_lead}
 use Rattle.yw_accept.specs.Nodes.{is_among, leads_to, HasFlow}
 use Rattle.yw_accept.specs.Scopes.{Spells, names_var, vars_scope, set_scope}
-use Rattle.yw_accept.specs.Tasks.{split_fits, least, greatest, enough, is_empty_kind, bounds_fit, item_fits, in_names, has_no_bounds}
+use Rattle.yw_accept.specs.Tasks.{split_fits, least, greatest, enough, bounds_fit, item_fits, in_names, has_no_bounds}
 use Rattle.yw_said.proofs.SomeLists.{among_contains, contains_unmap, number_called, number_named}
 use Rattle.yw_said.proofs.SomePlaces.{flow_place}
 use Rattle.yw_said.proofs.SomeFacts.{TaskCanBeBuilt}
@@ -56,7 +57,7 @@ may_mean scope Wanted (Some text) h = let found = tree_of scope Wanted text (h 0
 none_all : {A : Type 0} (P : A → Type 0) (xs : List A) → length xs ≡ 0 → All P xs
 none_all P xs none i d lt = absurd (omega (arith, lt, none))
 
-to_outputs : (gate : RawGate) (outputs : List (List ℕ)) (branches : List RawBranch) → split_fits gate outputs branches ≡ true → All (λ (b : RawBranch). is_among outputs b.to ≡ true) branches
+to_outputs : (gate : Gate) (outputs : List (List ℕ)) (branches : List RawBranch) → split_fits gate outputs branches ≡ true → All (λ (b : RawBranch). is_among outputs b.to ≡ true) branches
 to_outputs gates.And outputs branches h = none_all (λ (b : RawBranch). is_among outputs b.to ≡ true) branches (grind (arith, nat_tests))
 to_outputs gates.Xor outputs branches h = AllPass-from_list_all (λ (b : RawBranch). is_among outputs b.to) branches (and_parts _ _ (and_parts _ _ h).0).0
 to_outputs gates.Or outputs branches h = AllPass-from_list_all (λ (b : RawBranch). is_among outputs b.to) branches (and_parts _ _ (and_parts _ _ h).0).0
@@ -141,7 +142,7 @@ item_is task h =
     let (name, is, among) = item_named task task.item h in
     record { name = name; is = is; number = number_called (λ (p : RawIn). p.name) task.ins name among }
 
-pub some_items : (net : RawNet) (task : RawTask) (each : Option (List ℕ)) → option_map_or (λ _. not (is_empty_kind task.kind) && bounds_fit task && item_fits task) each (has_no_bounds task) ≡ true → ((e : Option Tree) × MayMean (vars_scope net) each e) → (many : Option Many) × MayBeItems net task each many
+pub some_items : (net : RawNet) (task : RawTask) (each : Option (List ℕ)) → option_map_or (λ _. not (is_empty task.kind) && bounds_fit task && item_fits task) each (has_no_bounds task) ≡ true → ((e : Option Tree) × MayMean (vars_scope net) each e) → (many : Option Many) × MayBeItems net task each many
 some_items net task None h e = (None, tt)
 some_items net task (Some each) h (None, means) = absurd means
 some_items net task (Some each) h (Some e, means) =

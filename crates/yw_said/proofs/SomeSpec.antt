@@ -14,7 +14,7 @@ use Rattle.yw_read.specs.declared.raw.RawIn.{RawIn}
 use Rattle.yw_read.specs.declared.raw.RawNet.{RawNet}
 use Rattle.yw_read.specs.declared.raw.RawSpec.{RawSpec}
 use Rattle.yw_read.specs.declared.raw.RawTask.{RawTask}
-use Rattle.yw_accept.specs.Built.{gate_of, var_of, out_of, places_of, MayMean, IsPlaceOf, IsPlaceCalled, IsTaskCalled, IsBranch, IsParam, IsAssign, IsTask, IsNet, IsSpec}
+use Rattle.yw_accept.specs.Built.{var_of, out_of, places_of, MayMean, IsPlaceOf, IsPlaceCalled, IsTaskCalled, IsBranch, IsParam, IsAssign, IsTask, IsNet, IsSpec}
 use Rattle.yw_accept.specs.Facts.{NetLeads}
 use Rattle.yw_accept.specs.Names.{may_be_emptied}
 use Rattle.yw_accept.specs.Nodes.{is_task}
@@ -65,8 +65,8 @@ some_task raw net leads said fits =
         name = said.name;
         kind = kind.0;
         role = said.role;
-        join = gate_of said.join;
-        split = gate_of said.split;
+        join = said.join;
+        split = said.split;
         before = before.0;
         after = after.0;
         branch = branch.0;

@@ -6,7 +6,7 @@ mod task;
 #[cfg(test)]
 mod tests;
 
-pub use spec::{Net, NetList, Place, PlaceList, Spec, TaskList, Usage, Var, VarList, arrow_text};
+pub use spec::{Net, NetList, Place, PlaceList, Spec, TaskList, Var, VarList, arrow_text};
 pub use task::{
-    Assign, Branch, BranchList, Gate, IndexList, Kind, Many, Param, ParamList, SetList, Task,
+    Assign, Branch, BranchList, IndexList, Kind, Many, Param, ParamList, SetList, Task,
 };

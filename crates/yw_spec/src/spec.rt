@@ -4,7 +4,7 @@ ghost use Rattle.yw_spec.specs.Net.{arrow_text, place_text};
 
 use crate::Task;
 use std::alloc::{AllocError, Global};
-use yw_base::{Items, Name, Sort, Value};
+use yw_base::{Items, Name, Sort, Usage, Value};
 
 /// A process as it is loaded: nets, of which the top one is a case's own. The paper's specification.
 #[derive(Debug, Drop)]
@@ -89,17 +89,4 @@ pub struct Var {
     pub usage: Usage,
     /// Its value at the beginning, where none comes in. It is of the variable's sort.
     pub init: Value,
-}
-
-/// Whether a variable's value comes from outside its net, and whether it is handed back.
-#[derive(Clone, Copy, Debug, PartialEq, Eq)]
-pub enum Usage {
-    /// A value comes in.
-    In,
-    /// The value goes out.
-    Out,
-    /// A value comes in, and the value goes out.
-    InOut,
-    /// Neither.
-    Local,
 }

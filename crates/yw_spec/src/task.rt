@@ -1,5 +1,5 @@
 // Tasks: joins and splits, what they take away, what is handed over, and how many items they have.
-use yw_base::{Items, Name, Sort};
+use yw_base::{Gate, Items, Name, Sort};
 use yw_expr::Expr;
 
 /// A task of a net. Joins, splits, removal sets and bounds are the paper's; branches in order with a default
@@ -57,17 +57,6 @@ pub enum Kind {
     Empty,
     /// The net with this number in the specification. The paper's composite task.
     Sub(usize),
-}
-
-/// A join or a split.
-#[derive(Clone, Copy, Debug, PartialEq, Eq)]
-pub enum Gate {
-    /// All places.
-    And,
-    /// Exactly one place.
-    Xor,
-    /// One place or more.
-    Or,
 }
 
 /// A branch of a split.

@@ -10,10 +10,11 @@ use Rattle.yw_state.proofs.Alike.{KnowsMore, later, later_is_well, untouched}
 use Rattle.yw_state.proofs.MapLemmas.{by_names, by_option, by_test, get-insert, insert_stands, some_same}
 use Rattle.yw_state.proofs.TreePlaces.{one_place}
 use Rattle.yw_state.specs.Allowed.{Allowed, allows, fits_tree}
+use Rattle.std.specs.Bool.{beq}
 use Rattle.yw_state.specs.Events.{after}
 use Rattle.yw_state.specs.Judged.{is_tree_place, place_key, rules_at}
 use Rattle.yw_state.specs.Map.{get, insert, lexical_each}
-use Rattle.yw_state.specs.NewRule.{has_room, is_side, is_taken, may_conclude, most_rules, same_side, tree_scope}
+use Rattle.yw_state.specs.NewRule.{has_room, is_side, is_taken, may_conclude, most_rules, tree_scope}
 use Rattle.yw_state.specs.Options.{is_some_and}
 use Rattle.yw_state.specs.RuleTree.{TreeRule}
 use Rattle.yw_state.specs.State.{State, spec_called}
@@ -30,7 +31,7 @@ free_push before [] r n e free side before_free rest_free =
     and_from _ _ (and_from _ _ (subst (λ k. is_side k r.at r.side ≡ true) (omega arith) side) (not_from_false _ before_free)) refl
 free_push before (x ∷ rs) r n e free side before_free rest_free =
     let parts = and_parts (is_side (length before) x.at x.side && not (is_taken before x.at x.side)) (stand_free (x ∷ before) rs) free in
-    let taken = or_parts (x.at == r.at && same_side x.side r.side) (is_taken rs r.at r.side) rest_free in
+    let taken = or_parts (x.at == r.at && beq x.side r.side) (is_taken rs r.at r.side) rest_free in
     and_from _ _ parts.0 (free_push (x ∷ before) rs r n (omega arith) parts.1 side (or_from _ _ taken.0 before_free) taken.1)
 
 -- The rules of the tree at this place are as they should be.

@@ -7,7 +7,7 @@ use Rattle.yw_state.specs.After.{change, complete, completed, end_net, exit, mak
 use Rattle.yw_state.specs.Allowed.{Allowed, allows, exit_values, place_numbers}
 use Rattle.yw_state.specs.ByName.{made_of_given, made_by_child, made_by_worklet}
 use Rattle.yw_state.specs.Events.{after}
-use Rattle.yw_state.specs.Exlets.{case_of, end_compensation, primitive, take_primitive}
+use Rattle.yw_state.specs.Exlets.{case_of, end_compensation, primitive, take_primitive, taken_first}
 use Rattle.yw_state.specs.Gone.{cut_back_removes, exit_removes, primitive_removes, removes}
 use Rattle.yw_state.specs.Identity.{Ident, case_ident, parent, same, strictly_under}
 use Rattle.yw_state.specs.Map.{get, retain}
@@ -56,18 +56,14 @@ without_tokens-stays q k below s i x =
 
 -- ---- the state in which a run has taken its first primitive
 
-abbrev behind_first : List Primitive → List Primitive
-behind_first [] = []
-behind_first (p ∷ ps) = ps
-
 abbrev pub taken : State → Ident → State
-taken s r = change s r (with_run (λ x. record x { rest = behind_first x.rest }))
+taken s r = change s r (with_run taken_first)
 
 same_net : (s : State) (r i : Ident) → net_part (taken s r) i ≡ net_part s i
-same_net s r i = part-kept (λ x. x.net) (with_run (λ x. record x { rest = behind_first x.rest })) (λ x. refl) s.sites r i
+same_net s r i = part-kept (λ x. x.net) (with_run taken_first) (λ x. refl) s.sites r i
 
 same_item : (s : State) (r j : Ident) → item_part (taken s r) j ≡ item_part s j
-same_item s r j = part-kept (λ x. x.item) (with_run (λ x. record x { rest = behind_first x.rest })) (λ x. refl) s.sites r j
+same_item s r j = part-kept (λ x. x.item) (with_run taken_first) (λ x. refl) s.sites r j
 
 pub same_item_at : (s : State) (r j : Ident) → item_at (taken s r) j ≡ item_at s j
 same_item_at s r j = rw (same_net s r (parent j), same_item s r j) refl

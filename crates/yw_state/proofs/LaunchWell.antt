@@ -18,7 +18,8 @@ use Rattle.yw_state.specs.Allowed.{Allowed, allows, is_next, launch_fits, most_t
 use Rattle.yw_state.specs.Events.{after}
 use Rattle.yw_state.specs.Identity.{case_ident}
 use Rattle.yw_state.specs.Map.{get}
-use Rattle.yw_state.specs.Nets.{comes_in, top_net}
+use Rattle.yw_base.specs.Usages.{comes_in}
+use Rattle.yw_state.specs.Nets.{top_net}
 use Rattle.yw_state.specs.Options.{is_some_and}
 use Rattle.yw_state.specs.State.{State, Site, NetPart, is_target, spec_called, top_called}
 use Rattle.yw_state.specs.Texts.{Reader, Said}

@@ -20,7 +20,8 @@ use Rattle.yw_state.specs.Identity.{Ident, case_ident, case_number, parent}
 use Rattle.yw_state.specs.Joins.{NoWait, at_output, joins}
 use Rattle.yw_state.specs.Judged.{conclusion_at, is_select, is_tree_place, judged, rules_at}
 use Rattle.yw_state.specs.Map.{has_key}
-use Rattle.yw_state.specs.Nets.{child_net, comes_in, is_among, is_atomic, is_empty, place_number}
+use Rattle.yw_base.specs.Usages.{comes_in}
+use Rattle.yw_state.specs.Nets.{child_net, is_among, is_atomic, is_empty, place_number}
 use Rattle.yw_state.specs.NewRule.{has_room, is_side, is_taken, may_conclude}
 use Rattle.yw_state.specs.Options.{all_of, is_some_and}
 use Rattle.yw_state.specs.Passing.{entry_values, given_values, is_defined, kept_values, made_rows, made_rows_with, row_fits, split_places, within_bounds}
@@ -71,9 +72,7 @@ may_add_rule s p at side conclusion number said = false
 
 -- a value of each variable's sort, which is its own first value where none comes in
 abbrev pub launch_fits : List Var → Row → Bool
-launch_fits [] [] = true
-launch_fits (x ∷ xs) (v ∷ vs) = may_hold x.sort v && (comes_in x.usage || same_value v x.init) && launch_fits xs vs
-launch_fits xs vs = false
+launch_fits = pointwise (λ (x : Var) v. may_hold x.sort v && (comes_in x.usage || same_value v x.init))
 
 abbrev may_launch : State → ℕ → List ℕ → Row → Bool
 may_launch s n name vals = is_next s n && is_some_and (top_called s name) (λ (net : Net). launch_fits net.vars vals)

@@ -19,7 +19,8 @@ use Rattle.yw_state.specs.Identity.{Ident, case_number, is_case_ident, parent}
 use Rattle.yw_state.specs.Joins.{Waits, has_tokens}
 use Rattle.yw_state.specs.Judged.{has_rule, is_manual, is_tree_place, judged, rules_at}
 use Rattle.yw_state.specs.Map.{get, has_key}
-use Rattle.yw_state.specs.Nets.{is_atomic, is_or}
+use Rattle.yw_base.specs.Gates.{is_or}
+use Rattle.yw_state.specs.Nets.{is_atomic}
 use Rattle.yw_state.specs.NewRule.{has_room, is_side, is_taken, may_conclude, tree_scope}
 use Rattle.yw_state.specs.Options.{is_some_and}
 use Rattle.yw_state.specs.Passing.{elements_for, entry_values, made_rows_with, set_row, within_bounds}

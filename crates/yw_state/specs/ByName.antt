@@ -10,7 +10,7 @@ use Rattle.yw_spec.specs.declared.spec.Net.{Net}
 use Rattle.yw_spec.specs.declared.spec.Var.{Var}
 use Rattle.yw_spec.specs.declared.task.Param.{Param}
 use Rattle.yw_state.specs.Identity.{Ident, is_case_ident}
-use Rattle.yw_state.specs.Nets.{comes_in, goes_out}
+use Rattle.yw_base.specs.Usages.{comes_in, goes_out}
 use Rattle.yw_state.specs.State.{State, NetAt, ItemAt, net_at, item_at}
 use Rattle.yw_state.specs.Values.{Row}
 

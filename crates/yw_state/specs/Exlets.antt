@@ -1,5 +1,5 @@
 -- What each primitive of an exlet does. After the thesis's primitives; the set of them and what each does are our own.
-use Rattle.std.specs.Prelude.{ℕ, ◌==◌, ◌&&◌, true, false, not, List, [], ◌∷◌, length, None, nat_lt, if◌then◌else◌}
+use Rattle.std.specs.Prelude.{ℕ, Bool, ◌==◌, ◌&&◌, true, false, not, List, [], ◌∷◌, length, None, nat_lt, if◌then◌else◌}
 use Rattle.yw_spec.specs.declared.spec.Net.{Net}
 use Rattle.yw_spec.specs.declared.spec.Spec.{Spec}
 use Rattle.yw_state.specs.After.{change, completed, end_case, make_select_due, new_net, stands, where_some, where_spec, with_item, with_run, with_sites}
@@ -65,22 +65,26 @@ primitive s r j (Unknown text) = s
 
 -- ---- the run goes on
 
-abbrev without_first : List Primitive → List Primitive
+abbrev pub without_first : List Primitive → List Primitive
 without_first [] = []
 without_first (p ∷ ps) = ps
 
-abbrev taken_first : RunPart → RunPart
+abbrev pub taken_first : RunPart → RunPart
 taken_first x = record x { rest = without_first x.rest }
 
--- a run goes that has nothing left to do and doesn't wait
+-- it has nothing left to do and doesn't wait
+abbrev pub is_over : RunPart → Bool
+is_over x = not x.waiting && length x.rest == 0
+
+-- a run goes that is over
 abbrev pub end_if_over : State → Ident → State
-end_if_over s r = if is_some_and (run_part s r) (λ x. not x.waiting && length x.rest == 0) then with_sites s (remove s.sites r) else s
+end_if_over s r = if is_some_and (run_part s r) is_over then with_sites s (remove s.sites r) else s
 
 -- the run takes its first primitive
 abbrev pub take_primitive : State → Ident → Primitive → State
 take_primitive s r p = end_if_over (primitive (change s r (with_run taken_first)) r (parent r) p) r
 
-abbrev going_on : RunPart → RunPart
+abbrev pub going_on : RunPart → RunPart
 going_on x = record x { waiting = false }
 
 -- the run's compensation goes

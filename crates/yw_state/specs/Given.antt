@@ -3,7 +3,6 @@
 use Rattle.std.specs.Prelude.{ℕ, ◌&&◌, Bool, not, List, [], ◌∷◌, map, filter, find, Option, Some, None, is_some, is_none, option_map, option_and_then, unwrap_or, if◌then◌else◌}
 use Rattle.std.specs.Option.{option_or}
 use Rattle.std.specs.List.{list_any}
-use Rattle.std.specs.Ordering.{is_lt}
 use Rattle.std.specs.Str.{bytes_eq}
 use Rattle.yw_base.specs.Values.{may_hold}
 use Rattle.yw_base.specs.declared.value.Sort.{Sort}
@@ -14,8 +13,8 @@ use Rattle.yw_spec.specs.declared.spec.Var.{Var}
 use Rattle.yw_spec.specs.declared.task.Param.{Param}
 use Rattle.yw_spec.specs.declared.task.Task.{Task}
 use Rattle.yw_state.specs.Allowed.{element_param}
-use Rattle.yw_state.specs.Map.{lexical}
-use Rattle.yw_state.specs.Nets.{comes_in}
+use Rattle.yw_base.specs.Order.{lesser}
+use Rattle.yw_base.specs.Usages.{comes_in}
 use Rattle.yw_state.specs.Options.{all_of}
 use Rattle.yw_state.specs.Values.{Row}
 use Rattle.yw_state.specs.declared.command.Given.{Given}
@@ -35,15 +34,12 @@ as_sort sort v = option_and_then (λ x. if_fitting sort (meant sort x)) v
 abbrev given_under : List Given → List ℕ → Option Value
 given_under gs name = option_and_then (λ (g : Given). g.value) (find (λ (g : Given). bytes_eq g.name name) gs)
 
--- the first name in byte order whose value fails the test
-abbrev lesser : List ℕ → Option (List ℕ) → List ℕ
-lesser name None = name
-lesser name (Some other) = if is_lt (lexical other name) then other else name
-
+-- the least in byte order, where there are names
 abbrev least : List (List ℕ) → Option (List ℕ)
 least [] = None
 least (name ∷ names) = Some (lesser name (least names))
 
+-- the first name in byte order whose value fails the test
 abbrev first_failing : (Given → Bool) → List Given → Option (List ℕ)
 first_failing p gs = least (map (λ (g : Given). g.name) (filter (λ g. not (p g)) gs))
 

@@ -5,10 +5,11 @@ use Rattle.std.specs.Prelude.{ℕ, ◌==◌, ◌&&◌, Bool, not, List, [], ◌�
 use Rattle.std.specs.Cmp.Lexicographic.{pointwise}
 use Rattle.std.specs.List.{list_all, list_any}
 use Rattle.yw_spec.specs.Net.{Node, at_place, at_task, Path}
-use Rattle.yw_spec.specs.declared.task.Gate.{Gate}
-use Rattle.yw_spec.specs.declared.task.Gate.TheVariants.{And, Xor, Or}
+use Rattle.yw_base.specs.declared.gate.Gate.{Gate}
+use Rattle.yw_base.specs.declared.gate.Gate.TheVariants.{And, Xor, Or}
 use Rattle.yw_state.specs.Identity.{Ident}
-use Rattle.yw_state.specs.Nets.{is_among, is_or}
+use Rattle.yw_base.specs.Gates.{is_or}
+use Rattle.yw_state.specs.Nets.{is_among}
 use Rattle.yw_state.specs.Options.{is_some_and}
 use Rattle.yw_state.specs.State.{State, TaskAt, net_at, tokens_on}
 use Rattle.yw_state.specs.Words.{active}

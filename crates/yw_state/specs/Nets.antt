@@ -6,10 +6,6 @@ use Rattle.yw_spec.specs.declared.spec.Net.{Net}
 use Rattle.yw_spec.specs.declared.spec.Place.{Place}
 use Rattle.yw_spec.specs.declared.spec.Place.TheVariants.{Named, Between}
 use Rattle.yw_spec.specs.declared.spec.Spec.{Spec}
-use Rattle.yw_spec.specs.declared.spec.Usage.{Usage}
-use Rattle.yw_spec.specs.declared.spec.Usage.TheVariants as usages
-use Rattle.yw_spec.specs.declared.task.Gate.{Gate}
-use Rattle.yw_spec.specs.declared.task.Gate.TheVariants.{Or}
 use Rattle.yw_spec.specs.declared.task.Kind.{Kind}
 use Rattle.yw_spec.specs.declared.task.Kind.TheVariants as kinds
 use Rattle.yw_spec.specs.declared.task.Task.{Task}
@@ -63,21 +59,3 @@ is_empty t = empty_kind t.kind
 -- the number of a composite task's child net
 abbrev pub child_net : Task → Option ℕ
 child_net t = child_of_kind t.kind
-
-abbrev pub is_or : Gate → Bool
-is_or Or = true
-is_or gate = false
-
--- ---- variables
-
--- a value comes in
-abbrev pub comes_in : Usage → Bool
-comes_in usages.In = true
-comes_in usages.InOut = true
-comes_in usage = false
-
--- the value is handed back
-abbrev pub goes_out : Usage → Bool
-goes_out usages.Out = true
-goes_out usages.InOut = true
-goes_out usage = false

@@ -1,6 +1,7 @@
 -- What a new rule of a tree must keep to: the names of which its condition may speak, and what it may conclude. After the thesis; the
 -- primitives and where they may stand are our own.
 use Rattle.std.specs.Prelude.{ℕ, ◌==◌, ◌&&◌, ◌||◌, Bool, true, false, not, List, [], ◌∷◌, ◌++◌, map, length, Option, Some, is_none, option_map, option_and_then, unwrap_or, nat_le, nat_lt}
+use Rattle.std.specs.Bool.{beq}
 use Rattle.std.specs.List.{list_all, list_any}
 use Rattle.yw_expr.specs.Scope.{binding}
 use Rattle.yw_expr.specs.declared.scope.Binding.{Binding}
@@ -38,23 +39,19 @@ tree_scope spec p = unwrap_or (scope_in spec p.net p.task) []
 
 -- ---- sides
 
-abbrev pub same_side : Bool → Bool → Bool
-same_side true b = b
-same_side false b = not b
-
 -- the tree of so many rules has this node, and it this side; nothing stands where node 0 is false
 abbrev pub is_side : ℕ → ℕ → Bool → Bool
 is_side count at side = nat_le at count && (side || nat_lt 0 at)
 
 abbrev pub is_taken : List TreeRule → ℕ → Bool → Bool
-is_taken rs at side = list_any (λ (r : TreeRule). r.at == at && same_side r.side side) rs
+is_taken rs at side = list_any (λ (r : TreeRule). r.at == at && beq r.side side) rs
 
 -- ---- conclusions
 
 abbrev pub most_primitives : ℕ
 most_primitives = 16
 
-abbrev is_of_item : Primitive → Bool
+abbrev pub is_of_item : Primitive → Bool
 is_of_item primitives.SuspendItem = true
 is_of_item primitives.ContinueItem = true
 is_of_item primitives.RestartItem = true
@@ -62,7 +59,7 @@ is_of_item primitives.CompleteItem = true
 is_of_item primitives.RemoveItem = true
 is_of_item p = false
 
-abbrev is_removal : Primitive → Bool
+abbrev pub is_removal : Primitive → Bool
 is_removal primitives.RemoveItem = true
 is_removal primitives.RemoveCase = true
 is_removal p = false
@@ -72,7 +69,7 @@ is_known s (primitives.Compensate name) = has_key s.specs name
 is_known s (primitives.Unknown text) = false
 is_known s p = true
 
-abbrev removes_last : List Primitive → Bool
+abbrev pub removes_last : List Primitive → Bool
 removes_last [] = true
 removes_last (p ∷ ps) = (length ps == 0 || not (is_removal p)) && removes_last ps
 

@@ -2,6 +2,7 @@
 -- paper's; branches in order with a default are after the YAWL User Manual; that a task with several items runs over a list is our
 -- own.
 use Rattle.std.specs.Prelude.{ℕ, ℤ, ◌&&◌, Bool, true, false, List, [], ◌∷◌, ◌++◌, map, filter, Option, Some, None, is_some, is_none, option_map, option_and_then, unwrap_or, slice_get, slice_set, nat_le, if◌then◌else◌}
+use Rattle.std.specs.Cmp.Lexicographic.{pointwise}
 use Rattle.std.specs.List.{list_all, filter_map, enumerate_from}
 use Rattle.yw_base.specs.Values.{may_hold, zero_of}
 use Rattle.yw_base.specs.declared.value.Sort.{Sort}
@@ -12,8 +13,8 @@ use Rattle.yw_expr.specs.Meaning.{val}
 use Rattle.yw_expr.specs.Tree.{Tree}
 use Rattle.yw_spec.specs.declared.task.Assign.{Assign}
 use Rattle.yw_spec.specs.declared.task.Branch.{Branch}
-use Rattle.yw_spec.specs.declared.task.Gate.{Gate}
-use Rattle.yw_spec.specs.declared.task.Gate.TheVariants.{And, Xor, Or}
+use Rattle.yw_base.specs.declared.gate.Gate.{Gate}
+use Rattle.yw_base.specs.declared.gate.Gate.TheVariants.{And, Xor, Or}
 use Rattle.yw_spec.specs.declared.task.Many.{Many}
 use Rattle.yw_spec.specs.declared.task.Param.{Param}
 use Rattle.yw_spec.specs.declared.task.Task.{Task}
@@ -57,10 +58,9 @@ within_bounds (Some m) count = nat_le m.min count && nat_le count m.max
 
 -- ---- what items make
 
+-- of the parameters, one for one
 abbrev pub row_fits : List Param → Row → Bool
-row_fits [] [] = true
-row_fits (p ∷ ps) (v ∷ vs) = may_hold p.sort v && row_fits ps vs
-row_fits ps vs = false
+row_fits = pointwise (λ (p : Param). may_hold p.sort)
 
 -- what the completed ones of these items have made
 abbrev pub made_rows : List (Ident × ItemPart) → List Row

@@ -1,6 +1,7 @@
 -- What holds of every state that is reached, in six parts: numbers, nets, what things stand at, marks and checks, values and bounds,
 -- and depth. The invariant is our own.
 use Rattle.std.specs.Prelude.{◌≡◌, ◌≤◌, ◌<◌, ℕ, ◌+◌, ◌==◌, ◌&&◌, ◌||◌, Bool, true, false, not, List, [], ◌∷◌, length, Option, Some, is_some, is_none, slice_get, nat_lt, IsTrue, IsSome, IsNone, Ok, All, if◌then◌else◌}
+use Rattle.std.specs.Cmp.Lexicographic.{pointwise}
 use Rattle.std.specs.List.{list_all}
 use Rattle.std.specs.Option.{option_map_or}
 use Rattle.std.specs.Str.{bytes_eq}
@@ -107,10 +108,9 @@ pub record MarksStand (s : State) : Type 0 where
 
 -- ---- 5 values and bounds
 
+-- of the variables, one for one
 abbrev pub vals_fit : List Var → Row → Bool
-vals_fit [] [] = true
-vals_fit (x ∷ xs) (v ∷ vs) = may_hold x.sort v && vals_fit xs vs
-vals_fit xs vs = false
+vals_fit = pointwise (λ (x : Var). may_hold x.sort)
 
 abbrev pub most_items : Option Many → ℕ
 most_items many = option_map_or (λ (m : Many). m.max) many 1

@@ -4,13 +4,14 @@ use Rattle.yw_read.specs.declared.raw.RawSpec.{RawSpec}
 use Rattle.yw_read.specs.declared.raw.ReadFault.{ReadFault}
 use Rattle.yw_state.specs.declared.rule.Rule.TheVariants.{LineTooLong}
 use Rattle.yw_model.specs.Accepted.{document_in, JudgesSaid}
+use Rattle.yw_model.specs.Lines.{line_limit}
 use Rattle.yw_state.specs.Broken.{placeless}
 use Rattle.yw_verdict.specs.declared.finding.Finding.{Finding}
 use Rattle.yw_verdict.specs.declared.finding.Finding.TheVariants.{Accepted, Refused}
 
--- the most bytes of a text that is judged
+-- the most bytes of a text that is judged: as a line's
 unfoldable pub text_limit : ℕ
-text_limit = 1048576
+text_limit = line_limit
 
 -- of what a text says: the first fault, or the name where there is none
 abbrev pub FindsSaid : Result RawSpec ReadFault → Finding → Type 0
