@@ -10,7 +10,7 @@ use Rattle.yw_expr.specs.Lexemes.{IsSoundLexeme}
 use Rattle.yw_expr.specs.Typing.{IsSound, IsSoundNumber, IsSoundText}
 
 module _ (P : Lexeme → Type 0) where
-  split : (xs ys : List Lexeme) → AllByRecursion P (xs ++ ys) → AllByRecursion P xs × AllByRecursion P ys
+  pub split : (xs ys : List Lexeme) → AllByRecursion P (xs ++ ys) → AllByRecursion P xs × AllByRecursion P ys
   split [] ys h = (tt, h)
   split (x ∷ xs) ys (p, h) = let (a, b) = split xs ys h in ((p, a), b)
 

@@ -20,6 +20,7 @@ use Rattle.yw_spec.specs.declared.spec.Net.{Net}
 use Rattle.yw_spec.specs.declared.spec.Spec.{Spec}
 use Rattle.yw_spec.specs.declared.spec.Var.{Var}
 use Rattle.yw_spec.specs.declared.task.Kind.{Kind}
+use Rattle.yw_spec.specs.declared.task.Param.{Param}
 use Rattle.yw_spec.specs.declared.task.Task.{Task}
 use Rattle.yw_read.specs.Inits.{HasInit, HasInits, IsInit}
 use Rattle.yw_read.specs.Reading.{spec_from, spec_in, with_shape}
@@ -36,15 +37,20 @@ use Rattle.yw_read.specs.declared.raw.ReadFault.{ReadFault}
 use Rattle.yw_read.specs.declared.raw.ReadFault.TheVariants.{NotToml}
 use Rattle.yw_read.proofs.InitLemmas.{given-inits}
 use Rattle.yw_accept.specs.Built.{IsKind, IsNet, IsSpec, IsTask, out_of, var_of}
+use Rattle.yw_accept.specs.Names.{FlowFits}
 use Rattle.yw_accept.specs.Nodes.{net_names}
+use Rattle.yw_accept.specs.Order.{InTurn}
 use Rattle.yw_base.specs.Usages.{comes_in, goes_out}
-use Rattle.yw_accept.specs.Scopes.{agrees, fits_child, hands_over, is_given, is_in_var, is_out_var, is_same_sort, names_var, net_named, outs_fit}
+use Rattle.yw_accept.specs.Scopes.{agrees, fits_child, hands_over, is_given, is_in_var, is_out_var, is_same_sort, is_single, names_var, net_named, outs_fit}
 use Rattle.yw_accept.specs.Verdict.{IsVerdict}
 use Rattle.yw_said.proofs.Numbers.{Apart}
-use Rattle.yw_said.proofs.OnceFacts.{IsApart, NetIsApart, accepted_apart}
+use Rattle.yw_said.proofs.OnceFacts.{InsApart, IsApart, NetIsApart, accepted_apart}
 use Rattle.yw_said.proofs.SomeFacts.{NetCanBeBuilt, TaskCanBeBuilt, can_be_built}
 use Rattle.yw_state.proofs.MapLemmas.{never, nowhere, some_same}
 use Rattle.yw_state.specs.Nets.{child_net, is_empty}
+use Rattle.yw_invariant.proofs.AcceptedExits.{assigns_right, assigns_small, both_or_none, flow_turns, goes_on_apart, is_called, items_few, outs_single}
+use Rattle.yw_invariant.proofs.AcceptedItems.{elements_sound, params_sound}
+use Rattle.yw_invariant.proofs.AcceptedLevels.{level_fits}
 use Rattle.yw_invariant.proofs.Found.{all_at, any_at, found_by_name, found_first, zip_at, zip_names}
 use Rattle.yw_invariant.proofs.Values.{zero_fits}
 use Rattle.yw_invariant.specs.Sound.{HasVar, IsSound, ReadsSound, TaskIsSound}
@@ -149,8 +155,12 @@ module _ (raw : RawSpec) (verdict : IsVerdict raw None) (inits : HasInits raw) (
       let (rt, rtat, is) = zip_at (IsTask raw rn) rn.task net.tasks built.tasks i t at in
       let here = all_at NetIsApart raw.net apart.nets k rn rat in
       let can = all_at (TaskCanBeBuilt raw rn) rn.task (all_at (NetCanBeBuilt raw) raw.net (can_be_built raw verdict).nets k rn rat).tasks i rt rtat in
+      let apart_ins = all_at InsApart rn.task here.ins i rt rtat in
       let fits = (and_parts (list_all (is_given rt) rt.ins && list_all (agrees rt.outs) rt.ins && outs_fit rt && hands_over raw rt rt.kind) (list_all (names_var rn) rt.set) can.parameters.fit).0 in
-      let hands = (and_parts (list_all (is_given rt) rt.ins && list_all (agrees rt.outs) rt.ins && outs_fit rt) (hands_over raw rt rt.kind) fits).1 in
+      let both = and_parts (list_all (is_given rt) rt.ins && list_all (agrees rt.outs) rt.ins && outs_fit rt) (hands_over raw rt rt.kind) fits in
+      let hands = both.1 in
+      let (agree, outs) = and_parts (list_all (is_given rt) rt.ins && list_all (agrees rt.outs) rt.ins) (outs_fit rt) both.0 in
+      let all_given = (and_parts (list_all (is_given rt) rt.ins) (list_all (agrees rt.outs) rt.ins) agree).0 in
       record {
         found = found_by_name (λ (x : Task). x.name) net.tasks (subst Apart (sym (zip_names (IsTask raw rn) (λ (x : RawTask). x.name) (λ (x : Task). x.name) (λ x y r. r.name) rn.task net.tasks built.tasks)) here.tasks) i t at;
         empty = λ e. is.outs ∙ ap (map out_of) (makes_nothing raw rt t rt.kind t.kind is.kind hands e);
@@ -160,6 +170,13 @@ module _ (raw : RawSpec) (verdict : IsVerdict raw None) (inits : HasInits raw) (
             let fit = named_child raw rt t rt.kind t.kind is.kind hands c e apart.names cn cat in
             let gives_all = (and_parts (list_all (λ (p : RawIn). list_any (is_in_var p) cn.vars) rt.ins && list_all (λ (v : RawVar). not (comes_in v.usage) || list_any (λ (p : RawIn). is_in_var p v) rt.ins) cn.vars) (list_all (λ (q : RawOut). list_any (is_out_var q) cn.vars) rt.outs) fit).1 in
             subst (All (HasVar child)) (sym is.outs) (has_vars raw rt t apart.names cn there.vars child cbuilt.vars rt.outs gives_all);
+        given = params_sound raw rn net built.vars rt t is can all_given apart_ins;
+        elements = elements_sound raw rn net built.vars rt t is can all_given apart_ins;
+        few = items_few rn rt rt.each t.many is.many can.items;
+        gathers = λ some. ap (list_all (λ (p : Param). is_single p.sort)) is.outs ∙ outs_single rn rt rt.each t.many is.many outs some;
+        assigns = assigns_right rn rt net t built.vars is.outs (both_or_none rn rt rt.each t.many is.many) here.vars rt.set t.set is.set can.expressions.assigned;
+        constants = assigns_small rn rt rt.set t.set is.set;
+        apart = goes_on_apart rn rt.name (is_called rn rn.task i rt rtat) (all_at (λ (n : RawNet). InTurn (FlowFits n) [] n.flows None) raw.net (flow_turns raw verdict) k rn rat) t.after is.after;
       }
 
   is_sound : IsSound spec
@@ -169,6 +186,7 @@ module _ (raw : RawSpec) (verdict : IsVerdict raw None) (inits : HasInits raw) (
         found = found_by_name (λ (n : Net). n.name) spec.nets nets_apart k net at;
         begins = ap (list_all (λ (x : Var). may_hold x.sort x.init)) built.vars ∙ vars_begin_right rn.vars (all_at (λ (n : RawNet). All HasInit n.vars) raw.net inits k rn rat);
         tasks = task_sound rn k rat net built;
+        level = λ c n at_c walk. level_fits raw verdict spec is_spec net c n at_c walk;
       }
 
 pub accepted_are_sound : ReadsSound reader

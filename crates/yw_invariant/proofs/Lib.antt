@@ -8,6 +8,10 @@ pub mod RunsGoOn
 pub mod NetsEnd
 pub mod NetsBegin
 pub mod Found
+pub mod Expressions
+pub mod AcceptedItems
+pub mod AcceptedExits
+pub mod AcceptedLevels
 pub mod Accepted
 pub mod Tasks
 pub mod CutBack
@@ -15,3 +19,14 @@ pub mod CompensationBegins
 pub mod PrimitivesWell
 pub mod ItemsEnd
 pub mod WorkletBegins
+pub mod NetGoesOn
+pub mod TokensFit
+pub mod EntryComes
+pub mod ItemComes
+pub mod Levels
+pub mod Given
+pub mod ItemsCome
+pub mod TasksEntered
+pub mod Assigned
+pub mod MadeRows
+pub mod ExitWell

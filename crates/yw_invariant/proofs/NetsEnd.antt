@@ -36,7 +36,7 @@ use Rattle.yw_state.specs.declared.event.Event.TheVariants as events
 use Rattle.yw_state.specs.declared.tree.TreeKind.{TreeKind}
 use Rattle.yw_state.specs.declared.tree.TreeKind.TheVariants.{Post, Select}
 
-is_not_select : ¬ (Post ≡ Select)
+pub is_not_select : ¬ (Post ≡ Select)
 is_not_select e = cc
 
 -- ---- what stands strictly under j goes

@@ -1,4 +1,4 @@
--- What a state that is well tells of an item, of its task and of the net in which it stands, where specifications are sound.
+-- What a state that is well tells of an item, of a task and of the net in which they stand, where specifications are sound.
 use Rattle.std.specs.Prelude.{◌≡◌, ◌⊎◌, ◌&&◌, ◌||◌, ℕ, Bool, true, false, List, [], length, Option, Some, None, is_some, nat_lt, option_and_then, option_map, slice_get, unwrap_or, refl}
 use Rattle.std.proofs.Common.{sym, ◌∙◌, ap, subst, inl, inr}
 use Rattle.yw_spec.specs.declared.spec.Net.{Net}
@@ -15,10 +15,10 @@ use Rattle.yw_state.proofs.TreePlaces.{one_place}
 use Rattle.yw_state.specs.Identity.{Ident, is_case_ident, parent}
 use Rattle.yw_state.specs.Judged.{has_rule, is_tree_place, place_key, rules_at, task_place}
 use Rattle.yw_state.specs.Map.{get}
-use Rattle.yw_state.specs.Nets.{child_net, is_atomic, is_empty, task_called}
+use Rattle.yw_state.specs.Nets.{child_net, is_atomic, is_empty, task_called, task_number}
 use Rattle.yw_state.specs.Options.{is_some_and}
 use Rattle.yw_state.specs.RuleTree.{TreeRule}
-use Rattle.yw_state.specs.State.{State, ItemAt, ItemPart, NetAt, NetPart, TaskAt, item_at, item_part, net_at, net_part, spec_called, task_in}
+use Rattle.yw_state.specs.State.{State, ItemAt, ItemPart, NetAt, NetPart, TaskAt, item_at, item_part, net_at, net_part, spec_called, task_at, task_in}
 use Rattle.yw_state.specs.Texts.{Reader}
 use Rattle.yw_state.specs.Well.{IsWell}
 use Rattle.yw_state.specs.declared.tree.TreeKind.TheVariants.{Select}
@@ -58,6 +58,18 @@ of_net s j x e =
     let (t, of_task, made) = map_some (λ (t : TaskAt). record { part = part; of_task = t }) (task_in n part.task) x in_net in
     let (task, at, task_made) = map_some (λ (u : Task). record { number = part.task; task = u; within = n }) (slice_get n.net.tasks part.task) t of_task in
     subst (OfNet s j) {x = record { part = part; of_task = t }} made (subst (λ (u : TaskAt). OfNet s j (record { part = part; of_task = u })) {x = record { number = part.task; task = task; within = n }} task_made (record { within = within; at = at }))
+
+-- the task is of the net at i
+pub record OfTask (s : State) (i : Ident) (x : TaskAt) : Type 0 where
+  pub within : net_at s i ≡ Some x.within
+  pub task : slice_get x.within.net.tasks x.number ≡ Some x.task
+
+pub task_there : (s : State) (i : Ident) (t : List ℕ) (x : TaskAt) → task_at s i t ≡ Some x → OfTask s i x
+task_there s i t x e =
+    let (n, within, found) = then_some (λ (n : NetAt). option_and_then (task_in n) (task_number n.net t)) (net_at s i) x e in
+    let (k, number, in_net) = then_some (task_in n) (task_number n.net t) x found in
+    let (task, at, made) = map_some (λ (u : Task). record { number = k; task = u; within = n }) (slice_get n.net.tasks k) x in_net in
+    subst (OfTask s i) made (record { within = within; task = at })
 
 pub part_of_item : (s : State) (j : Ident) (x : ItemAt) (y : ItemPart) → item_at s j ≡ Some x → item_part s j ≡ Some y → x.part ≡ y
 part_of_item s j x y e is =

@@ -1,12 +1,17 @@
-//! What holds of every state that is reached (`IsWell` of `yw_state`) is kept by events with which a net begins or goes, and by the steps
-//! of an exlet. Each law is the contract of a function that does nothing. Where a law supposes that specifications are sound, accepted
-//! ones are.
+//! What holds of every state that is reached (`IsWell` of `yw_state`) is kept by events with which items come, a task is left, or nets
+//! begin or go, and by the steps of an exlet: Enter, Add, Exit, StartSub, CompleteSub, CompleteEmpty, Substitute, CompleteWorklet, Prim
+//! and Compensated. That the others keep it stands in `yw_state`. Each law is the contract of a function that does nothing. Where a law
+//! supposes that specifications are sound, accepted ones are.
 #![tactic(auto)]
 
+mod exit;
+mod items;
 mod nets;
 mod runs;
 mod sound;
 
+pub use exit::exit_keeps_well;
+pub use items::{add_keeps_well, enter_keeps_well};
 pub use nets::{
     complete_empty_keeps_well, complete_sub_keeps_well, complete_worklet_keeps_well,
     start_sub_keeps_well, substitute_keeps_well,
