@@ -1,8 +1,7 @@
 -- What checks that find nothing tell.
-use Rattle.std.proofs.Common.{◌≡◌, ℕ, zero, suc, ◌<◌, ◌≤◌, ◌||◌, ◌⊎◌, Bool, true, false, not, inl, inr, List, [], ◌∷◌, ◌++◌, map, length, get_or, None, All, refl, sym, ap, ◌∙◌, subst, arith, append_assoc, append-nil, length-append, option_to_list, true≢false}
-use Rattle.std.proofs.lemmas.List.{get_or_append_left}
-use Rattle.std.proofs.lemmas.Bool.{cases_lt, cases_Bool, or_left, or_right, and_parts}
-use Rattle.std.proofs.lemmas.Slice.Eq.{bytes_eq-Decides}
+use Rattle.std.proofs.Common.{◌≡◌, ℕ, zero, suc, ◌<◌, ◌≤◌, true, false, inl, inr, List, [], ◌∷◌, ◌++◌, map, length, get_or, None, All, refl, sym, ap, ◌∙◌, subst, arith, append_assoc, append-nil, length-append, option_to_list, true≢false}
+use Rattle.std.proofs.lemmas.List.{get_or_append_left, get_or_default}
+use Rattle.std.proofs.lemmas.Bool.{cases_lt, or_cases, or_left, or_right, and_parts, not-true}
 use Rattle.std.proofs.Math.Seq.{get_or-append_seam}
 use Rattle.std.specs.Str.{bytes_eq}
 use Rattle.yw_read.specs.declared.raw.RawFlow.{RawFlow}
@@ -19,6 +18,7 @@ use Rattle.yw_accept.specs.Faults.{in_net}
 use Rattle.yw_accept.specs.Names.{is_usable, is_new, IsUsable, IsNew, AreNew, TaskNames, NetNames, NamesFit, may_lead, FlowFits, FlowsFit}
 use Rattle.yw_accept.specs.Nodes.{is_among, net_names, task_names, named_places, nodes, is_source, is_sink, is_task}
 use Rattle.yw_accept.specs.Order.{Check, InOrder, InTurn}
+use Rattle.yw_accept.proofs.Among.{among_at, among_left, among_right}
 
 -- ---- each element passes
 
@@ -38,32 +38,10 @@ turn_join {A} check seen (x ∷ xs) ys h g =
     let P : List A → Type 0 = λ zs. InTurn check zs ys None in
     (h.0, turn_join check (seen ++ x ∷ []) xs ys h.1 (subst P (sym (append_assoc seen (x ∷ []) xs)) g))
 
--- ---- names among names
-
-among_at : (names : List (List ℕ)) (name : List ℕ) (i : ℕ) → i < length names → get_or names i [] ≡ name → is_among names name ≡ true
-among_at [] name i lt e = absurd (omega (arith, lt))
-among_at (x ∷ xs) name zero lt e = or_left _ _ ((bytes_eq-Decides name x).1 (sym e))
-among_at (x ∷ xs) name (suc i) lt e = or_right _ _ (among_at xs name i (omega (arith, lt)) e)
-
-among_left : (xs ys : List (List ℕ)) (name : List ℕ) → is_among xs name ≡ true → is_among (xs ++ ys) name ≡ true
-among_left [] ys name h = absurd (true≢false (sym h))
-among_left (x ∷ xs) ys name h = elim (cases_Bool (bytes_eq name x)) [
-  | inl t ↦ or_left _ _ t
-  | inr f ↦ or_right _ _ (among_left xs ys name (ap (λ b. b || is_among xs name) (sym f) ∙ h))
-]
-
-among_right : (xs ys : List (List ℕ)) (name : List ℕ) → is_among ys name ≡ true → is_among (xs ++ ys) name ≡ true
-among_right [] ys name h = h
-among_right (x ∷ xs) ys name h = or_right _ _ (among_right xs ys name h)
-
-not_true : (b : Bool) → not b ≡ true → b ≡ false
-not_true true h = absurd (true≢false (sym h))
-not_true false h = refl
+-- ---- names of which none comes twice
 
 new_is : (seen : List (List ℕ)) (name : List ℕ) → is_new seen name ≡ true → (is_usable name ≡ true) × (is_among seen name ≡ false)
-new_is seen name h = let parts = and_parts _ _ h in (parts.0, not_true _ parts.1)
-
--- ---- names of which none comes twice
+new_is seen name h = let parts = and_parts _ _ h in (parts.0, not-true _ parts.1)
 
 module _ (seen : List (List ℕ)) (x : List ℕ) (h : AreDistinct seen) (new : is_among seen x ≡ false) where
   last_is : (j : ℕ) → j < length (seen ++ x ∷ []) → length seen ≤ j → get_or (seen ++ x ∷ []) j [] ≡ x
@@ -73,7 +51,7 @@ module _ (seen : List (List ℕ)) (x : List ℕ) (h : AreDistinct seen) (new : i
   first_is i lt = get_or_append_left seen (x ∷ []) [] i lt
 
   never : (i : ℕ) → i < length seen → get_or seen i [] ≡ x → ⊥
-  never i lt e = true≢false (sym (among_at seen x i lt e) ∙ new)
+  never i lt e = true≢false (sym (among_at seen x (i, lt, get_or_default seen i x [] lt ∙ e)) ∙ new)
 
   distinct_more : AreDistinct (seen ++ x ∷ [])
   distinct_more i j li lj e = elim (cases_lt i (length seen)) [
@@ -160,26 +138,25 @@ place_node net name h = among_left (named_places net) (task_names net.task) name
 task_node : (net : RawNet) (name : List ℕ) → is_task net name ≡ true → is_among (nodes net) name ≡ true
 task_node net name h = among_right (named_places net) (task_names net.task) name h
 
+pub source_place : (net : RawNet) (name : List ℕ) → is_source net name ≡ true → is_among (named_places net) name ≡ true
+source_place net name h = elim (or_cases (bytes_eq name net.input) (is_among net.conditions name) h) [
+  | inl input ↦ or_left (bytes_eq name net.input) _ input
+  | inr condition ↦ or_right _ _ (or_right (bytes_eq name net.output) _ condition)
+]
+
 source_node : (net : RawNet) (name : List ℕ) → is_source net name ≡ true → is_among (nodes net) name ≡ true
-source_node net name h = place_node net name (elim (cases_Bool (bytes_eq name net.input)) [
-  | inl t ↦ or_left _ _ t
-  | inr f ↦ or_right _ _ (or_right _ _ (ap (λ b. b || is_among net.conditions name) (sym f) ∙ h))
-])
+source_node net name h = place_node net name (source_place net name h)
 
 sink_node : (net : RawNet) (name : List ℕ) → is_sink net name ≡ true → is_among (nodes net) name ≡ true
 sink_node net name h = place_node net name (or_right _ _ h)
 
-or_either : (x y : Bool) → (x || y) ≡ true → (x ≡ true) ⊎ (y ≡ true)
-or_either true y h = inl refl
-or_either false y h = inr h
-
-flow_ends : (net : RawNet) (flow : RawFlow) → may_lead net flow ≡ true → (is_among (nodes net) flow.from ≡ true) × (is_among (nodes net) flow.to ≡ true)
-flow_ends net flow h = elim (or_either _ _ h) [
+pub flow_ends : (net : RawNet) (flow : RawFlow) → may_lead net flow ≡ true → (is_among (nodes net) flow.from ≡ true) × (is_among (nodes net) flow.to ≡ true)
+flow_ends net flow h = elim (or_cases _ _ h) [
   | inl one ↦ let parts = and_parts _ _ one in (source_node net flow.from parts.0, task_node net flow.to parts.1)
   | inr two ↦
       let parts = and_parts _ _ two in (
         task_node net flow.from parts.0,
-        elim (or_either _ _ parts.1) [
+        elim (or_cases _ _ parts.1) [
           | inl sink ↦ sink_node net flow.to sink
           | inr task ↦ task_node net flow.to task
         ],

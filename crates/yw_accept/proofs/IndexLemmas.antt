@@ -3,12 +3,13 @@ use Rattle.std.proofs.Common.{◌≡◌, ℕ, zero, suc, ◌||◌, Bool, true, f
 use Rattle.std.specs.Prelude.{slice_get, IsSome, is_some}
 use Rattle.std.specs.BTreeMap.{get_by_text}
 use Rattle.std.specs.Str.{bytes_eq}
-use Rattle.std.proofs.lemmas.Bool.{cases_Bool, false_from_ne_true, or_left, or_right}
+use Rattle.std.proofs.lemmas.Bool.{cases_Bool, false_from_ne_true}
 use Rattle.std.proofs.lemmas.List.Folds.{list_any-append}
 use Rattle.std.proofs.lemmas.Slice.Eq.{bytes_eq-Decides}
 use Rattle.yw_accept.specs.Nodes.{is_among}
 use Rattle.yw_accept.specs.declared.index.Index.{Index}
 use Rattle.yw_accept.specs.Index.{IsIndexOf}
+use Rattle.yw_accept.proofs.Among.{among_get}
 
 module _ {A : Type 0} where
   pub slice_get-left : (xs ys : List A) (k : ℕ) (x : A) → slice_get xs k ≡ Some x → slice_get (xs ++ ys) k ≡ Some x
@@ -52,11 +53,6 @@ module _ (texts : List (List ℕ)) (key : List ℕ) (n : ℕ) (old new : Index) 
   index_more = record { found = found_more; missed = missed_still }
 
 -- ---- what an index finds
-
-pub among_get : (texts : List (List ℕ)) (text : List ℕ) (k : ℕ) → slice_get texts k ≡ Some text → is_among texts text ≡ true
-among_get [] text k h = cc
-among_get (x ∷ xs) text zero h = let e : x ≡ text = cc in or_left _ _ ((bytes_eq-Decides text x).1 (sym e))
-among_get (x ∷ xs) text (suc k) h = or_right _ _ (among_get xs text k h)
 
 pub index_has : (texts : List (List ℕ)) (index : Index) (text : List ℕ) (r : Option ℕ) → r ≡ get_by_text index.numbers text → IsIndexOf texts index → is_some r ≡ is_among texts text
 index_has texts index text None e h = sym (h.missed text (sym e))

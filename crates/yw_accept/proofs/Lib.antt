@@ -1,4 +1,9 @@
 pub mod Once
 pub mod Loops
+pub mod Lists
+pub mod Among
 pub mod FactsLemmas
+pub mod TaskFacts
+pub mod Places
+pub mod Layers
 pub mod IndexLemmas

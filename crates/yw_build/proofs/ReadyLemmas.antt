@@ -1,24 +1,15 @@
 -- What names in a net may be used.
-use Rattle.std.proofs.Common.{◌≡◌, ℕ, suc, ◌<◌, ◌+◌, ◌-◌, ◌||◌, true, List, [], ◌∷◌, map, length, get_or, All, sym, ap, ◌∙◌, inl, inr, arith, true≢false, length-append}
-use Rattle.std.specs.Str.{bytes_eq}
-use Rattle.std.proofs.lemmas.Bool.{cases_Bool}
+use Rattle.std.proofs.Common.{◌≡◌, ℕ, suc, ◌<◌, ◌+◌, ◌-◌, true, List, [], map, length, get_or, All, sym, ap, ◌∙◌, arith, length-append}
 use Rattle.std.proofs.lemmas.List.{get_or_append_left, get_or-map, length-map}
-use Rattle.std.proofs.lemmas.Slice.Eq.{bytes_eq-Decides}
 use Rattle.std.proofs.Math.Seq.{get_or-append_right}
 use Rattle.yw_read.specs.declared.raw.RawNet.{RawNet}
 use Rattle.yw_read.specs.declared.raw.RawTask.{RawTask}
 use Rattle.yw_read.specs.declared.raw.RawSpec.{RawSpec}
 use Rattle.yw_accept.specs.Facts.{IsNamed, NetIsNamed, NetLeads}
 use Rattle.yw_accept.specs.Names.{is_usable}
-use Rattle.yw_accept.specs.Nodes.{is_among, nodes, task_names, named_places}
+use Rattle.yw_accept.specs.Nodes.{nodes, task_names, named_places}
+use Rattle.yw_accept.proofs.Places.{ends_usable}
 use Rattle.yw_build.specs.Ready.{HasNames}
-
-usable_among : (names : List (List ℕ)) (name : List ℕ) → All (λ n. is_usable n ≡ true) names → is_among names name ≡ true → is_usable name ≡ true
-usable_among [] name h g = absurd (true≢false (sym g))
-usable_among (x ∷ xs) name h g = elim (cases_Bool (bytes_eq name x)) [
-  | inl t ↦ ap is_usable ((bytes_eq-Decides name x).0 t) ∙ h 0 x (omega arith)
-  | inr f ↦ usable_among xs name (λ i d lt. h (suc i) d (omega (arith, lt))) (ap (λ b. b || is_among xs name) (sym f) ∙ g)
-]
 
 pub usable_input : (net : RawNet) → NetIsNamed net → is_usable net.input ≡ true
 usable_input net h = h.nodes_are.usable 0 [] (omega arith)
@@ -33,10 +24,7 @@ usable_conditions net h i d lt =
 
 -- the ends of flows are names of nodes
 pub flows_named : (net : RawNet) → NetIsNamed net → NetLeads net → All HasNames net.flows
-flows_named net h leads i d lt = record {
-  from = usable_among (nodes net) _ h.nodes_are.usable (leads.from i d lt);
-  to = usable_among (nodes net) _ h.nodes_are.usable (leads.to i d lt);
-}
+flows_named net h leads i d lt = let ends = ends_usable net h leads i d lt in record { from = ends.0; to = ends.1 }
 
 pub usable_each : {A : Type 0} (name : A → List ℕ) (xs : List A) → All (λ n. is_usable n ≡ true) (map name xs) → All (λ x. is_usable (name x) ≡ true) xs
 usable_each name xs h i d lt = ap is_usable (sym (get_or-map name xs i d (name d) lt)) ∙ h i (name d) (omega (arith, lt, length-map xs name))

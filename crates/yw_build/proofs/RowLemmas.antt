@@ -17,7 +17,7 @@ use Rattle.yw_accept.specs.Built.{IsPlaceOf}
 use Rattle.yw_accept.specs.Facts.{AreDistinct, NetIsNamed}
 use Rattle.yw_accept.specs.Nodes.{is_among, task_names, named_places, nodes}
 use Rattle.yw_build.specs.Rows.{AddsPlace, AreRows}
-use Rattle.yw_accept.proofs.IndexLemmas.{among_get}
+use Rattle.yw_accept.proofs.Among.{among_get}
 use Rattle.yw_build.proofs.ZipLemmas.{all_zip_push, zip_along, more_of}
 
 -- ---- tasks have names of their own

@@ -1,7 +1,7 @@
 -- What checks in order find, by what each of them finds.
-use Rattle.std.proofs.Common.{ℕ, zero, suc, ◌<◌, inl, inr, List, [], ◌∷◌, length, get_or, All, Option, Some, None, refl, arith}
+use Rattle.std.proofs.Common.{ℕ, zero, suc, ◌<◌, inl, inr, List, [], ◌∷◌, length, get_or, All, Some, None, refl, arith}
 use Rattle.yw_accept.specs.declared.broken.Broken.{Broken}
-use Rattle.yw_accept.specs.Order.{Check, Then, InOrder}
+use Rattle.yw_accept.specs.Order.{Check, InOrder}
 
 module _ {A : Type 0} (check : A → Check) where
   pub order_none : (xs : List A) → All (λ x. check x None) xs → InOrder check xs None
@@ -12,8 +12,3 @@ module _ {A : Type 0} (check : A → Check) where
   order_some [] k e fault lt h f = absurd (omega (arith, lt))
   order_some (x ∷ xs) zero e fault lt h f = inl f
   order_some (x ∷ xs) (suc k) e fault lt h f = inr (h zero x (omega arith), order_some xs k e fault (omega (arith, lt)) (λ i d le. h (suc i) d (omega (arith, le))) f)
-
--- the first finds nothing
-pub then_second : (first second : Check) → first None → (r : Option Broken) → second r → Then first second r
-then_second first second h None g = (h, g)
-then_second first second h (Some found) g = inr (h, g)

@@ -1,5 +1,6 @@
 -- Paths by numbers are paths by names.
-use Rattle.std.proofs.Common.{◌≡◌, ℕ, zero, suc, ◌<◌, List, [], ◌∷◌, length, get_or, Option, Some, None, refl, ap, subst, arith}
+use Rattle.std.proofs.Common.{ℕ, zero, suc, ◌<◌, List, [], length, get_or, Option, Some, None, refl, ap, subst, arith}
+use Rattle.std.proofs.lemmas.List.{get_or_default}
 use Rattle.yw_read.specs.declared.raw.RawFlow.{RawFlow}
 use Rattle.yw_read.specs.declared.raw.RawNet.{RawNet}
 use Rattle.yw_reach.specs.declared.flow.Flow.{Flow}
@@ -20,11 +21,6 @@ pub net_renames : (net : RawNet) (flows : List Flow) → NetIsNamed net → AreN
 net_renames net flows named numbered =
     pairs_rename (length (nodes net)) (name_at (nodes net)) flow_between net.flows flows named.nodes_are.distinct pairing numbered.within numbered.same
 
-get_or_any : {A : Type 0} (xs : List A) (k : ℕ) (d e : A) → k < length xs → get_or xs k d ≡ get_or xs k e
-get_or_any [] k d e lt = absurd (omega (arith, lt))
-get_or_any (x ∷ xs) zero d e lt = refl
-get_or_any (x ∷ xs) (suc k) d e lt = get_or_any xs k d e (omega (arith, lt))
-
 module _ (net : RawNet) (flows : List Flow) (named : NetIsNamed net) (numbered : AreNumbered (nodes net) net.flows flows) where
   abbrev renames : Renames (length (nodes net)) (name_at (nodes net)) (by_number.HasFlow flows) (HasFlow net)
   renames = net_renames net flows named numbered
@@ -42,7 +38,7 @@ module _ (net : RawNet) (flows : List Flow) (named : NetIsNamed net) (numbered :
   on_path_by_number k lt h = (numbered_path _ _ _ _ renames 0 k input_is lt h.0, numbered_path _ _ _ _ renames k 1 lt output_is h.1)
 
   on_path_at : (k : ℕ) (d : List ℕ) → k < length (nodes net) → by_number.IsOnPath flows 0 1 k → IsOnPath net (get_or (nodes net) k d)
-  on_path_at k d lt h = let P : List ℕ → Type 0 = λ x. IsOnPath net x in subst P (get_or_any (nodes net) k [] d lt) (on_path k h)
+  on_path_at k d lt h = let P : List ℕ → Type 0 = λ x. IsOnPath net x in subst P (get_or_default (nodes net) k [] d lt) (on_path k h)
 
   pub finds_off_path : (r : Option ℕ) → by_number.IsFirstOffPath (length (nodes net)) flows 0 1 r → FindsOffPath net r
   finds_off_path None h = order_none (NodeIsOnPath net) (nodes net) (λ k d lt. on_path_at k d lt (h k lt))

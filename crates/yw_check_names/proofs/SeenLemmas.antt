@@ -1,9 +1,8 @@
 -- What a set of names has after one name more.
-use Rattle.std.proofs.Common.{◌≡◌, ℕ, ◌||◌, ◌++◌, List, [], ◌∷◌, map, Bool, true, false, cond, not, String, Global, refl, sym, ap, ◌∙◌}
+use Rattle.std.proofs.Common.{◌≡◌, ℕ, ◌||◌, ◌++◌, List, [], ◌∷◌, Bool, true, false, cond, not, String, Global, refl, sym, ap, ◌∙◌}
 use Rattle.std.proofs.Math.Bool.{or_comm, or-false}
 use Rattle.std.proofs.lemmas.List.Folds.{list_any-append}
 use Rattle.std.proofs.lemmas.Map.Text.{btree_set_updates_text}
-use Rattle.std.specs.List.{list_any}
 use Rattle.std.specs.BTreeSet.{IsEmpty, Updates, contains, contains_text}
 use Rattle.std.specs.Cmp.Lexicographic.{nat_list_eq_equiv}
 use Rattle.std.specs.Str.{bytes_eq}
@@ -37,7 +36,3 @@ pub knows_more : (old new : NameSet) (name : List ℕ) (added : Bool) → Adds o
 knows_more old new name added adds names knows = record {
   has = λ other. adds.has other ∙ ap (λ b. b || bytes_eq other name) (knows.has other) ∙ sym (is_among-push names name other);
 }
-
-pub list_any-map : {A B : Type 0} (p : B → Bool) (f : A → B) (xs : List A) → list_any p (map f xs) ≡ list_any (λ x. p (f x)) xs
-list_any-map p f [] = refl
-list_any-map p f (x ∷ xs) = ap (λ b. p (f x) || b) (list_any-map p f xs)

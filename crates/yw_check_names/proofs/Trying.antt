@@ -1,6 +1,6 @@
 -- A loop that tries one thing after another beside those seen.
-use Rattle.std.proofs.Common.{◌≡◌, ℕ, ◌+◌, ◌<◌, List, [], ◌∷◌, ◌++◌, length, get_or, map, take, Option, Some, None, refl, sym, ap, ◌∙◌, subst, append_assoc}
-use Rattle.std.proofs.lemmas.List.{take_more, length-map, get_or-map}
+use Rattle.std.proofs.Common.{◌≡◌, ℕ, ◌+◌, ◌<◌, List, [], ◌∷◌, ◌++◌, length, get_or, take, Option, Some, None, refl, sym, ap, ◌∙◌, subst, append_assoc}
+use Rattle.std.proofs.lemmas.List.{take_more}
 use Rattle.yw_accept.specs.declared.broken.Broken.{Broken}
 use Rattle.yw_accept.specs.Order.{Check}
 use Rattle.yw_accept.proofs.Loops.{SoFarInTurn, turn_goes_on, turn_stops}
@@ -10,11 +10,6 @@ use Rattle.yw_check_names.specs.Seen.{NameSet, Tries, TriesAll}
 pub none_found : (found : Option Broken) → ((broken : Broken) → found ≡ Some broken → ⊥) → found ≡ None
 none_found None no_fault = refl
 none_found (Some broken) no_fault = absurd (no_fault broken refl)
-
--- the name of the element at hand stands at its place among the names
-pub name_at : {A : Type 0} (of : A → List ℕ) (xs : List A) (i : ℕ) (x : A) (name : List ℕ) → i < length xs → x ≡ get_or xs i x → name ≡ of x → (i < length (map of xs)) × (name ≡ get_or (map of xs) i name)
-name_at of xs i x name lt is e =
-    (subst (λ (n : ℕ). i < n) (sym (length-map xs of)) lt, e ∙ ap of is ∙ sym (get_or-map of xs i x name lt))
 
 module _ {A : Type 0} (Has : NameSet → List A → Type 0) (check : List A → A → Check) where
   -- the first i are tried, and nothing is at fault

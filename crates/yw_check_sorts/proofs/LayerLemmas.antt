@@ -1,14 +1,12 @@
 -- Layers of distinct names.
-use Rattle.std.proofs.Common.{◌≡◌, ℕ, ◌+◌, ◌<◌, ◌≤◌, Bool, true, false, true≢false, cond, List, [], ◌∷◌, ◌++◌, map, length, get_or, take, find, position, Option, Some, None, is_none, All, bytes_eq, nat_lt, inl, inr, refl, sym, ap, ◌∙◌, arith}
+use Rattle.std.proofs.Common.{◌≡◌, ℕ, ◌+◌, ◌<◌, ◌≤◌, Bool, true, false, cond, List, [], ◌∷◌, ◌++◌, map, length, get_or, take, find, position, Option, Some, None, is_none, bytes_eq, nat_lt, inl, inr, refl, sym, ap, ◌∙◌, arith}
 use Rattle.std.specs.Prelude.{slice_get, option_map}
 use Rattle.std.specs.List.{position_or_len}
-use Rattle.std.proofs.lemmas.Bool.{cases_Bool, false_from_ne_true}
+use Rattle.std.proofs.lemmas.Bool.{cases_Bool}
 use Rattle.std.proofs.lemmas.Bool.Decides.{nat_tests}
-use Rattle.std.proofs.lemmas.List.{take_more, map-append, get_or-map, get_or-take, length-map, length-take-le}
+use Rattle.std.proofs.lemmas.List.{take_more, map-append}
 use Rattle.std.proofs.lemmas.List.Folds.{find_at}
-use Rattle.std.proofs.lemmas.List.Sums.{passes_at_first}
 use Rattle.std.proofs.lemmas.Option.{none-some, same_Some, slice_get_past}
-use Rattle.std.proofs.lemmas.Slice.Eq.{bytes_eq-Decides}
 use Rattle.yw_base.specs.declared.value.Sort.{Sort}
 use Rattle.yw_expr.specs.declared.scope.Binding.{Binding}
 use Rattle.yw_expr.specs.Scope.{binding, place_in}
@@ -16,6 +14,7 @@ use Rattle.yw_read.specs.declared.raw.RawVar.{RawVar}
 use Rattle.yw_read.specs.declared.raw.RawNet.{RawNet}
 use Rattle.yw_accept.specs.Facts.{AreDistinct}
 use Rattle.yw_accept.specs.Scopes.{vars_scope, sort_of_var}
+use Rattle.yw_accept.proofs.Layers.{new_name}
 use Rattle.yw_check_sorts.specs.Wanted.{sort_named}
 
 -- ---- the first element that passes, and its place
@@ -34,16 +33,6 @@ module _ {A : Type 0} (p : A → Bool) where
   find_none xs h = elim (cases_Bool (nat_lt (position_or_len p xs) (length xs))) [
     | inl t ↦ absurd (none-some _ (sym h ∙ position_is xs true t))
     | inr f ↦ let le : length xs ≤ position_or_len p xs = grind (arith, nat_tests) in find_at p xs ∙ slice_get_past xs _ le
-  ]
-
-  -- none passes
-  place_none : (xs : List A) → All (λ x. p x ≡ false) xs → position p xs ≡ None
-  place_none [] h = refl
-  place_none (x ∷ xs) h = elim (cases_Bool (nat_lt (position_or_len p (x ∷ xs)) (length (x ∷ xs)))) [
-    | inl t ↦
-        let lt : position_or_len p (x ∷ xs) < length (x ∷ xs) = grind (arith, nat_tests) in
-        absurd (true≢false (sym (passes_at_first p (x ∷ xs) x lt) ∙ h (position_or_len p (x ∷ xs)) x lt))
-    | inr f ↦ position_is (x ∷ xs) false f
   ]
 
   find_of_map : {B : Type 0} (f : B → A) (xs : List B) → find p (map f xs) ≡ option_map f (find (λ x. p (f x)) xs)
@@ -79,26 +68,10 @@ module _ {A : Type 0} (name : A → List ℕ) (sort : A → Sort) (xs : List A) 
   abbrev bound : A → Binding
   bound y = binding (name y) (sort y)
 
-  not_before : All (λ (b : Binding). bytes_eq b.name (name x) ≡ false) (map bound (take i xs))
-  not_before j d lj =
-      let le : i ≤ length xs = omega arith in
-      let ji : j < i = omega (arith, lj, length-map (take i xs) bound, length-take-le i xs le) in
-      let within : j < length (take i xs) = omega (arith, ji, length-take-le i xs le) in
-      false_from_ne_true _ (λ t.
-      let at : get_or (map bound (take i xs)) j d ≡ bound (get_or xs j x) = get_or-map bound (take i xs) j x d within ∙ ap bound (get_or-take i xs j x ji) in
-      let same : name (get_or xs j x) ≡ name x = ap (λ (b : Binding). b.name) (sym at) ∙ (bytes_eq-Decides _ _).0 t in
-      let at_j : get_or (map name xs) j [] ≡ name (get_or xs j x) = get_or-map name xs j x [] (omega arith) in
-      let at_i : get_or (map name xs) i [] ≡ name x = get_or-map name xs i x [] lt ∙ ap name (sym is) in
-      let e : j ≡ i = distinct j i (omega (arith, length-map xs name)) (omega (arith, length-map xs name)) (at_j ∙ same ∙ sym at_i) in
-      omega (arith, ji, e))
-
   pub layer_more : (old new : List Binding) → old ≡ map bound (take i xs) → (key : List ℕ) (value : Sort) → key ≡ name x → value ≡ sort x → (added : Bool) → added ≡ is_none (place_in old key) → (added ≡ true → new ≡ old ++ binding key value ∷ []) → new ≡ map bound (take (i + 1) xs)
   layer_more old new at_old key value is_key is_value added is_new grows =
       let before : List Binding = map bound (take i xs) in
-      let absent : place_in old key ≡ None =
-      ap (λ (bs : List Binding). place_in bs key) at_old
-      ∙ ap (λ (k : List ℕ). place_in before k) is_key
-      ∙ place_none (λ (b : Binding). bytes_eq b.name (name x)) before not_before in
+      let absent : place_in old key ≡ None = new_name name sort xs distinct old xs i x key refl lt is is_key at_old in
       grows (is_new ∙ ap is_none absent)
       ∙ ap (λ (bs : List Binding). bs ++ binding key value ∷ []) at_old
       ∙ ap (λ (k : List ℕ). before ++ binding k value ∷ []) is_key

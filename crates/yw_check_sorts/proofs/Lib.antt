@@ -1,5 +1,4 @@
 pub mod Deciding
-pub mod LoopLemmas
 pub mod SpellsLemmas
 pub mod LayerLemmas
 pub mod FittingLemmas

@@ -5,7 +5,7 @@ use Rattle.std.specs.List.{list_any, list_all}
 use Rattle.std.specs.Option.{option_copied, option_map_or}
 use Rattle.std.specs.Cmp.Lexicographic.{nat_list_eq_equiv}
 use Rattle.std.proofs.Math.Bool.{or-false, and-true}
-use Rattle.std.proofs.lemmas.Bool.{cases_Bool, false_from_ne_true}
+use Rattle.std.proofs.lemmas.Bool.{cases_Bool, false_from_ne_true, or_parts}
 use Rattle.std.proofs.lemmas.Bool.Decides.{nat_tests}
 use Rattle.std.proofs.lemmas.List.{get_or-map, length-map}
 use Rattle.std.proofs.lemmas.List.Folds.{list_any_none}
@@ -13,10 +13,6 @@ use Rattle.std.proofs.lemmas.Option.{none-some, same_Some, slice_get_within, sli
 use Rattle.std.proofs.lemmas.Slice.Eq.{bytes_eq-Decides}
 use Rattle.yw_accept.specs.Facts.{AreDistinct}
 use Rattle.yw_accept.specs.Nodes.{is_among}
-
-either_false : (a b : Bool) → (a || b) ≡ false → (a ≡ false) × (b ≡ false)
-either_false true b h = absurd (true≢false h)
-either_false false b h = (refl, h)
 
 module _ {A : Type 0} (of : A → List ℕ) (name : List ℕ) where
   abbrev pub has_name : A → Bool
@@ -52,7 +48,7 @@ module _ {A : Type 0} (of : A → List ℕ) (name : List ℕ) where
   pub found_none : (xs : List A) → is_among (map of xs) name ≡ false → find has_name xs ≡ None
   found_none [] h = refl
   found_none (x ∷ xs) h =
-      let parts = either_false (bytes_eq name (of x)) (is_among (map of xs) name) h in
+      let parts = or_parts (bytes_eq name (of x)) (is_among (map of xs) name) h in
       ap (λ b. cond b (Some x) (find has_name xs)) (nat_list_eq_equiv.symm (of x) name ∙ parts.0) ∙ found_none xs parts.1
 
   -- ---- tests of all elements that speak of the one with the name alone
@@ -101,10 +97,6 @@ module _ {A : Type 0} (of : A → List ℕ) (name : List ℕ) where
       pub all_isnt : (xs : List A) → AreDistinct (map of xs) → (r : Option (Bor A)) → option_copied r ≡ find has_name xs → r ≡ None → true ≡ list_all q xs
       all_isnt xs h r at is = ap (λ (o : Option A). option_map_or test o true) (sym (ap option_copied is) ∙ at) ∙ sym (all_found xs h)
 
-pub list_any_of_map : {A B : Type 0} (p : B → Bool) (f : A → B) (xs : List A) → list_any p (map f xs) ≡ list_any (λ x. p (f x)) xs
-list_any_of_map p f [] = refl
-list_any_of_map p f (x ∷ xs) = ap (λ b. p (f x) || b) (list_any_of_map p f xs)
-
 -- what holds of all holds of the one that is found
 pub find_all : {A : Type 0} (P : A → Type 0) (p : A → Bool) (xs : List A) → All P xs → (x : A) → find p xs ≡ Some x → P x
 find_all P p [] all x e = absurd (none-some x e)
@@ -112,13 +104,6 @@ find_all {A} P p (y ∷ ys) all x e = elim (cases_Bool (p y)) [
   | inl t ↦ subst P (same_Some y x (ap (λ b. cond b (Some y) (find p ys)) (sym t) ∙ e)) (all zero y (omega arith))
   | inr f ↦ find_all P p ys (λ i d lt. all (suc i) d (omega (arith, lt))) x (ap (λ b. cond b (Some y) (find p ys)) (sym f) ∙ e)
 ]
-
--- the name of the element at hand stands at its place among the names
-pub name_at : {A : Type 0} (of : A → List ℕ) (xs : List A) (i : ℕ) (x : A) (name : List ℕ) → i < length xs → x ≡ get_or xs i x → name ≡ of x → (i < length (map of xs)) × (name ≡ get_or (map of xs) i name)
-name_at of xs i x name lt is e = (
-  subst (λ (n : ℕ). i < n) (sym (length-map xs of)) lt,
-  e ∙ ap of is ∙ sym (get_or-map of xs i x name lt),
-)
 
 -- what is read at a place
 pub read_at : {A : Type 0} (r : Option (Bor A)) (xs : List A) (i : ℕ) → is_some r ≡ nat_lt i (length xs) → IfSome r (λ x. x.now ≡ get_or xs i x.now) → option_copied r ≡ slice_get xs i

@@ -15,7 +15,7 @@ use Rattle.yw_base.specs.Usages.{comes_in, goes_out}
 use Rattle.yw_accept.specs.Scopes.{ParametersFit, is_in_var, is_out_var, is_same_sort, names_var, parameters_fit, vars_scope}
 use Rattle.yw_check_sorts.specs.Agreeing.{ItemFitsOver}
 use Rattle.yw_check_sorts.proofs.Deciding.{decides_along}
-use Rattle.yw_check_sorts.proofs.NamedLemmas.{list_any_of_map}
+use Rattle.yw_accept.proofs.Lists.{list_any_of_map}
 
 swapped : (t b s : Bool) → (t && b && s) ≡ (b && (t && s))
 swapped true true s = refl

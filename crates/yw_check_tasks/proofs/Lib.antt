@@ -1,3 +1,2 @@
-pub mod LoopLemmas
 pub mod NameLemmas
 pub mod OutputLemmas

@@ -6,13 +6,10 @@ use Rattle.std.proofs.lemmas.List.Sums.{sum_by-cons}
 use Rattle.std.specs.List.{list_any, list_all}
 use Rattle.yw_read.specs.declared.raw.RawBranch.{RawBranch}
 use Rattle.yw_accept.specs.Nodes.{is_among}
+pub use Rattle.yw_accept.proofs.Lists.{list_any_of_map}
 use Rattle.yw_check_tasks.specs.Outputs.{texts_of, AreCounts, is_counted, is_counted_once}
 
--- a test of what elements are sent to
-pub list_any_of_map : {A B : Type 0} (p : B → Bool) (f : A → B) (xs : List A) → list_any p (map f xs) ≡ list_any (λ x. p (f x)) xs
-list_any_of_map p f [] = refl
-list_any_of_map p f (x ∷ xs) = ap (λ b. p (f x) || b) (list_any_of_map p f xs)
-
+-- tests of what elements are sent to
 count_by_of_map : {A B : Type 0} (p : B → Bool) (f : A → B) (xs : List A) → count_by p (map f xs) ≡ count_by (λ x. p (f x)) xs
 count_by_of_map p f [] = refl
 count_by_of_map p f (x ∷ xs) =
@@ -51,6 +48,3 @@ branches_agree outputs branches given named is_given is_named last =
     let each_once : list_all (is_counted_once named) outputs ≡ list_all once (texts_of outputs) =
     list_all_same _ _ (λ o. ap (λ n. n == 1) (is_named o.now)) outputs ∙ sym (list_all-map once text outputs) in
     ap (λ b. b && list_all (is_counted_once named) outputs && last) each_leads ∙ ap (λ b. list_all leads branches && b && last) each_once
-
-pub and_both : (a b : Bool) → a ≡ true → b ≡ true → (a && b) ≡ true
-and_both a b h g = ap (λ x. x && b) h ∙ g

@@ -1,13 +1,13 @@
 -- A list in which no element comes twice has one number for each, and one list is what is made of a list element by element.
-use Rattle.std.proofs.Common.{◌≡◌, ℕ, suc, ◌<◌, List, [], ◌∷◌, ◌++◌, map, length, get_or, All, Some, refl, sym, ap, ◌∙◌, inl, inr, arith, length-append}
+use Rattle.std.proofs.Common.{◌≡◌, ℕ, suc, ◌<◌, List, [], ◌∷◌, ◌++◌, map, get_or, All, Some, refl, sym, ap, ◌∙◌, inl, inr, arith, length-append}
 use Rattle.std.specs.Prelude.{slice_get}
 use Rattle.std.specs.List.{AllZip, AllPairs}
 use Rattle.std.specs.Option.{option_map}
 use Rattle.std.proofs.lemmas.Bool.{cases_lt}
-use Rattle.std.proofs.lemmas.List.{get_or_append_left}
+use Rattle.std.proofs.lemmas.List.{get_or_append_left, get_or_default}
 use Rattle.std.proofs.lemmas.List.Elements.{All-head, All-tail, All-map, All-append}
 use Rattle.std.proofs.lemmas.List.Kept.{AllPairs-cons}
-use Rattle.std.proofs.lemmas.Option.{get_or_from_slice_get, slice_get_within, slice_get-get_or, slice_get-map}
+use Rattle.std.proofs.lemmas.Option.{get_or_from_slice_get, slice_get_within, slice_get-map}
 use Rattle.yw_accept.specs.Facts.{AreDistinct}
 
 module _ {A : Type 0} where
@@ -52,9 +52,6 @@ module _ {A : Type 0} where
     ]
   ]
 
-  get_same : (xs : List A) (i : ℕ) (d e : A) → i < length xs → get_or xs i d ≡ get_or xs i e
-  get_same xs i d e lt = get_or_from_slice_get xs i (get_or xs i e) d (slice_get-get_or xs i e lt)
-
 module _ {A B : Type 0} (f : A → B) (P : A → Type 0) (one : (x y : A) → P x → P y → f x ≡ f y → x ≡ y) where
   differ : (x : A) (xs : List A) → P x → All P xs → All (λ y. x ≡ y → ⊥) xs → All (λ y. f x ≡ f y → ⊥) xs
   differ x xs p ps h i d lt e = h i d lt (one x (get_or xs i d) p (ps i d lt) e)
@@ -69,7 +66,7 @@ module _ {A B : Type 0} (f : A → B) (P : A → Type 0) (one : (x y : A) → P 
 
 pub apart_names : (names : List (List ℕ)) → AreDistinct names → Apart names
 apart_names names h i j d lt within e =
-    let same : i ≡ j = h i j (omega (arith, lt, within)) within (get_same names i [] d (omega (arith, lt, within)) ∙ e ∙ get_same names j d [] within) in
+    let same : i ≡ j = h i j (omega (arith, lt, within)) within (get_or_default names i [] d (omega (arith, lt, within)) ∙ e ∙ get_or_default names j d [] within) in
     omega (arith, same, lt)
 
 -- a name has one number

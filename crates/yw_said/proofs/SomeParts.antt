@@ -1,13 +1,10 @@
 -- What stands at a task that passes its checks is there to be built: branches, parameters, assignments, items and kinds.
-use Rattle.std.proofs.Common.{◌≡◌, ℕ, ◌&&◌, Bool, true, false, not, List, length, All, Option, Some, None, Ok, refl, sym, ap, ◌∙◌, subst, arith, option_to_list, true≢false}
-use Rattle.std.specs.Prelude.{ℤ, pos, negsuc, int_le, Contains, filter}
+use Rattle.std.proofs.Common.{◌≡◌, ℕ, ◌&&◌, true, false, not, List, All, Option, Some, None, Ok, refl, sym, ap, ◌∙◌, arith, option_to_list, true≢false}
+use Rattle.std.specs.Prelude.{ℤ, pos, negsuc, int_le, Contains}
 use Rattle.std.specs.Option.{option_map_or}
-use Rattle.std.specs.Str.{bytes_eq}
 use Rattle.std.proofs.lemmas.Bool.{and_parts}
-use Rattle.std.proofs.lemmas.Bool.Decides.{nat_tests}
-use Rattle.std.proofs.lemmas.List.Elements.{All-contains, All-filter, All-contains_itself, filter_passes}
+use Rattle.std.proofs.lemmas.List.Elements.{All-contains}
 use Rattle.std.proofs.lemmas.List.Sums.{AllPass-from_list_all}
-use Rattle.std.proofs.lemmas.Slice.Eq.{bytes_eq-Decides}
 use Rattle.yw_base.specs.declared.value.Sort.{Sort}
 use Rattle.yw_expr.specs.declared.scope.Binding.{Binding}
 use Rattle.yw_expr.specs.Parsing.{Means}
@@ -21,8 +18,6 @@ use Rattle.yw_spec.specs.declared.task.Param.{Param}
 use Rattle.yw_read.specs.TaskKinds.{is_empty}
 use Rattle.yw_read.specs.declared.raw.RawBranch.{RawBranch}
 use Rattle.yw_read.specs.declared.raw.RawFlow.{RawFlow}
-use Rattle.yw_base.specs.declared.gate.Gate.{Gate}
-use Rattle.yw_base.specs.declared.gate.Gate.TheVariants as gates
 use Rattle.yw_read.specs.declared.raw.RawIn.{RawIn}
 use Rattle.yw_read.specs.declared.raw.RawKind.{RawKind}
 use Rattle.yw_read.specs.declared.raw.RawKind.TheVariants as raw_kinds
@@ -35,10 +30,11 @@ use Rattle.yw_accept.specs.Built.{MayMean, IsBranch, IsParam, IsAssign, IsVarCal
 use Rattle.yw_accept.specs.Facts.{NetLeads}
 use Rattle.yw_accept.specs.Graph.{may_be_child}
 use Rattle.yw_accept.specs.Names.{may_lead}
-use Rattle.yw_accept.specs.Nodes.{is_among, leads_to, HasFlow}
+use Rattle.yw_accept.specs.Nodes.{is_among, leads_to}
 use Rattle.yw_accept.specs.Scopes.{Spells, names_var, vars_scope, set_scope}
-use Rattle.yw_accept.specs.Tasks.{split_fits, least, greatest, enough, bounds_fit, item_fits, in_names, has_no_bounds}
-use Rattle.yw_said.proofs.SomeLists.{among_contains, contains_unmap, number_called, number_named}
+use Rattle.yw_accept.specs.Tasks.{least, greatest, enough, bounds_fit, item_fits, in_names, has_no_bounds}
+use Rattle.yw_accept.proofs.TaskFacts.{flow_to, to_outputs}
+use Rattle.yw_said.proofs.SomeLists.{number_called, number_named}
 use Rattle.yw_said.proofs.SomePlaces.{flow_place}
 use Rattle.yw_said.proofs.SomeFacts.{TaskCanBeBuilt}
 
@@ -53,23 +49,6 @@ may_mean scope Wanted None h = (None, tt)
 may_mean scope Wanted (Some text) h = let found = tree_of scope Wanted text (h 0 text (omega arith)) in (Some found.0, found.1)
 
 -- ---- branches
-
-none_all : {A : Type 0} (P : A → Type 0) (xs : List A) → length xs ≡ 0 → All P xs
-none_all P xs none i d lt = absurd (omega (arith, lt, none))
-
-to_outputs : (gate : Gate) (outputs : List (List ℕ)) (branches : List RawBranch) → split_fits gate outputs branches ≡ true → All (λ (b : RawBranch). is_among outputs b.to ≡ true) branches
-to_outputs gates.And outputs branches h = none_all (λ (b : RawBranch). is_among outputs b.to ≡ true) branches (grind (arith, nat_tests))
-to_outputs gates.Xor outputs branches h = AllPass-from_list_all (λ (b : RawBranch). is_among outputs b.to) branches (and_parts _ _ (and_parts _ _ h).0).0
-to_outputs gates.Or outputs branches h = AllPass-from_list_all (λ (b : RawBranch). is_among outputs b.to) branches (and_parts _ _ (and_parts _ _ h).0).0
-
-flow_to : (net : RawNet) (node to : List ℕ) → is_among (leads_to net node) to ≡ true → HasFlow net node to
-flow_to net node to h =
-    let from_node : RawFlow → Bool = λ flow. bytes_eq flow.from node in
-    let (flow, there, is_to) = contains_unmap (λ (f : RawFlow). f.to) (filter from_node net.flows) to (among_contains (leads_to net node) to h) in
-    let is_from : flow.from ≡ node = (bytes_eq-Decides flow.from node).0 (All-contains (λ f. from_node f ≡ true) (filter from_node net.flows) flow (filter_passes from_node net.flows) there) in
-    let among : Contains net.flows flow = All-contains (Contains net.flows) (filter from_node net.flows) flow (All-filter from_node (Contains net.flows) net.flows (All-contains_itself net.flows)) there in
-    let P : List ℕ → List ℕ → Type 0 = λ a b. Contains net.flows (record { from = a; to = b }) in
-    subst (λ b. P node b) is_to (subst (λ a. P a flow.to) is_from among)
 
 pub record BranchFits (net : RawNet) (task : RawTask) (branch : RawBranch) : Type 0 where
   pub flow : is_among (leads_to net task.name) branch.to ≡ true

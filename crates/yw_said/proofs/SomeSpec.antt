@@ -3,6 +3,7 @@ use Rattle.std.proofs.Common.{◌≡◌, ℕ, Bool, true, not, List, get_or, map
 use Rattle.std.specs.Prelude.{None, filter}
 use Rattle.std.specs.List.{AllZip}
 use Rattle.std.specs.Str.{bytes_eq}
+use Rattle.std.proofs.lemmas.Bool.{not-true}
 use Rattle.std.proofs.lemmas.List.Elements.{All-filter, Contains-get_or}
 use Rattle.std.proofs.lemmas.List.Sums.{AllPass-from_list_all}
 use Rattle.yw_expr.specs.Tree.{Tree}
@@ -20,7 +21,7 @@ use Rattle.yw_accept.specs.Names.{may_be_emptied}
 use Rattle.yw_accept.specs.Nodes.{is_task}
 use Rattle.yw_accept.specs.Scopes.{vars_scope}
 use Rattle.yw_accept.specs.Verdict.{IsVerdict}
-use Rattle.yw_said.proofs.SomeLists.{made_of_all, kept, not_true, number_called}
+use Rattle.yw_said.proofs.SomeLists.{made_of_all, kept, number_called}
 use Rattle.yw_said.proofs.SomePlaces.{flow_place, emptied_place}
 use Rattle.yw_said.proofs.SomeFacts.{TaskCanBeBuilt, NetCanBeBuilt, CanBeBuilt, can_be_built}
 use Rattle.yw_said.proofs.SomeParts.{BranchFits, AssignFits, some_branch, some_param, some_assign, some_items, some_kind, branches_fit, ins_mean, assigns_fit, each_means}
@@ -41,7 +42,7 @@ module _ (net : RawNet) (removed : List (List ℕ)) (fit : All (λ text. may_be_
   dropped_places : (numbers : List ℕ) × AllZip (IsPlaceCalled net) (filter (λ text. not (is_task net text)) removed) numbers
   dropped_places =
       let no_task : List ℕ → Bool = λ text. not (is_task net text) in
-      made_of_all (λ text. MayBeEmptied text × (no_task text ≡ true)) (IsPlaceCalled net) (λ text h. emptied_place net text h.0 (not_true _ h.1)) (filter no_task removed) (kept no_task MayBeEmptied removed fit)
+      made_of_all (λ text. MayBeEmptied text × (no_task text ≡ true)) (IsPlaceCalled net) (λ text h. emptied_place net text h.0 (not-true _ h.1)) (filter no_task removed) (kept no_task MayBeEmptied removed fit)
 
   dropped_tasks : (numbers : List ℕ) × AllZip (IsTaskCalled net) (filter (is_task net) removed) numbers
   dropped_tasks =

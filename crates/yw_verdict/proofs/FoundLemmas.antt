@@ -1,5 +1,5 @@
 -- What is found of a text is found once, and is found of its front.
-use Rattle.std.proofs.Common.{◌≡◌, ℕ, ◌+◌, ◌≤◌, List, length, take, Option, None, Some, Result, Ok, Err, option_map, inl, inr, refl, sym, ap, ◌∙◌, subst, arith, length-take}
+use Rattle.std.proofs.Common.{◌≡◌, ℕ, ◌+◌, ◌≤◌, List, length, take, None, Some, Result, Ok, Err, inl, inr, refl, sym, ap, ◌∙◌, subst, arith, length-take}
 use Rattle.std.specs.Prelude.{true, false, if◌then◌else◌}
 use Rattle.std.specs.Str.{IsUtf8, is_utf8}
 use Rattle.std.proofs.lemmas.List.{take_all}
@@ -7,22 +7,15 @@ use Rattle.std.proofs.lemmas.Str.{is_utf8-from_IsUtf8, IsUtf8-from_is_utf8}
 use Rattle.yw_read.specs.Reading.{spec_in}
 use Rattle.yw_read.specs.declared.raw.RawSpec.{RawSpec}
 use Rattle.yw_read.specs.declared.raw.ReadFault.{ReadFault}
-use Rattle.yw_read.specs.declared.raw.ReadFault.TheVariants.{NotToml, Shape, Memory}
-use Rattle.yw_accept.proofs.Once.{verdict-once}
-use Rattle.yw_model.specs.Accepted.{document_in, JudgesSaid, check_refusal}
+use Rattle.yw_read.specs.declared.raw.ReadFault.TheVariants.{NotToml}
+use Rattle.yw_model.specs.Accepted.{document_in}
+use Rattle.yw_model.proofs.ReadingOnce.{judged_once}
 use Rattle.yw_state.specs.Broken.{placeless}
 use Rattle.yw_state.specs.declared.rule.Refusal.{Refusal}
 use Rattle.yw_state.specs.declared.rule.Rule.TheVariants.{SpecText}
 use Rattle.yw_verdict.specs.Found.{text_limit, FindsSaid, IsFoundBy}
 use Rattle.yw_verdict.specs.declared.finding.Finding.{Finding}
 use Rattle.yw_verdict.specs.declared.finding.Finding.TheVariants.{Accepted, Refused}
-
--- a document has one first fault at most
-pub judged-once : (said : Result RawSpec ReadFault) (r q : Option Refusal) → JudgesSaid said r → JudgesSaid said q → r ≡ q
-judged-once (Ok raw) r q (a, v, e) (b, w, f) = e ∙ ap (option_map check_refusal) (verdict-once raw a b v w) ∙ sym f
-judged-once (Err NotToml) r q e f = e ∙ sym f
-judged-once (Err (Shape path)) r q e f = e ∙ sym f
-judged-once (Err Memory) r q e f = absurd e
 
 same_ok : (said : Result RawSpec ReadFault) (raw other : RawSpec) → said ≡ Ok raw → said ≡ Ok other → raw ≡ other
 same_ok said raw other e f = cc
@@ -35,9 +28,9 @@ not_both r e = cc
 
 finds-once : (said : Result RawSpec ReadFault) (f g : Finding) → FindsSaid said f → FindsSaid said g → f ≡ g
 finds-once said (Accepted n) (Accepted m) (j, raw, is, named) (k, other, os, called) = ap Accepted (named ∙ ap (λ (r : RawSpec). r.name) (same_ok said raw other is os) ∙ sym called)
-finds-once said (Accepted n) (Refused q) (j, raw, is, named) k = absurd (not_both q (judged-once said None (Some q) j k))
-finds-once said (Refused r) (Accepted m) j (k, other, os, called) = absurd (not_both r (judged-once said None (Some r) k j))
-finds-once said (Refused r) (Refused q) j k = ap Refused (same_some r q (judged-once said (Some r) (Some q) j k))
+finds-once said (Accepted n) (Refused q) (j, raw, is, named) k = absurd (not_both q (judged_once said None (Some q) j k))
+finds-once said (Refused r) (Accepted m) j (k, other, os, called) = absurd (not_both r (judged_once said None (Some r) k j))
+finds-once said (Refused r) (Refused q) j k = ap Refused (same_some r q (judged_once said (Some r) (Some q) j k))
 
 -- bytes that are UTF-8 say what their text says, and others nothing
 pub document_of_text : (bytes : List ℕ) → IsUtf8 bytes → document_in bytes ≡ spec_in bytes

@@ -1,20 +1,9 @@
 -- What a read does to how much was taken.
-use Rattle.std.proofs.Common.{◌≡◌, ℕ, ◌+◌, ◌≤◌, List, [], ◌++◌, length, take, drop, Option, None, Some, refl, sym, ap, ◌∙◌, subst, append_assoc, arith, length-take, length-append}
+use Rattle.std.proofs.Common.{◌≡◌, ℕ, ◌+◌, ◌≤◌, List, [], ◌++◌, length, take, drop, Option, Some, refl, sym, ap, ◌∙◌, append_assoc, arith, length-take, length-append}
 use Rattle.std.proofs.lemmas.List.{append-nil, take_all, drop_all, take_at, drop_at, take-append-drop}
 use Rattle.std.specs.Io.KnownBytes.{Consumes, Keeps, IsAtEnd}
+use Rattle.yw_outside.proofs.Reading.{consumed, still_left, at_end}
 use Rattle.yw_verdict.specs.Taken.{HasTaken, TakesSome, TakesAll}
-
-consumed_from : (rest bs : List ℕ) (new : Option (List ℕ)) → Consumes (Some rest) new bs → (later : List ℕ) × (new ≡ Some later) × (rest ≡ bs ++ later)
-consumed_from rest bs None h = absurd h
-consumed_from rest bs (Some later) h = (later, refl, h)
-
-kept_from : (rest : List ℕ) (new : Option (List ℕ)) → Keeps (Some rest) new → new ≡ Some rest
-kept_from rest None h = absurd h
-kept_from rest (Some later) h = ap Some h
-
-at_end : (later : List ℕ) (new : Option (List ℕ)) → new ≡ Some later → IsAtEnd new → later ≡ []
-at_end later None e h = cc
-at_end later (Some l) e h = let same : later ≡ l = cc in same ∙ h
 
 pub taken_none : (bytes : List ℕ) (left : Option (List ℕ)) → left ≡ Some bytes → HasTaken bytes [] left
 taken_none bytes left e = record { rest = bytes; split = refl; still = e }
@@ -24,13 +13,13 @@ pub taken_still : (bytes taken : List ℕ) (left new : Option (List ℕ)) → Ha
 taken_still bytes taken left new h keeps = record {
   rest = h.rest;
   split = h.split;
-  still = kept_from h.rest new (subst (λ (o : Option (List ℕ)). Keeps o new) h.still keeps);
+  still = still_left h.rest left new h.still keeps;
 }
 
 -- one piece more is taken
 pub taken_more : (bytes taken piece : List ℕ) (left new : Option (List ℕ)) → HasTaken bytes taken left → Consumes left new piece → HasTaken bytes (taken ++ piece) new
 taken_more bytes taken piece left new h eats =
-    let c = consumed_from h.rest piece new (subst (λ (o : Option (List ℕ)). Consumes o new piece) h.still eats) in
+    let c = consumed h.rest piece left new h.still eats in
     record {
       rest = c.0;
       split = h.split ∙ ap (λ (r : List ℕ). taken ++ r) c.2 ∙ sym (append_assoc taken piece c.0);
@@ -44,7 +33,7 @@ kept_piece text room later seen now n len fits e kept = kept ∙ ap (λ (p : Lis
 -- the end was read
 pub taken_whole : (bytes taken : List ℕ) (left new : Option (List ℕ)) → HasTaken bytes taken left → Consumes left new [] → IsAtEnd new → (bytes ≡ taken) × (new ≡ Some [])
 taken_whole bytes taken left new h eats ended =
-    let c = consumed_from h.rest [] new (subst (λ (o : Option (List ℕ)). Consumes o new []) h.still eats) in
+    let c = consumed h.rest [] left new h.still eats in
     let none : c.0 ≡ [] = at_end c.0 new c.1 ended in
     (h.split ∙ ap (λ (r : List ℕ). taken ++ r) (c.2 ∙ none) ∙ append-nil taken, c.1 ∙ ap Some none)
 

@@ -1,13 +1,10 @@
 -- What a line that is said does to the files, and to what a crash leaves.
-use Rattle.std.proofs.Common.{ℕ, List, inl, inr, ⊎_elim, [], refl, sym, arith}
-use Rattle.std.proofs.lemmas.List.{append-nil}
+use Rattle.std.proofs.Common.{ℕ, List, inl, inr, ⊎_elim, refl, arith}
 use Rattle.yw_outside.specs.declared.image.Image.{Image}
 use Rattle.yw_outside.specs.Image.{Speaks}
+use Rattle.yw_outside.specs.LogLaws.{silent}
 use Rattle.yw_outside.specs.Moments.{After, Passes, LeavesOnly}
 use Rattle.yw_verdict.specs.Ends.{HasSameFiles, KeepsFiles}
-
-speaks_not : (line : List ℕ) (i : Image) → Speaks line i i
-speaks_not line i = record { a = refl; b = refl; said = ([], line, refl, sym (append-nil i.said)) }
 
 module _ {D : Type 0} (moment : D → ℕ) (left_since : D → ℕ → Image → Type 0) (old new : D) (may_old may_new : Image → Type 0)
     (only_now : (i : Image) → left_since old (moment old) i → may_old i) where
@@ -15,7 +12,7 @@ module _ {D : Type 0} (moment : D → ℕ) (left_since : D → ℕ → Image →
   pub told : (line : List ℕ) → Passes (Speaks line) (moment old) (moment new) (left_since old) (left_since new) may_old may_new → LeavesOnly moment left_since old new (After (Speaks line) may_old)
   told line time = record {
     later = time.later;
-    each = λ i left. ⊎_elim (λ earlier. (i, only_now i earlier, speaks_not line i)) (λ a. a) (time.within (moment old) i (omega arith) left);
+    each = λ i left. ⊎_elim (λ earlier. (i, only_now i earlier, silent line i)) (λ a. a) (time.within (moment old) i (omega arith) left);
     before = time.within;
   }
 

@@ -1,7 +1,7 @@
 use Rattle.std.specs.Prelude.{is_some}
 use Rattle.yw_accept.specs.Scopes.{gathered}
 use Rattle.yw_read.specs.declared.raw.RawOut.{RawOut}
-use Rattle.yw_build.proofs.LayerLemmas.{new_name}
+use Rattle.yw_accept.proofs.Layers.{new_name}
 use Rattle.yw_build.proofs.layers.layer_of_outs.Goals as goal
 
 pub add_new-requires : goal.add_new-requires

@@ -1,5 +1,5 @@
 use Rattle.yw_read.specs.declared.raw.RawVar.{RawVar}
-use Rattle.yw_build.proofs.LayerLemmas.{new_name}
+use Rattle.yw_accept.proofs.Layers.{new_name}
 use Rattle.yw_build.proofs.layers.layer_of_vars.Goals as goal
 
 pub add_new-requires : goal.add_new-requires

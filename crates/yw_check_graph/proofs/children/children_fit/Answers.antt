@@ -5,7 +5,7 @@ use Rattle.yw_accept.specs.Order.{InOrder}
 use Rattle.yw_accept.proofs.FactsLemmas.{is_named}
 use Rattle.yw_check_graph.specs.Nets.{NetChildrenFit, NetIsUsedOnce}
 use Rattle.yw_check_graph.proofs.ChildLemmas.{children_among}
-use Rattle.yw_check_graph.proofs.OrderLemmas.{then_second}
+use Rattle.yw_accept.proofs.Loops.{then_second}
 use Rattle.yw_check_graph.proofs.children.children_fit.Goals as goal
 
 pub net_graph-requires-clause-named : goal.net_graph-requires-clause-named

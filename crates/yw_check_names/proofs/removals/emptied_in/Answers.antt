@@ -1,5 +1,6 @@
-use Rattle.std.proofs.Common.{◌≡◌, ℕ, ◌||◌, ◌++◌, List, [], ◌∷◌, map, refl, ap, ◌∙◌, subst}
+use Rattle.std.proofs.Common.{◌||◌, ◌++◌, List, ap, ◌∙◌, subst}
 use Rattle.std.proofs.Math.Bool.{or_comm}
+use Rattle.std.proofs.lemmas.List.{map-id}
 use Rattle.std.proofs.lemmas.List.Folds.{list_any-append}
 use Rattle.std.specs.Str.{bytes_eq}
 use Rattle.yw_read.specs.declared.raw.RawFlow.{RawFlow}
@@ -9,10 +10,6 @@ use Rattle.yw_accept.specs.Nodes.{is_among, is_task, task_names, implicit_places
 use Rattle.yw_check_names.specs.Removals.{AreImplicit, MayBeEmptied}
 use Rattle.yw_check_names.specs.Seen.{NameSet, Knows, AddsAll}
 use Rattle.yw_check_names.proofs.removals.emptied_in.Goals as goal
-
-map_same : (names : List (List ℕ)) → map (λ (name : List ℕ). name) names ≡ names
-map_same [] = refl
-map_same (name ∷ names) = ap (λ (ns : List (List ℕ)). name ∷ ns) (map_same names)
 
 -- implicit conditions, conditions and tasks, one after the other
 emptied : (net : RawNet) (tasks implicit more all : NameSet) → Knows tasks (task_names net.task) → AreImplicit tasks net.flows implicit → AddsAll implicit more net.conditions → AddsAll more all (task_names net.task) → MayBeEmptied net all
@@ -34,5 +31,5 @@ returns c =
     emptied net tasks implicit more all
     (subst (λ (ts : List RawTask). Knows tasks (task_names ts)) c.as_slice.ensures c.in_ok-tasks.ensures)
     (subst (λ (flows : List RawFlow). AreImplicit tasks flows implicit) c.as_slice-2.ensures c.in_ok-set.ensures)
-    (subst (AddsAll implicit more) (map_same c.as_slice-3.result.now ∙ c.as_slice-3.ensures) c.in_ok-add_all.ensures)
+    (subst (AddsAll implicit more) (map-id c.as_slice-3.result.now ∙ c.as_slice-3.ensures) c.in_ok-add_all.ensures)
     (subst (λ (ts : List RawTask). AddsAll more all (task_names ts)) c.as_slice-4.ensures c.in_ok-add_all-2.ensures)

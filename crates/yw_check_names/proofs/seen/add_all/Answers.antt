@@ -1,8 +1,8 @@
 use Rattle.std.proofs.Common.{◌≡◌, ℕ, List, [], ◌∷◌, ◌++◌, map, take, get_or, string_bytes, sym, ap, ◌∙◌, subst, append_assoc}
 use Rattle.std.proofs.lemmas.List.{take_more}
+use Rattle.yw_accept.proofs.Among.{name_at}
 use Rattle.yw_check_names.specs.Seen.{Knows}
 use Rattle.yw_check_names.proofs.SeenLemmas.{knows_more}
-use Rattle.yw_check_names.proofs.Trying.{name_at}
 use Rattle.yw_check_names.proofs.seen.add_all.Goals as goal
 
 pub loop-item-preserved : goal.loop-item-preserved

@@ -1,8 +1,9 @@
 use Rattle.std.proofs.Common.{map}
 use Rattle.yw_accept.specs.Faults.{in_net}
 use Rattle.yw_accept.specs.Names.{IsNew}
+use Rattle.yw_accept.proofs.Among.{name_at}
 use Rattle.yw_check_names.specs.Seen.{Knows}
-use Rattle.yw_check_names.proofs.Trying.{name_at, tried_more, tried_stops, none_found}
+use Rattle.yw_check_names.proofs.Trying.{tried_more, tried_stops, none_found}
 use Rattle.yw_check_names.proofs.seen.new_names.Goals as goal
 
 pub returns-in-Some : goal.returns-in-Some

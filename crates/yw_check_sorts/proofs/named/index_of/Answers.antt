@@ -1,7 +1,7 @@
 use Rattle.std.proofs.Common.{◌≡◌, ◌≤◌, ℕ, List, [], ◌∷◌, ◌++◌, map, take, get_or, length, string_bytes, sym, ap, ◌∙◌, subst, arith}
 use Rattle.std.proofs.lemmas.List.{take_more, length-take-le}
 use Rattle.yw_accept.specs.Index.{IsIndexOf}
-use Rattle.yw_check_sorts.proofs.NamedLemmas.{name_at}
+use Rattle.yw_accept.proofs.Among.{name_at}
 use Rattle.yw_check_sorts.proofs.named.index_of.Goals as goal
 
 pub loop-number-preserved : goal.loop-number-preserved

@@ -1,5 +1,5 @@
 use Rattle.yw_accept.specs.Facts.{TaskIsNamed}
-use Rattle.yw_check_sorts.proofs.LoopLemmas.{at_element}
+use Rattle.yw_accept.proofs.Lists.{at_element}
 use Rattle.yw_check_sorts.proofs.parameters.net_parameters_agree.Goals as goal
 
 pub task_parameters_agree-requires-clause-task : goal.task_parameters_agree-requires-clause-task

@@ -1,5 +1,5 @@
 use Rattle.yw_accept.specs.Facts.{NetIsNamed}
-use Rattle.yw_check_sorts.proofs.LoopLemmas.{at_element}
+use Rattle.yw_accept.proofs.Lists.{at_element}
 use Rattle.yw_check_sorts.proofs.parameters.nets_parameters_agree.Goals as goal
 
 pub net_parameters_agree-requires-clause-net : goal.net_parameters_agree-requires-clause-net

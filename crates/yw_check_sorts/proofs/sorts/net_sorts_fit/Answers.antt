@@ -1,6 +1,7 @@
 use Rattle.yw_accept.specs.Facts.{TaskIsNamed}
 use Rattle.yw_check_sorts.specs.Fitting.{TaskSortsFit}
-use Rattle.yw_check_sorts.proofs.LoopLemmas.{at_element, passes, fails}
+use Rattle.yw_accept.proofs.Lists.{at_element}
+use Rattle.yw_accept.proofs.Loops.{passes, fails}
 use Rattle.yw_check_sorts.proofs.sorts.net_sorts_fit.Goals as goal
 
 pub task_sorts_fit-requires-clause-named : goal.task_sorts_fit-requires-clause-named

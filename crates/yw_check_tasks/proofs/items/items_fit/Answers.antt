@@ -1,6 +1,6 @@
 use Rattle.yw_accept.specs.Tasks.{ItemsFit}
 use Rattle.yw_check_tasks.specs.Steps.{NetItemsFit}
-use Rattle.yw_check_tasks.proofs.LoopLemmas.{passes, fails, none_fails}
+use Rattle.yw_accept.proofs.Loops.{passes, fails, none_fails}
 use Rattle.yw_check_tasks.proofs.items.items_fit.Goals as goal
 
 pub returns-in-Some : goal.returns-in-Some

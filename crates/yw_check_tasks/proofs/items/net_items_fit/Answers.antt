@@ -1,5 +1,5 @@
 use Rattle.yw_check_tasks.specs.Steps.{TaskItemsFit}
-use Rattle.yw_check_tasks.proofs.LoopLemmas.{passes, fails}
+use Rattle.yw_accept.proofs.Loops.{passes, fails}
 use Rattle.yw_check_tasks.proofs.items.net_items_fit.Goals as goal
 
 pub returns-in-Some : goal.returns-in-Some

@@ -1,6 +1,6 @@
 use Rattle.std.proofs.Common.{refl}
 use Rattle.yw_accept.specs.Tasks.{NetIsSmall}
-use Rattle.yw_check_tasks.proofs.LoopLemmas.{passes, fails}
+use Rattle.yw_accept.proofs.Loops.{passes, fails}
 use Rattle.yw_check_tasks.proofs.sizes.nets_are_small.Goals as goal
 
 pub returns-in-Some : goal.returns-in-Some

@@ -1,5 +1,5 @@
 use Rattle.yw_check_tasks.specs.Steps.{TaskIsSmall}
-use Rattle.yw_check_tasks.proofs.LoopLemmas.{passes, fails}
+use Rattle.yw_accept.proofs.Loops.{passes, fails}
 use Rattle.yw_check_tasks.proofs.sizes.tasks_are_small.Goals as goal
 
 pub returns-in-Some : goal.returns-in-Some

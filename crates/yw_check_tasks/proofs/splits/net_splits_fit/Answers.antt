@@ -1,5 +1,5 @@
 use Rattle.yw_accept.specs.Tasks.{SplitFits}
-use Rattle.yw_check_tasks.proofs.LoopLemmas.{passes, fails}
+use Rattle.yw_accept.proofs.Loops.{passes, fails}
 use Rattle.yw_check_tasks.proofs.splits.net_splits_fit.Goals as goal
 
 pub returns-in-Some : goal.returns-in-Some

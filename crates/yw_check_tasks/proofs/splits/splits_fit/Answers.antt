@@ -1,6 +1,6 @@
 use Rattle.yw_accept.specs.Tasks.{SplitsFit}
 use Rattle.yw_check_tasks.specs.Steps.{NetSplitsFit}
-use Rattle.yw_check_tasks.proofs.LoopLemmas.{passes, fails, none_fails}
+use Rattle.yw_accept.proofs.Loops.{passes, fails, none_fails}
 use Rattle.yw_check_tasks.proofs.splits.splits_fit.Goals as goal
 
 pub returns-in-Some : goal.returns-in-Some

@@ -1,12 +1,8 @@
-use Rattle.std.proofs.Common.{◌≡◌, List, ℕ, [], length, take, Option, sym, ap, subst, arith, length-take}
-use Rattle.std.specs.Io.KnownBytes.{Consumes}
+use Rattle.std.proofs.Common.{◌≡◌, List, ℕ, length, take, sym, subst, arith, length-take}
+use Rattle.yw_outside.proofs.Reading.{consumes_none}
 use Rattle.yw_verdict.specs.Taken.{HasTaken}
 use Rattle.yw_verdict.proofs.ReadLemmas.{taken_still, taken_more, taken_whole, kept_piece, took_whole, took_past, took_some, took_more}
 use Rattle.yw_verdict.proofs.input.read_text.Goals as goal
-
--- a read of no bytes
-consumes_none : (old new : Option (List ℕ)) (room : List ℕ) (n : ℕ) → n ≡ 0 → Consumes old new (take n room) → Consumes old new []
-consumes_none old new room n zero c = subst (λ (bs : List ℕ). Consumes old new bs) (ap (λ k. take k room) zero) c
 
 pub returns-in_err-count-clause-some : goal.returns-in_err-count-clause-some
 returns-in_err-count-clause-some g c = λ bytes e.
