@@ -30,3 +30,6 @@ pub mod TasksEntered
 pub mod Assigned
 pub mod MadeRows
 pub mod ExitWell
+pub mod RunsBegin
+pub mod EventsWell
+pub mod FromOpening

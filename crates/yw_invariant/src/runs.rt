@@ -1,4 +1,5 @@
-// A run of an exlet goes on.
+// A run of an exlet begins, or goes on.
+ghost use Rattle.std.specs.Prelude.{ℕ};
 ghost use Rattle.yw_invariant.specs.Sound.{ReadsSound};
 ghost use Rattle.yw_state.specs.Allowed.{Allowed};
 ghost use Rattle.yw_state.specs.Events.{after};
@@ -8,8 +9,19 @@ ghost use Rattle.yw_state.specs.Texts.{Said};
 ghost use Rattle.yw_state.specs.Well.{IsWell};
 ghost use Rattle.yw_state.specs.declared.event.Event.TheVariants as events;
 ghost use Rattle.yw_state.specs.declared.tree.Primitive.{Primitive};
+ghost use Rattle.yw_state.specs.declared.tree.TreeKind.{TreeKind};
 
 use yw_state::laws::reads::Reads;
+
+/// A state that is well stays so when an exlet begins for a check that is due, where specifications are sound.
+pub fn except_keeps_well<R: Reads>()
+    ensures { ReadsSound R.reader → (s : State) (j : Ident) (check : TreeKind) (node n : ℕ) (said : Said) → IsWell R.reader s → Allowed s (events.Except j check node n) said → IsWell R.reader (after s (events.Except j check node n) said) }
+{}
+
+/// A state that is well stays so when an exlet begins for what happened outside, where specifications are sound.
+pub fn raise_keeps_well<R: Reads>()
+    ensures { ReadsSound R.reader → (s : State) (j : Ident) (kind : TreeKind) (node n : ℕ) (said : Said) → IsWell R.reader s → Allowed s (events.Raise j kind node n) said → IsWell R.reader (after s (events.Raise j kind node n) said) }
+{}
 
 /// A state that is well stays so when a run takes its first primitive, whichever it is, where specifications are sound.
 pub fn prim_keeps_well<R: Reads>()

@@ -4,6 +4,9 @@
 //! exit status is the number of the server's status. It writes nothing to standard error.
 #![tactic(auto)]
 
+ghost use Rattle.std.specs.Prelude.{◌≡◌, codes, drop, slice_get, string_bytes};
+ghost use Rattle.std.specs.Option.{option_map_or};
+
 use std::alloc::AllocError;
 use std::process::ExitCode;
 use std::{env, io};
@@ -20,7 +23,9 @@ fn words_of(rt: &HostRuntime, args: env::Args) -> Result<Vec<String>, AllocError
 }
 
 /// The first word, `.` where there is none.
-fn folder_of(words: &[String]) -> &str {
+fn folder_of(words: &[String]) -> &str
+    ensures { result.now ≡ option_map_or (λ word. string_bytes word) (slice_get words.now 0) (codes ".") }
+{
     match words.first() {
         Some(word) => word.as_str(),
         None => ".",
@@ -28,7 +33,9 @@ fn folder_of(words: &[String]) -> &str {
 }
 
 /// The words behind the first.
-fn behind_first(words: &[String]) -> &[String] {
+fn behind_first(words: &[String]) -> &[String]
+    ensures { result.now ≡ drop 1 words.now }
+{
     if words.is_empty() { words } else { &words[1..] }
 }
 

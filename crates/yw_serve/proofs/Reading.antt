@@ -7,6 +7,7 @@ use Rattle.std.proofs.Math.Seq.{take-append-add}
 use Rattle.std.specs.Io.KnownBytes.{Consumes, Keeps, IsAtEnd}
 use Rattle.yw_outside.specs.declared.image.Image.{Image}
 use Rattle.yw_outside.specs.Moments.{LeavesOnly}
+use Rattle.yw_outside.proofs.Reading.{consumed, still_left, at_end}
 use Rattle.yw_journal.specs.Files.{Content}
 use Rattle.yw_journal.specs.declared.journal.Journal.{Journal}
 use Rattle.yw_model.specs.Lines.{whole_lines, all_lines, lines}
@@ -21,25 +22,6 @@ use Rattle.yw_serve.specs.Ends.{Takes, has_ended, before_piece, AllAnswered, Som
 use Rattle.yw_serve.specs.Reading.{HasAnswered, HasRead}
 use Rattle.yw_serve.proofs.Doing.{with_steps-append, done_both}
 use Rattle.yw_serve.proofs.Going.{IsReadyAt, none_done, stops_short}
-
-consumed_from : (rest bs : List ℕ) (new : Option (List ℕ)) → Consumes (Some rest) new bs → (later : List ℕ) × (new ≡ Some later) × (rest ≡ bs ++ later)
-consumed_from rest bs None h = absurd h
-consumed_from rest bs (Some later) h = (later, refl, h)
-
--- what is left after bytes were taken
-consumed : (rest bs : List ℕ) (old new : Option (List ℕ)) → old ≡ Some rest → Consumes old new bs → (later : List ℕ) × (new ≡ Some later) × (rest ≡ bs ++ later)
-consumed rest bs old new e h = consumed_from rest bs new (subst (λ (o : Option (List ℕ)). Consumes o new bs) e h)
-
-kept_from : (rest : List ℕ) (new : Option (List ℕ)) → Keeps (Some rest) new → new ≡ Some rest
-kept_from rest None h = absurd h
-kept_from rest (Some later) h = ap Some h
-
-still_left : (rest : List ℕ) (old new : Option (List ℕ)) → old ≡ Some rest → Keeps old new → new ≡ Some rest
-still_left rest old new e h = kept_from rest new (subst (λ (o : Option (List ℕ)). Keeps o new) e h)
-
-at_end : (later : List ℕ) (new : Option (List ℕ)) → new ≡ Some later → IsAtEnd new → later ≡ []
-at_end later None e h = cc
-at_end later (Some l) e h = let same : later ≡ l = cc in same ∙ h
 
 -- one piece more of all bytes is taken
 takes_more : (bytes taken rest piece later : List ℕ) (old new : Option (List ℕ)) → Takes bytes taken rest old → new ≡ Some later → rest ≡ piece ++ later → Takes bytes (taken ++ piece) later new

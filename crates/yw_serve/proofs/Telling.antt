@@ -5,6 +5,7 @@ use Rattle.yw_outside.specs.declared.desk.File.{File}
 use Rattle.yw_outside.specs.declared.desk.File.TheVariants.{A, B}
 use Rattle.yw_outside.specs.declared.image.Image.{Image}
 use Rattle.yw_outside.specs.Image.{SaysPart, Speaks, file_in, other_in}
+use Rattle.yw_outside.specs.LogLaws.{silent}
 use Rattle.yw_outside.specs.Moments.{After, Passes, IsSettled, LeavesOnly}
 use Rattle.yw_journal.specs.Files.{Content, Holds, IsLesser, FileHas}
 use Rattle.yw_journal.specs.Journal.{IsCurrent, IsBeforeOrAfter, with_record}
@@ -18,9 +19,6 @@ use Rattle.yw_serve.proofs.Doing.{with_steps-none}
 
 nothing_said : (old reply new : List ℕ) → new ≡ old → SaysPart old reply new
 nothing_said old reply new e = ([], reply, refl, e ∙ sym (append-nil old))
-
-speaks_not : (text : List ℕ) (i : Image) → Speaks text i i
-speaks_not text i = record { a = refl; b = refl; said = nothing_said i.said text i.said refl }
 
 pub same_file : (f : File) (old new : Image) → new.a ≡ old.a → new.b ≡ old.b → file_in f new ≡ file_in f old
 same_file A old new a b = a
@@ -91,7 +89,7 @@ module _ {D : Type 0} (moment : D → ℕ) (left_since : D → ℕ → Image →
   told old new state may_old may_new text settled said now time =
       let only = settled_is state may_old settled said in
       goes_on moment left_since old old new (Speaks text) may_old may_new (Speaks text state)
-      (started moment left_since old (Speaks text state) (λ i left. subst (λ (d : Image). Speaks text state d) (sym (only i (now i left))) (speaks_not text state)))
+      (started moment left_since old (Speaks text state) (λ i left. subst (λ (d : Image). Speaks text state d) (sym (only i (now i left))) (silent text state)))
       time (λ i a. subst (λ (d : Image). Speaks text d i) (only a.0 a.1) a.2)
 
 module _ {D : Type 0} (moment : D → ℕ) (left_since : D → ℕ → Image → Type 0) (state : D → Image) (may_leave : D → Image → Type 0)
@@ -119,7 +117,7 @@ module _ {D : Type 0} (moment : D → ℕ) (left_since : D → ℕ → Image →
       → Passes (Speaks text) (moment old) (moment new) (left_since old) (left_since new) may_old may_new → LeavesOnly moment left_since old new (After (Speaks text) may_old)
   told_after old new may_old may_new text now time =
       goes_on moment left_since old old new (Speaks text) may_old may_new (After (Speaks text) may_old)
-      (started moment left_since old (After (Speaks text) may_old) (λ i left. (i, now i left, speaks_not text i)))
+      (started moment left_since old (After (Speaks text) may_old) (λ i left. (i, now i left, silent text i)))
       time (λ i a. a)
 
 -- before a step that takes nothing

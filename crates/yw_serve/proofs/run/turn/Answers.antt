@@ -1,12 +1,9 @@
 use Rattle.std.proofs.Common.{◌≡◌, ◌<◌, ℕ, List, [], take, Option, ap, ◌∙◌, subst, arith}
 use Rattle.std.specs.Io.KnownBytes.{Consumes}
+use Rattle.yw_outside.proofs.Reading.{consumes_none}
 use Rattle.yw_serve.specs.Session.{with_steps}
 use Rattle.yw_serve.proofs.Reading.{all_answered, read_failed, read_all, stopped_at_end, read_on, stopped_in_piece}
 use Rattle.yw_serve.proofs.run.turn.Goals as goal
-
--- a read of no bytes
-consumes_none : (old new : Option (List ℕ)) (room : List ℕ) (n : ℕ) → n ≡ 0 → Consumes old new (take n room) → Consumes old new []
-consumes_none old new room n zero c = subst (λ (bs : List ℕ). Consumes old new bs) (ap (λ k. take k room) zero) c
 
 pub returns-in-Err-clause-ends : goal.returns-in-Err-clause-ends
 returns-in-Err-clause-ends g c = λ tells content s bytes start h.

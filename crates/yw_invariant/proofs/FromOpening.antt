@@ -1,0 +1,82 @@
+-- What accepted texts and allowed events lead to is well.
+use Rattle.std.specs.Prelude.{◌≡◌, true, List, [], ◌∷◌}
+use Rattle.std.proofs.Common.{sym, subst, arith}
+use Rattle.yw_invariant.proofs.Accepted.{accepted_are_sound}
+use Rattle.yw_invariant.proofs.EventsWell.{event_keeps_well}
+use Rattle.yw_model.specs.Texts as texts
+use Rattle.yw_state.proofs.MapLemmas.{never, nowhere}
+use Rattle.yw_state.specs.Events.{LeadAll}
+use Rattle.yw_state.specs.State.{State, no_checks, opening}
+use Rattle.yw_state.specs.Texts.{Reader}
+use Rattle.yw_state.specs.Well.{IsWell}
+use Rattle.yw_state.specs.Words.{has_check}
+use Rattle.yw_state.specs.declared.event.Event.{Event}
+use Rattle.yw_state.specs.declared.tree.TreeKind.{TreeKind}
+use Rattle.yw_state.specs.declared.tree.TreeKind.TheVariants.{Pre, Post, Select}
+
+-- no check is due there
+none_due : {A : Type 0} (kind : TreeKind) → has_check no_checks kind ≡ true → A
+none_due Pre e = never e
+none_due Select e = never e
+none_due Post e = never e
+none_due kind e = never e
+
+-- nothing stands there
+opening_is_well : (reader : Reader) → IsWell reader opening
+opening_is_well reader =
+    record {
+      numbers = record {
+        least = omega arith;
+        most = omega arith;
+        identities = λ j x e. nowhere e;
+        drawn = λ j x e. nowhere e;
+        ended_some = λ n way e. nowhere e;
+        ended_drawn = λ n way e. nowhere e;
+        over = λ j x e. nowhere e;
+      };
+      nets = record {
+        of_case = λ j n e. nowhere e;
+        of_item = λ j n x e. nowhere e;
+        of_run = λ j n r e. nowhere e;
+        at_something = λ j n e. nowhere e;
+        item_has = λ j x e. nowhere e;
+        run_has = λ j r e. nowhere e;
+      };
+      parents = record {
+        item_depth = λ j x e. nowhere e;
+        item_of_net = λ j x e. nowhere e;
+        run_depth = λ j r e. nowhere e;
+        run_of_target = λ j r e. nowhere e;
+        run_works = λ j r e. nowhere e;
+        one_run = λ j k e. never e;
+        not_both = λ j e. never e;
+        something = λ j x e. nowhere e;
+      };
+      marks = record {
+        suspended = λ j e. never e;
+        due = λ j kind e. none_due kind e;
+        due_has_rule = λ j kind e. none_due kind e;
+        select = λ j e. never e;
+      };
+      content = record {
+        spec_text = λ name l e. nowhere e;
+        spec_name = λ name l e. nowhere e;
+        person = λ name roles e. nowhere e;
+        of_spec = λ j n e. nowhere e;
+        net = λ j n e. nowhere e;
+        item = λ j x e. nowhere e;
+        count = λ i n k t e. nowhere e;
+        run_length = λ j r e. nowhere e;
+        run_fit = λ j r e. nowhere e;
+        rules = λ key rs e. nowhere e;
+      };
+      depth = λ j n k e. nowhere e;
+    }
+
+-- from any state on that is well
+goes_on : (es : List Event) (s t : State) → IsWell texts.reader s → LeadAll texts.reader s es t → IsWell texts.reader t
+goes_on [] s t well same = subst (IsWell texts.reader) (sym same) well
+goes_on (e ∷ es) s t well (mid, first, rest) = goes_on es mid t (event_keeps_well texts.reader accepted_are_sound s well e mid first) rest
+
+pub reached_is_well : (es : List Event) (t : State) → LeadAll texts.reader opening es t → IsWell texts.reader t
+reached_is_well es t = goes_on es opening t (opening_is_well texts.reader)
