@@ -1,6 +1,6 @@
 -- Which texts are accepted as specifications, and the first fault of the others. The three kinds of fault and their order
 -- are our own.
-use Rattle.std.specs.Prelude.{◌≡◌, ◌==◌, ◌&&◌, ℕ, List, length, Bool, true, false, not, is_none, Option, Some, Result, Ok, Err, option_map, if◌then◌else◌}
+use Rattle.std.specs.Prelude.{◌≡◌, ◌==◌, ◌&&◌, ℕ, List, length, Bool, not, is_none, Option, Some, Result, Ok, Err, option_map, if◌then◌else◌}
 use Rattle.std.specs.List.{list_all}
 use Rattle.std.specs.Str.{is_utf8}
 use Rattle.yw_base.specs.Gates.{is_or}

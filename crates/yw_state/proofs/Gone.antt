@@ -1,5 +1,5 @@
 -- Behind an event that removes an identity, nothing stands under it.
-use Rattle.std.specs.Prelude.{◌≡◌, ℕ, ◌&&◌, ◌||◌, Bool, true, false, not, List, [], ◌∷◌, Option, Some, None, is_some, fold, slice_set, unwrap_or, refl}
+use Rattle.std.specs.Prelude.{◌≡◌, ℕ, ◌&&◌, ◌||◌, Bool, true, false, not, List, [], Option, Some, None, is_some, fold, slice_set, unwrap_or, refl}
 use Rattle.std.proofs.Common.{◌∙◌, ap, inl, inr}
 use Rattle.yw_base.specs.Identity.{under}
 use Rattle.yw_spec.specs.declared.spec.Place.{Place}

@@ -1,7 +1,7 @@
 -- The values that items are given and make, what is kept of them in the net, and the places that a split chooses. Splits are the
 -- paper's; branches in order with a default are after the YAWL User Manual; that a task with several items runs over a list is our
 -- own.
-use Rattle.std.specs.Prelude.{ℕ, ℤ, ◌&&◌, Bool, true, false, List, [], ◌∷◌, ◌++◌, map, filter, Option, Some, None, is_some, is_none, option_map, option_and_then, unwrap_or, slice_get, slice_set, nat_le, if◌then◌else◌}
+use Rattle.std.specs.Prelude.{ℕ, ℤ, ◌&&◌, Bool, true, List, [], ◌∷◌, ◌++◌, map, filter, Option, Some, None, is_some, is_none, option_map, option_and_then, unwrap_or, slice_get, slice_set, nat_le, if◌then◌else◌}
 use Rattle.std.specs.Cmp.Lexicographic.{pointwise}
 use Rattle.std.specs.List.{list_all, filter_map, enumerate_from}
 use Rattle.yw_base.specs.Values.{may_hold, zero_of}

@@ -1,6 +1,6 @@
 -- What holds of every state that is reached, in six parts: numbers, nets, what things stand at, marks and checks, values and bounds,
 -- and depth. The invariant is our own.
-use Rattle.std.specs.Prelude.{◌≡◌, ◌≤◌, ◌<◌, ℕ, ◌+◌, ◌==◌, ◌&&◌, ◌||◌, Bool, true, false, not, List, [], ◌∷◌, length, Option, Some, is_some, is_none, slice_get, nat_lt, IsTrue, IsSome, IsNone, Ok, All, if◌then◌else◌}
+use Rattle.std.specs.Prelude.{◌≡◌, ◌≤◌, ◌<◌, ℕ, ◌+◌, ◌==◌, ◌&&◌, ◌||◌, Bool, true, not, List, [], ◌∷◌, length, Option, Some, is_some, is_none, slice_get, nat_lt, IsTrue, IsSome, IsNone, Ok, All, if◌then◌else◌}
 use Rattle.std.specs.Cmp.Lexicographic.{pointwise}
 use Rattle.std.specs.List.{list_all}
 use Rattle.std.specs.Option.{option_map_or}

@@ -1,5 +1,4 @@
-use Rattle.std.proofs.Common.{◌≡◌, ◌<◌, ℕ, List, [], take, Option, ap, ◌∙◌, subst, arith}
-use Rattle.std.specs.Io.KnownBytes.{Consumes}
+use Rattle.std.proofs.Common.{◌<◌, ◌∙◌, arith}
 use Rattle.yw_outside.proofs.Reading.{consumes_none}
 use Rattle.yw_serve.specs.Session.{with_steps}
 use Rattle.yw_serve.proofs.Reading.{all_answered, read_failed, read_all, stopped_at_end, read_on, stopped_in_piece}
