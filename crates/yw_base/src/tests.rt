@@ -1,7 +1,5 @@
 // What no clause says: that calls succeed, and that the definitions mean what is wanted.
-use crate::{
-    Gate, Ident, IdentFault, Items, Name, NameFault, Row, Sort, Text, Usage, Val, Value,
-};
+use crate::{Gate, Ident, IdentFault, Items, Name, NameFault, Row, Sort, Text, Usage, Val, Value};
 use std::cmp::Ordering;
 use std::test::Fail;
 
