@@ -8,6 +8,7 @@ use std::io;
 use std::io::ErrorKind;
 use yw_outside::Failed;
 
+/// A signal came in between, and the call may be made again.
 pub fn is_interrupted(error: &io::Error) -> bool
     ensures { IsTrue result ↔ (error_kind error.now ≡ ErrorKind.Interrupted) }
 {

@@ -119,7 +119,8 @@ fn frame(alloc: Global, bytes: &[u8]) -> Result<Vec<u8>, AllocError>
     Ok(out)
 }
 
-/// The bytes of an entry as they are appended: the entry's length as a u32, the entry, and a closed gate. An
+/// The bytes of an entry as they are appended: the entry's length as a u32, the entry, and a closed gate. It has 1 to
+/// 4,097 events, each a person with at most 64 roles or a load. An
 /// `Err` says that no memory was left, or that the length of the entry or of a text in it doesn't fit a u32.
 pub fn write_entry(alloc: Global, events: &EventList) -> Result<Bytes, AllocError>
     requires some { 1 ≤ length events.now }

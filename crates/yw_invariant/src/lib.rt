@@ -1,7 +1,7 @@
 //! What holds of every state that is reached (`IsWell` of `yw_state`) is kept by events with which items come, a task is left, or nets
 //! begin or go, and by the beginning and the steps of an exlet: Enter, Add, Exit, StartSub, CompleteSub, CompleteEmpty, Substitute,
 //! CompleteWorklet, Except, Raise, Prim and Compensated. That the others keep it stands in `yw_state`. So every event that is allowed keeps
-//! it, and each state that accepted texts and allowed events lead to is well. Each law is the contract of a function that does nothing.
+//! it, and each state that allowed events lead to is well, where the texts that they load can be loaded today. Each law is the contract of a function that does nothing.
 //! Where a law supposes that specifications are sound, accepted ones are.
 #![tactic(auto)]
 

@@ -2,7 +2,7 @@
 ghost use Rattle.yw_invariant.specs.Sound.{ReadsSound};
 ghost use Rattle.yw_model.specs.Texts.{reader};
 
-/// Each accepted specification is sound.
+/// Each specification that can be loaded, which is accepted and uses what is built alone, is sound.
 pub fn accepted_are_sound()
     ensures { ReadsSound reader }
 {}

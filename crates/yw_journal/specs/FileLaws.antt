@@ -10,9 +10,9 @@ use Rattle.yw_outside.specs.declared.desk.File.{File}
 use Rattle.yw_outside.specs.declared.desk.File.TheVariants.{A, B}
 use Rattle.yw_outside.specs.declared.image.Image.{Image}
 use Rattle.yw_outside.specs.Image.{file_in, other_in}
-use Rattle.yw_journal.specs.Files.{Content, FileHas, Holds, HasContent, NoneIsLive, IsHead, IsLesser, opening, magic, greatest, is_live, header_damage, magic_of, generation_of, count_of, snapshot_size_of}
-use Rattle.yw_journal.specs.Journal.{IsMadeOf, IsHeldBeside, IsBeforeOrMade, IsBeforeShutOrMade, made, header_bytes, other_file}
-use Rattle.yw_journal.specs.Records.{IsFramedState}
+use Rattle.yw_journal.specs.Files.{Content, FileHas, Holds, HasContent, NoneIsLive, IsHead, IsLesser, opening, magic, greatest, end_of, records_size, is_live, header_damage, magic_of, generation_of, count_of, snapshot_size_of}
+use Rattle.yw_journal.specs.Journal.{IsMadeOf, IsHeldBeside, IsBeforeOrMade, IsBeforeShutOrMade, made, header_bytes, other_file, with_record}
+use Rattle.yw_journal.specs.Records.{AreOpen, IsFramed, IsFramedState}
 
 -- the eight bytes at the front
 eight : (field rest : List ℕ) → length field ≡ 8 → take 8 (field ++ rest) ≡ field
@@ -85,6 +85,35 @@ module _ (generation count : ℕ) (snapshot head : List ℕ) (is : IsHead genera
       (ap (λ (n : ℕ). nat_le n greatest) generation_reads ∙ le-leb generation greatest is.generation_small))
       (ap (λ (n : ℕ). nat_le n greatest) count_reads ∙ le-leb count greatest is.count_small)
 
+-- records behind open gates take as many bytes as they say
+opened_size : (bytes : List ℕ) (records : List (List ℕ)) → AreOpen bytes records → length bytes ≡ records_size records
+opened_size bytes [] are = ap length are
+opened_size bytes (r ∷ rs) are = omega (
+  arith,
+  ap length are.2,
+  length-append are.0 are.1,
+  ap length are.3.split,
+  length-append are.3.field r,
+  are.3.four,
+  opened_size are.1 rs are.4,
+)
+
+records_size-more : (records : List (List ℕ)) (bytes : List ℕ) → records_size (records ++ bytes ∷ []) ≡ records_size records + (5 + length bytes)
+records_size-more [] bytes = omega arith
+records_size-more (r ∷ rs) bytes = omega (arith, records_size-more rs bytes)
+
+-- with a record more they end behind it
+pub end_with_record : (c : Content) (bytes framed : List ℕ) → IsFramed framed bytes → end_of (with_record c bytes) ≡ end_of c + length framed
+end_with_record c bytes framed is = omega (
+  arith,
+  records_size-more c.records bytes,
+  ap length is.split,
+  length-append is.frame (is.gate ∷ []),
+  ap length is.is_frame.split,
+  length-append is.is_frame.field bytes,
+  is.is_frame.four,
+)
+
 -- a file with some content is live, and its header is sound
 module _ (file : List ℕ) (c : Content) (end : ℕ) (has : FileHas file c end) where
   abbrev behind_head : List ℕ
@@ -104,6 +133,16 @@ module _ (file : List ℕ) (c : Content) (end : ℕ) (has : FileHas file c end) 
 
   pub content_generation : generation_of file ≡ c.generation
   content_generation = generation_reads c.generation c.count c.snapshot has.0 has.1 file behind_head split_head
+
+  -- its records end where its content says
+  pub content_end : end ≡ end_of c
+  content_end = omega (
+    arith,
+    has.2.place,
+    length-append has.0 has.2.opened,
+    head_size c.generation c.count c.snapshot has.0 has.1 file behind_head split_head,
+    opened_size has.2.opened c.records has.2.are_open,
+  )
 
 regroup : (front field snapshot : List ℕ) (gate : ℕ) (behind : List ℕ) → front ++ ((field ++ snapshot) ++ gate ∷ []) ++ behind ≡ (front ++ field ++ snapshot ++ []) ++ gate ∷ behind
 regroup front field snapshot gate behind = simp append_assoc

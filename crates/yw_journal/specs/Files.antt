@@ -119,6 +119,15 @@ HasContent c i = (NoneIsLive i × (c ≡ opening)) ⊎ ((f : File) × (end : ℕ
 abbrev pub number_of : Content → ℕ
 number_of c = c.count + length c.records
 
+-- how many bytes these records take, each with the gate before it and its length
+abbrev pub records_size : List (List ℕ) → ℕ
+records_size [] = 0
+records_size (r ∷ rs) = 5 + length r + records_size rs
+
+-- the offset at which the closed gate behind the records ends, and how long a file with this content is at least
+abbrev pub end_of : Content → ℕ
+end_of c = 30 + length c.snapshot + records_size c.records
+
 -- The meaning of a snapshot's and of an entry's bytes: the state of a snapshot, where it is one, and the state
 -- after an entry, where its bytes are one and each event of it is allowed in its turn.
 pub record Meaning (S : Type 0) : Type 1 where

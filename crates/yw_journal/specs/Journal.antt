@@ -1,10 +1,10 @@
 -- What a journal stands for, and what its calls leave.
-use Rattle.std.specs.Prelude.{◌≡◌, ◌⊎◌, ℕ, ◌+◌, ◌≤◌, ◌^◌, List, [], ◌∷◌, ◌++◌, take, false}
+use Rattle.std.specs.Prelude.{◌≡◌, ◌⊎◌, ℕ, ◌+◌, ◌-◌, ◌≤◌, ◌^◌, List, [], ◌∷◌, ◌++◌, take, false}
 use Rattle.std.specs.Int.{w64, to_be_bytes}
 use Rattle.yw_outside.specs.declared.desk.File.{File}
 use Rattle.yw_outside.specs.declared.desk.File.TheVariants.{A, B}
 use Rattle.yw_outside.specs.declared.image.Image.{Image}
-use Rattle.yw_outside.specs.Image.{file_in, other_in}
+use Rattle.yw_outside.specs.Image.{file_in, other_in, overwritten}
 use Rattle.yw_journal.specs.declared.journal.Journal.{Journal}
 use Rattle.yw_journal.specs.Files.{Content, Holds, HasContent, NoneIsLive, opening, number_of, is_live, magic}
 
@@ -23,6 +23,11 @@ pub record IsCurrent (j : Journal) (c : Content) (i : Image) : Type 0 where
 
 abbrev pub with_record : Content → List ℕ → Content
 with_record c bytes = record { generation = c.generation; count = c.count; snapshot = c.snapshot; records = c.records ++ bytes ∷ [] }
+
+-- a file whose records end at this offset, with a record's frame and a closed gate there, and the gate before them open; every other byte
+-- is as it was
+abbrev pub appended : List ℕ → ℕ → List ℕ → List ℕ
+appended file end framed = overwritten (overwritten file end framed) (end - 1) (1 ∷ [])
 
 -- the records from before, or these and the new one whole; nothing else is touched
 pub record IsBeforeOrAfter (f : File) (c : Content) (bytes : List ℕ) (old image : Image) : Type 0 where

@@ -2,10 +2,10 @@
 ghost use Rattle.std.specs.Prelude.{◌≡◌, ◌≤◌, ◌<◌, ◌+◌, List, ℕ, IsTrue, OnOk, OnErr, Err, length};
 ghost use Rattle.yw_outside.specs.declared.image.Image.{Image};
 ghost use Rattle.yw_outside.specs.Causes.{Rose};
-ghost use Rattle.yw_outside.specs.Image.{other_in};
+ghost use Rattle.yw_outside.specs.Image.{file_in, other_in};
 ghost use Rattle.yw_outside.specs.Moments.{IsSettled, LeavesOnly};
 ghost use Rattle.yw_journal.specs.Files.{Content, Holds};
-ghost use Rattle.yw_journal.specs.Journal.{IsReady, IsCurrent, IsBeforeOrAfter, with_record};
+ghost use Rattle.yw_journal.specs.Journal.{IsReady, IsCurrent, IsBeforeOrAfter, appended, with_record};
 ghost use Rattle.yw_journal.specs.Records.{IsFramed};
 
 use crate::synced::write_synced;
@@ -23,11 +23,12 @@ impl Journal {
         requires current { IsTrue (D.tells desk.old) → (c : Content) × IsCurrent self.old c (D.state desk.old) }
         requires settled { IsTrue (D.tells desk.old) → IsSettled (D.state desk.old) (D.may_leave desk.old) }
 
-        // At Ok the record is there, and nothing else has changed.
+        // At Ok the record is there, and no other byte has changed.
         ensures ok { OnOk result (IsTrue (D.tells desk.old) → (c : Content) (bytes : List ℕ) → IsCurrent self.old c (D.state desk.old) → IsFramed framed.now bytes
             → IsCurrent self.new (with_record c bytes) (D.state desk.new)) }
         ensures each_has { OnOk result (IsTrue (D.tells desk.old) → (c : Content) (bytes : List ℕ) → IsCurrent self.old c (D.state desk.old) → IsFramed framed.now bytes
             → (i : Image) → D.may_leave desk.new i → Holds self.old.file (with_record c bytes) self.new.end i) }
+        ensures bytes { OnOk result (IsTrue (D.tells desk.old) → file_in self.old.file (D.state desk.new) ≡ appended (file_in self.old.file (D.state desk.old)) self.old.end framed.now) }
         ensures settled { OnOk result (IsTrue (D.tells desk.old) → IsSettled (D.state desk.new) (D.may_leave desk.new)) }
         ensures other { OnOk result (IsTrue (D.tells desk.old) → other_in self.old.file (D.state desk.new) ≡ other_in self.old.file (D.state desk.old)) }
         ensures said { OnOk result (IsTrue (D.tells desk.old) → (D.state desk.new).said ≡ (D.state desk.old).said) }

@@ -16,9 +16,13 @@ pub enum AppendFault {
 /// The live file of higher generation, whose records end with a closed gate just before `end`.
 #[derive(Clone, Copy, Debug, PartialEq, Eq)]
 pub struct Journal {
+    /// The file to which records are added.
     pub file: File,
+    /// That file's generation, 1 to 2^62.
     pub generation: u64,
+    /// The offset just behind its last gate, which is closed: 30 to 2^63 bytes.
     pub end: u64,
+    /// How long the file may get, in bytes, at most 2^62.
     pub limit: u64,
     /// How many entries are held: those of the snapshot and the records behind it.
     pub number: u64,

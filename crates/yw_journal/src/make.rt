@@ -114,7 +114,8 @@ fn make_of<D: Desk>(
 impl Journal {
     /// Makes the file: this generation and number, a snapshot (its length as a u64, so many bytes, and a closed
     /// gate) and no record. Its gate is opened last, when all behind it is on the disk. A crash at any moment
-    /// leaves what both files held before, or the new file whole, and after `Ok` it leaves the new one.
+    /// leaves what the other file holds, or the new file whole, and after `Ok` it leaves the new one. Of what this
+    /// file held before nothing is kept.
     /// `Full` comes exactly where the file would be longer than the limit, before any call of the desk;
     /// `Disk` only where a call of the files failed. It takes no memory.
     pub fn make<D: Desk>(

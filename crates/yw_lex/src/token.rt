@@ -47,7 +47,7 @@ pub type TokenList = Items<Token>;
 /// Why a text has no tokens.
 #[derive(Clone, Copy, Debug, PartialEq, Eq)]
 pub enum LexFault {
-    /// At this place, the first such, no token begins.
+    /// At this place, in bytes from the start of the text, and at no earlier one, no token begins.
     At(usize),
     /// No memory was left.
     Memory,

@@ -135,7 +135,8 @@ impl Library {
     }
 
     /// The person has these roles from now on, and no others. Who was there keeps the place among the persons,
-    /// and who comes first stands behind all others. An `Err` says that no memory was left, and changes nothing.
+    /// and who comes first stands behind all others. The roles aren't looked at: that they are at most 64, and none
+    /// twice, is for the caller. An `Err` says that no memory was left, and changes nothing.
     pub fn person(&mut self, name: Name, roles: NameList) -> Result<(), AllocError>
         ensures ok { OnOk result (state_of self.new ≡ after (state_of self.old) (events.Person name roles) nothing) }
         ensures place { OnOk result (self.new ≡ with_person self.old (record { name = name; roles = roles })) }

@@ -9,7 +9,8 @@ pub enum File {
 use crate::Failed;
 
 /// Two files of at most 2^63 - 1 bytes and an output, with what a crash may leave of them. It tells what
-/// they hold, or it tells nothing.
+/// they hold, or it tells nothing. `Failed` comes of a call of a file only where the count of their faults rose, or
+/// stands at the last u64, and of a `say` where that of says did. A buffer that a failed `read` got may have any bytes.
 pub trait Desk {
     ghost use Rattle.std.specs.Prelude.{◌≡◌, ◌≤◌, ◌<◌, ◌+◌, ◌^◌, List, ℕ, Bool, IsTrue, IfOk, OnOk, length, take, drop};
     ghost use Rattle.yw_outside.specs.declared.image.Image.{Image};

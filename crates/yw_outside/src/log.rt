@@ -9,6 +9,7 @@ use crate::{Failed, File};
 use std::alloc::{AllocError, Global};
 use yw_base::Bytes;
 
+/// A call of a desk in memory, as it is kept to tell what a crash may leave.
 #[derive(Debug, Drop)]
 pub enum Call {
     /// It changes nothing: a look at a file, or a call that failed and did nothing.

@@ -1,5 +1,5 @@
 //! Walks in a directed graph whose nodes are the numbers 0 to count - 1: which nodes are reached, from
-//! where, in how many flows, and whether the graph has a cycle. Each takes time linear in nodes and flows.
+//! where, in how many flows, and whether the graph has a cycle. Each but `far` takes time linear in nodes and flows.
 #![tactic(auto)]
 
 mod cycles;

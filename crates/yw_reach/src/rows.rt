@@ -39,6 +39,7 @@ impl Row {
         Ok(())
     }
 
+    /// The nodes of the row.
     pub fn as_slice(&self) -> &[usize]
         ensures { result.now ≡ self.now }
     {

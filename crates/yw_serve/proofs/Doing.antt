@@ -1,30 +1,19 @@
 -- How steps that are done join, and what a crash leaves of them.
-use Rattle.std.proofs.Common.{◌≡◌, ℕ, List, [], ◌∷◌, ◌++◌, map, inl, inr, ⊎_elim, refl, sym, ap, ◌∙◌, subst, append_assoc}
-use Rattle.std.proofs.lemmas.List.{append-nil, map-append}
+use Rattle.std.proofs.Common.{◌≡◌, ℕ, List, [], ◌∷◌, ◌++◌, inl, inr, ⊎_elim, refl, sym, ap, ◌∙◌, subst, append_assoc}
+use Rattle.std.proofs.lemmas.List.{append-nil}
 use Rattle.yw_outside.specs.declared.desk.File.{File}
 use Rattle.yw_outside.specs.declared.image.Image.{Image}
-use Rattle.yw_outside.specs.Image.{SaysPart, other_in}
+use Rattle.yw_outside.specs.Image.{SaysPart, file_in, other_in}
 use Rattle.yw_outside.specs.Moments.{IsSettled, LeavesOnly}
 use Rattle.yw_journal.specs.Files.{Content}
 use Rattle.yw_journal.specs.Journal.{IsCurrent}
 use Rattle.yw_journal.specs.declared.journal.Journal.{Journal}
 use Rattle.yw_journal.proofs.Passing.{started, and_then, weakened}
 use Rattle.yw_journal.proofs.Images.{settled_is}
-use Rattle.yw_codec.specs.Entries.{entry_bytes}
 use Rattle.yw_model.specs.Run.{Step, taken_by, said_by}
-use Rattle.yw_model.proofs.RunLemmas.{taken_by-append, said_by-append}
-use Rattle.yw_serve.specs.Session.{with_steps, IsIn, IsBetween, IsAtWork, OfSteps, AreDone}
-
-abbrev with_records : Content → List (List ℕ) → Content
-with_records c records = record { generation = c.generation; count = c.count; snapshot = c.snapshot; records = records }
-
-pub with_steps-none : (c : Content) → with_steps c [] ≡ c
-with_steps-none c = ap (with_records c) (append-nil c.records)
-
-pub with_steps-append : (c : Content) (steps more : List Step) → with_steps (with_steps c steps) more ≡ with_steps c (steps ++ more)
-with_steps-append c steps more = ap (with_records c)
-    (append_assoc c.records (map entry_bytes (taken_by steps)) (map entry_bytes (taken_by more))
-    ∙ ap (λ (rs : List (List ℕ)). c.records ++ rs) (sym (map-append entry_bytes (taken_by steps) (taken_by more)) ∙ ap (map entry_bytes) (sym (taken_by-append steps more))))
+use Rattle.yw_model.proofs.RunLemmas.{said_by-append}
+use Rattle.yw_serve.specs.Session.{with_steps, file_after, HasRoom, IsIn, IsBetween, IsAtWork, OfSteps, AreDone}
+use Rattle.yw_serve.proofs.Written.{with_steps-none, with_steps-append, file_after-steps, room_for_both}
 
 said_further : (old said : List ℕ) (steps more : List Step) → said ≡ old ++ said_by steps → said ++ said_by more ≡ old ++ said_by (steps ++ more)
 said_further old said steps more e = ap (λ (bs : List ℕ). bs ++ said_by more) e ∙ append_assoc old (said_by steps) (said_by more) ∙ ap (λ (bs : List ℕ). old ++ bs) (sym (said_by-append steps more))
@@ -84,6 +73,8 @@ module _ {D : Type 0} (moment : D → ℕ) (left_since : D → ℕ → Image →
       → IsCurrent journal c (state d) → AreDone moment left_since state may_leave c [] journal d d
   nothing_done d c journal settled said only current = record {
     file = subst (λ (x : Content). IsCurrent journal x (state d)) (sym (with_steps-none c)) current;
+    room = inl refl;
+    bytes = refl;
     other = refl;
     said = sym (append-nil (state d).said);
     settled = settled;
@@ -91,13 +82,16 @@ module _ {D : Type 0} (moment : D → ℕ) (left_since : D → ℕ → Image →
   }
 
   -- steps and then more
-  pub done_both : (c : Content) (steps more : List Step) (first last : Journal) (old mid new : D) → last.file ≡ first.file
+  pub done_both : (c : Content) (steps more : List Step) (first last : Journal) (old mid new : D) → last.file ≡ first.file → last.limit ≡ first.limit
       → AreDone moment left_since state may_leave c steps first old mid → AreDone moment left_since state may_leave (with_steps c steps) more last mid new
       → AreDone moment left_since state may_leave c (steps ++ more) last old new
-  done_both c steps more first last old mid new same one two =
+  done_both c steps more first last old mid new same limit one two =
       let other : other_in last.file (state mid) ≡ other_in last.file (state old) = subst (λ (f : File). other_in f (state mid) ≡ other_in f (state old)) (sym same) one.other in
       record {
         file = subst (λ (x : Content). IsCurrent last x (state new)) (with_steps-append c steps more) two.file;
+        room = room_for_both last.limit c steps more (subst (λ (n : ℕ). HasRoom n c steps) (sym limit) one.room) two.room;
+        bytes = file_after-steps (file_in last.file (state old)) (file_in last.file (state mid)) (file_in last.file (state new)) c steps more
+            (subst (λ (f : File). file_in f (state mid) ≡ file_after (file_in f (state old)) c (taken_by steps)) (sym same) one.bytes) two.bytes;
         other = two.other ∙ other;
         said = two.said ∙ said_further (state old).said (state mid).said steps more one.said;
         settled = two.settled;

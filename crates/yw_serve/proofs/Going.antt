@@ -19,7 +19,8 @@ use Rattle.yw_serve.specs.declared.session.Stop.TheVariants.{Memory}
 use Rattle.yw_serve.specs.Kept.{most_kept, kept_of}
 use Rattle.yw_serve.specs.Session.{state_of, with_steps, OfSteps, AreDone, AnswersOn, Why, StopsWithin, IsAtByte, GoesOn, EndsLine, CutsLine}
 use Rattle.yw_serve.proofs.KeptLemmas.{kept_is, kept_over}
-use Rattle.yw_serve.proofs.Doing.{with_steps-none, with_steps-append, of_no_steps, nothing_done, done_both, leaves_nothing}
+use Rattle.yw_serve.proofs.Written.{with_steps-none, with_steps-append}
+use Rattle.yw_serve.proofs.Doing.{of_no_steps, nothing_done, done_both, leaves_nothing}
 
 -- to cut before more is added and to cut after it
 take_cut : {A : Type 0} (k : ℕ) (xs ys : List A) → take k (take k xs ++ ys) ≡ take k (xs ++ ys)
@@ -75,9 +76,9 @@ module _ {D : Type 0} (moment : D → ℕ) (left_since : D → ℕ → Image →
 
   module _ (c : Content) (a b : Session) (taken p : List ℕ) (old mid new : D) (same : b.journal.file ≡ a.journal.file) (limit : b.journal.limit ≡ a.journal.limit)
       (first : GoesOn moment left_since state may_leave c a b taken p old mid) where
-    pub goes_further : (z : Session) (q : List ℕ) → z.journal.file ≡ b.journal.file → GoesOn moment left_since state may_leave (with_steps c first.answers.steps) b z (taken ++ p) q mid new
+    pub goes_further : (z : Session) (q : List ℕ) → z.journal.file ≡ b.journal.file → z.journal.limit ≡ b.journal.limit → GoesOn moment left_since state may_leave (with_steps c first.answers.steps) b z (taken ++ p) q mid new
         → GoesOn moment left_since state may_leave c a z taken (p ++ q) old new
-    goes_further z q file next =
+    goes_further z q file limit_too next =
         let whole : taken ++ (p ++ q) ≡ (taken ++ p) ++ q = sym (append_assoc taken p q) in
         record {
           answers = record {
@@ -86,7 +87,7 @@ module _ {D : Type 0} (moment : D → ℕ) (left_since : D → ℕ → Image →
             steps = first.answers.steps ++ next.answers.steps;
             run = Run-append (state_of a) a.number first.answers.lines first.answers.steps (state_of b) next.answers.lines next.answers.steps (state_of z) first.answers.run
                 (subst (λ (n : ℕ). Run (state_of b) n next.answers.lines next.answers.steps (state_of z)) first.number next.answers.run);
-            are_done = done_both moment left_since state may_leave c first.answers.steps next.answers.steps b.journal z.journal old mid new file first.answers.are_done next.answers.are_done;
+            are_done = done_both moment left_since state may_leave c first.answers.steps next.answers.steps b.journal z.journal old mid new file limit_too first.answers.are_done next.answers.are_done;
           };
           at = next.at ∙ ap (λ (bs : List ℕ). kept_of (last_part bs)) (append_assoc taken p q);
           number = next.number ∙ ap (λ n. n + length next.answers.lines) first.number ∙ summed a.number first.answers.lines next.answers.lines;
@@ -112,13 +113,13 @@ module _ {D : Type 0} (moment : D → ℕ) (left_since : D → ℕ → Image →
               (subst (λ (n : ℕ). Run (state_of b) n s.lines s.steps s.reached) first.number s.run);
           mid = s.mid;
           journal = s.journal;
-          are_done = done_both moment left_since state may_leave c steps s.steps b.journal s.journal old mid s.mid s.file first.answers.are_done s.are_done;
+          are_done = done_both moment left_since state may_leave c steps s.steps b.journal s.journal old mid s.mid s.file s.limit first.answers.are_done s.are_done;
           work = s.work;
           after = s.after;
           run_on = subst (λ (n : ℕ). Run s.reached n s.next s.work s.after) place s.run_on;
           goes_on = has_run s.after (a.number + length (first.answers.lines ++ s.lines) + length s.next) s.later;
           moments = subst (λ (x : Content). LeavesOnly moment left_since s.mid new (OfSteps s.journal.file x s.work (state s.mid))) (with_steps-append c steps s.steps) s.moments;
-          why = s.why;
+          why = subst (λ (x : Content). Why state x stop s.journal s.work s.mid new) (with_steps-append c steps s.steps) s.why;
           limit = s.limit ∙ limit;
           file = s.file ∙ same;
         }
@@ -188,7 +189,7 @@ module _ {D : Type 0} (moment : D → ℕ) (left_since : D → ℕ → Image →
   -- it stopped at the line that comes behind the done ones
   stops_in : (c : Content) (stop : Stop) (a : Session) (done all : List (List ℕ)) (line : List ℕ) (old new : D) → IsReadyAt c a.journal old → all ≡ done ++ line ∷ []
       → (step : Step) (after : State) → Answers (state_of a) a.number line step after
-      → LeavesOnly moment left_since old new (OfSteps a.journal.file c (step ∷ []) (state old)) → Why stop a.journal (step ∷ []) old new
+      → LeavesOnly moment left_since old new (OfSteps a.journal.file c (step ∷ []) (state old)) → Why state c stop a.journal (step ∷ []) old new
       → StopsWithin moment left_since state may_leave c stop a done all old new
   stops_in c stop a done all line old new r e step after answers moments why = record {
     lines = [];
@@ -206,7 +207,7 @@ module _ {D : Type 0} (moment : D → ℕ) (left_since : D → ℕ → Image →
     run_on = subst (λ (n : ℕ). Run (state_of a) n (line ∷ []) (step ∷ []) after) (omega arith) (Run-one (state_of a) a.number line step after answers);
     goes_on = has_run after (a.number + 0 + 1) [];
     moments = subst (λ (x : Content). LeavesOnly moment left_since old new (OfSteps a.journal.file x (step ∷ []) (state old))) (sym (with_steps-none c)) moments;
-    why = why;
+    why = subst (λ (x : Content). Why state x stop a.journal (step ∷ []) old new) (sym (with_steps-none c)) why;
     limit = refl;
     file = refl;
   }
@@ -253,7 +254,7 @@ module _ {D : Type 0} (moment : D → ℕ) (left_since : D → ℕ → Image →
     stops_in_line stop r (inl none) = stops_nowhere c stop before (whole_lines taken) _ ((last_part taken ++ part) ∷ []) old new r (line_ends taken part none_in) none.0 none.1
     stops_in_line stop r (inr e) = stops_in c stop before (whole_lines taken) _ (last_part taken ++ part) old new r (line_ends taken part none_in) e.step e.after (line_answered e.step e.after e.answers)
         (subst (λ (j : Journal). LeavesOnly moment left_since old new (OfSteps j.file c (e.step ∷ []) (state old))) journal e.moments)
-        (subst (λ (j : Journal). Why stop j (e.step ∷ []) old new) journal e.why)
+        (subst (λ (j : Journal). Why state c stop j (e.step ∷ []) old new) journal e.why)
 
   module _ (c : Content) (before : Session) (taken : List ℕ) (at : IsAtByte before taken) (old : D) (r : IsReadyAt c before.journal old) where
     -- nothing follows the last newline

@@ -194,8 +194,8 @@ module _ {D : Type 0} (moment : D → ℕ) (left_since : D → ℕ → Image →
     Front = HoldsFront s (input.lines bytes true) (state opened).said
 
     -- where lines of a front of the bytes are answered
-    all_left : (some more : List (List ℕ)) (new : D) → input.lines bytes true ≡ some ++ more → AllAnswered moment left_since state may_leave c s some opened new → LeavesOnly moment left_since opened new Front
-    all_left some more new e a =
+    all_left : (full_at : ℕ) (some more : List (List ℕ)) (new : D) → input.lines bytes true ≡ some ++ more → AllAnswered moment left_since state may_leave c s full_at some opened new → LeavesOnly moment left_since opened new Front
+    all_left full_at some more new e a =
         weakened moment left_since opened new (OfSteps a.journal.file c a.steps (state opened)) Front a.are_done.moments
         (λ k o. front_of_more s (input.lines bytes true) some more (state opened).said k e (front_held a.journal.file c s (state opened) some a.steps a.reached k h a.run o))
 
@@ -246,11 +246,11 @@ module _ {D : Type 0} (moment : D → ℕ) (left_since : D → ℕ → Image →
           and_then moment left_since opened mid new Front (After (Speaks (full_line n)) (may_leave mid)) (short_left (stops.Full n) mid z) told.moments (λ k a. notice_left n mid k z a)
 
       run_left : (status : Status) (new : D) → RunEnds moment left_since state may_leave status c s full_at limit bytes left piece opened new → LeavesOnly moment left_since opened new Front
-      run_left Ok new e = all_left (input.lines bytes true) [] new (sym (append-nil (input.lines bytes true))) e.answered
-      run_left Read new e = let f = lines_of_front bytes e.taken e.rest false e.takes.split (not_ended e.rest) in all_left (input.lines e.taken false) f.0 new f.1 e.answered
+      run_left Ok new e = all_left full_at (input.lines bytes true) [] new (sym (append-nil (input.lines bytes true))) e.answered
+      run_left Read new e = let f = lines_of_front bytes e.taken e.rest false e.takes.split (not_ended e.rest) in all_left full_at (input.lines e.taken false) f.0 new f.1 e.answered
       run_left InputLimit new e =
           let f = lines_of_front bytes (take limit bytes) (drop limit bytes) false (sym (take-append-drop limit bytes)) (not_ended (drop limit bytes)) in
-          all_left (input.lines (take limit bytes) false) f.0 new f.1 e.answered
+          all_left full_at (input.lines (take limit bytes) false) f.0 new f.1 e.answered
       run_left Disk new e = short_left stops.Disk new e
       run_left Memory new (inl z) = short_left stops.Memory new z
       run_left Memory new (inr z) = subst (λ (x : D). LeavesOnly moment left_since opened x Front) (sym z.said) (short_left (stops.Full z.length) z.mid z.short)

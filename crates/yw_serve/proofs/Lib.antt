@@ -1,5 +1,6 @@
 pub mod KeptLemmas
 pub mod Planning
+pub mod Written
 pub mod Doing
 pub mod Going
 pub mod Telling

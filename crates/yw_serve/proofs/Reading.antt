@@ -17,10 +17,11 @@ use Rattle.yw_model.proofs.RunLemmas.{Run-append, has_run}
 use Rattle.yw_serve.specs.declared.session.Session.{Session}
 use Rattle.yw_serve.specs.declared.session.Stop.{Stop}
 use Rattle.yw_serve.specs.Kept.{most_kept}
-use Rattle.yw_serve.specs.Session.{state_of, with_steps, OfSteps, AnswersOn, StopsWithin, GoesOn}
+use Rattle.yw_serve.specs.Session.{state_of, with_steps, OfSteps, AnswersOn, StopsWithin, GoesOn, Why}
 use Rattle.yw_serve.specs.Ends.{Takes, has_ended, before_piece, AllAnswered, SomeAnswered, EndsWhole, EndsBetween, EndsPast, EndsShort}
 use Rattle.yw_serve.specs.Reading.{HasAnswered, HasRead}
-use Rattle.yw_serve.proofs.Doing.{with_steps-append, done_both}
+use Rattle.yw_serve.proofs.Written.{with_steps-append}
+use Rattle.yw_serve.proofs.Doing.{done_both}
 use Rattle.yw_serve.proofs.Going.{IsReadyAt, none_done, stops_short}
 
 -- one piece more of all bytes is taken
@@ -46,16 +47,16 @@ module _ {D : Type 0} (moment : D → ℕ) (left_since : D → ℕ → Image →
         (record { steps = []; run = same; are_done = none_done moment left_since state may_leave c session.journal start ready; at = front ∙ sym (take_all most_kept [] (omega arith)); number = number });
   }
 
-  answered_on : (before now : Session) (taken piece : List ℕ) (mid new : D) → now.journal.file ≡ before.journal.file → (h : HasAnswered moment left_since state may_leave c s before taken start mid)
+  answered_on : (before now : Session) (taken piece : List ℕ) (mid new : D) → now.journal.file ≡ before.journal.file → now.journal.limit ≡ before.journal.limit → (h : HasAnswered moment left_since state may_leave c s before taken start mid)
       → GoesOn moment left_since state may_leave (with_steps c h.steps) before now taken piece mid new → HasAnswered moment left_since state may_leave c s now (taken ++ piece) start new
-  answered_on before now taken piece mid new file h go =
+  answered_on before now taken piece mid new file limit h go =
       let more = go.answers.lines in
       record {
         steps = h.steps ++ go.answers.steps;
         run = subst (λ (ls : List (List ℕ)). Run s 1 ls (h.steps ++ go.answers.steps) (state_of now)) (sym go.answers.split)
             (Run-append s 1 (whole_lines taken) h.steps (state_of before) more go.answers.steps (state_of now) h.run
             (subst (λ (n : ℕ). Run (state_of before) n more go.answers.steps (state_of now)) h.number go.answers.run));
-        are_done = done_both moment left_since state may_leave c h.steps go.answers.steps before.journal now.journal start mid new file h.are_done go.answers.are_done;
+        are_done = done_both moment left_since state may_leave c h.steps go.answers.steps before.journal now.journal start mid new file limit h.are_done go.answers.are_done;
         at = go.at;
         number = go.number ∙ ap (λ n. n + length more) h.number ∙ summed (whole_lines taken) more ∙ ap (λ (ls : List (List ℕ)). 1 + length ls) (sym go.answers.split);
       }
@@ -83,13 +84,13 @@ module _ {D : Type 0} (moment : D → ℕ) (left_since : D → ℕ → Image →
       run = Run-append s 1 (whole_lines seen) h.steps (state_of session) z.lines z.steps z.reached h.run (subst (λ (n : ℕ). Run (state_of session) n z.lines z.steps z.reached) h.number z.run);
       mid = z.mid;
       journal = z.journal;
-      are_done = done_both moment left_since state may_leave c h.steps z.steps session.journal z.journal start mid z.mid z.file h.are_done z.are_done;
+      are_done = done_both moment left_since state may_leave c h.steps z.steps session.journal z.journal start mid z.mid z.file z.limit h.are_done z.are_done;
       work = z.work;
       after = z.after;
       run_on = subst (λ (n : ℕ). Run z.reached n z.next z.work z.after) (ap (λ n. n + length z.lines) h.number ∙ summed (whole_lines seen) z.lines) z.run_on;
       goes_on = has_run z.after (1 + length (whole_lines seen ++ z.lines) + length z.next) z.later;
       moments = subst (λ (x : Content). LeavesOnly moment left_since z.mid new (OfSteps z.journal.file x z.work (state z.mid))) (with_steps-append c h.steps z.steps) z.moments;
-      why = z.why;
+      why = subst (λ (x : Content). Why state x stop z.journal z.work z.mid new) (with_steps-append c h.steps z.steps) z.why;
       limited = z.limit;
     });
   }
@@ -99,7 +100,7 @@ module _ {D : Type 0} (moment : D → ℕ) (left_since : D → ℕ → Image →
 
   -- more came than the limit allows
   pub read_past : (session : Session) (limit count : ℕ) (bytes : List ℕ) (left : Option (List ℕ)) (new : D) → HasRead moment left_since state may_leave c s session limit count bytes left start new
-      → limit < count → count ≤ limit + 1 → EndsPast moment left_since state may_leave c s limit bytes left start new
+      → limit < count → count ≤ limit + 1 → EndsPast moment left_since state may_leave c s session.journal.limit limit bytes left start new
   read_past session limit count bytes left new h more most =
       let exact : length h.taken ≡ limit + 1 = omega (arith, h.counted) in
       let all : take (limit + 1) bytes ≡ h.taken = ap (take (limit + 1)) h.takes.split ∙ take_at h.taken h.rest (limit + 1) exact in
@@ -108,8 +109,8 @@ module _ {D : Type 0} (moment : D → ℕ) (left_since : D → ℕ → Image →
       record {
         past = omega (arith, exact, ap length h.takes.split, length-append h.taken h.rest);
         takes = subst (λ (bs : List ℕ). Takes bytes bs (drop (limit + 1) bytes) left) (sym all) (subst (λ (bs : List ℕ). Takes bytes h.taken bs left) (sym rest) h.takes);
-        answered = subst (λ (bs : List ℕ). AllAnswered moment left_since state may_leave c s (whole_lines bs) start new) (sym front)
-            (record { steps = h.answered.steps; reached = state_of session; run = h.answered.run; journal = session.journal; are_done = h.answered.are_done });
+        answered = subst (λ (bs : List ℕ). AllAnswered moment left_since state may_leave c s session.journal.limit (whole_lines bs) start new) (sym front)
+            (record { steps = h.answered.steps; reached = state_of session; run = h.answered.run; journal = session.journal; limited = refl; are_done = h.answered.are_done });
       }
 
   module _ (session : Session) (limit count : ℕ) (bytes : List ℕ) (left new_left : Option (List ℕ)) (mid : D) (h : HasRead moment left_since state may_leave c s session limit count bytes left start mid) (within : count ≤ limit) where
@@ -117,13 +118,13 @@ module _ {D : Type 0} (moment : D → ℕ) (left_since : D → ℕ → Image →
     all_answered = subst (λ (bs : List ℕ). HasAnswered moment left_since state may_leave c s session bs start mid) (take_all limit h.taken (omega (arith, h.counted))) h.answered
 
     -- nothing could be read
-    pub read_failed : Keeps left new_left → EndsBetween moment left_since state may_leave c s limit bytes new_left start mid
+    pub read_failed : Keeps left new_left → EndsBetween moment left_since state may_leave c s session.journal.limit limit bytes new_left start mid
     read_failed keeps = record {
       taken = h.taken;
       rest = h.rest;
       takes = record { split = h.takes.split; still = still_left h.rest left new_left h.takes.still keeps };
       within = omega (arith, h.counted);
-      answered = record { steps = all_answered.steps; reached = state_of session; run = all_answered.run; journal = session.journal; are_done = all_answered.are_done };
+      answered = record { steps = all_answered.steps; reached = state_of session; run = all_answered.run; journal = session.journal; limited = refl; are_done = all_answered.are_done };
     }
 
     module _ (end : Consumes left new_left []) (ended : IsAtEnd new_left) where
@@ -134,10 +135,10 @@ module _ {D : Type 0} (moment : D → ℕ) (left_since : D → ℕ → Image →
           let whole : bytes ≡ h.taken = h.takes.split ∙ ap (λ (r : List ℕ). h.taken ++ r) (e.2 ∙ none) ∙ append-nil h.taken in
           (whole, record { split = whole ∙ sym (append-nil h.taken); still = e.1 ∙ ap Some none })
 
-      pub read_all : (t : State) (journal : Journal) (new : D) → journal.file ≡ session.journal.file
+      pub read_all : (t : State) (journal : Journal) (new : D) → journal.file ≡ session.journal.file → journal.limit ≡ session.journal.limit
           → AnswersOn moment left_since state may_leave (with_steps c all_answered.steps) session (whole_lines h.taken) (all_lines h.taken) t journal mid new
-          → EndsWhole moment left_since state may_leave c s limit bytes new_left start new
-      read_all t journal new file a =
+          → EndsWhole moment left_since state may_leave c s session.journal.limit limit bytes new_left start new
+      read_all t journal new file limit_too a =
           let whole = all_taken.0 in
           let steps = all_answered.steps ++ a.steps in
           let run : Run s 1 (all_lines h.taken) steps t = subst (λ (ls : List (List ℕ)). Run s 1 ls steps t) (sym a.split)
@@ -145,8 +146,8 @@ module _ {D : Type 0} (moment : D → ℕ) (left_since : D → ℕ → Image →
           record {
             within = omega (arith, ap length whole, h.counted);
             takes = subst (λ (bs : List ℕ). Takes bytes bs [] new_left) (sym whole) all_taken.1;
-            answered = subst (λ (bs : List ℕ). AllAnswered moment left_since state may_leave c s (all_lines bs) start new) (sym whole)
-                (record { steps = steps; reached = t; run = run; journal = journal; are_done = done_both moment left_since state may_leave c all_answered.steps a.steps session.journal journal start mid new file all_answered.are_done a.are_done });
+            answered = subst (λ (bs : List ℕ). AllAnswered moment left_since state may_leave c s session.journal.limit (all_lines bs) start new) (sym whole)
+                (record { steps = steps; reached = t; run = run; journal = journal; limited = limit_too; are_done = done_both moment left_since state may_leave c all_answered.steps a.steps session.journal journal start mid new file limit_too all_answered.are_done a.are_done });
           }
 
       pub stopped_at_end : (stop : Stop) (piece : ℕ) (new : D) → piece ≡ 0
@@ -187,14 +188,14 @@ module _ {D : Type 0} (moment : D → ℕ) (left_since : D → ℕ → Image →
           let whole : limit ≡ length h.taken + (limit - count) = omega (arith, h.counted) in
           ap (λ k. take k (h.taken ++ piece)) whole ∙ take-append-add h.taken piece (limit - count) ∙ ap (λ (bs : List ℕ). h.taken ++ bs) (sym kept_of_piece)
 
-      pub read_on : (next : Session) (new : D) → next.journal.file ≡ session.journal.file → GoesOn moment left_since state may_leave (with_steps c all_answered.steps) session next h.taken (take kept room) mid new
+      pub read_on : (next : Session) (new : D) → next.journal.file ≡ session.journal.file → next.journal.limit ≡ session.journal.limit → GoesOn moment left_since state may_leave (with_steps c all_answered.steps) session next h.taken (take kept room) mid new
           → HasRead moment left_since state may_leave c s next limit (count + n) bytes new_left start new
-      read_on next new file go = record {
+      read_on next new file limit_too go = record {
         taken = h.taken ++ piece;
         rest = later.0;
         takes = now_taken;
         counted = length-append h.taken piece ∙ ap (λ k. k + length piece) h.counted ∙ ap (λ k. count + k) length_piece;
-        answered = subst (λ (bs : List ℕ). HasAnswered moment left_since state may_leave c s next bs start new) (sym within_limit) (answered_on session next h.taken (take kept room) mid new file all_answered go);
+        answered = subst (λ (bs : List ℕ). HasAnswered moment left_since state may_leave c s next bs start new) (sym within_limit) (answered_on session next h.taken (take kept room) mid new file limit_too all_answered go);
       }
 
       pub stopped_in_piece : (stop : Stop) (count_now : ℕ) (new : D) → count_now ≡ n → 0 < n

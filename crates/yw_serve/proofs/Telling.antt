@@ -13,9 +13,9 @@ use Rattle.yw_journal.specs.declared.journal.Journal.{Journal}
 use Rattle.yw_journal.proofs.Passing.{started, goes_on, and_then}
 use Rattle.yw_journal.proofs.Images.{settled_is}
 use Rattle.yw_codec.specs.Entries.{entry_bytes}
-use Rattle.yw_model.specs.Run.{Entry, Step, said_by}
-use Rattle.yw_serve.specs.Session.{with_entries, with_steps, IsIn, OfSteps, AreDone}
-use Rattle.yw_serve.proofs.Doing.{with_steps-none}
+use Rattle.yw_model.specs.Run.{Entry, Step, said_by, taken_by}
+use Rattle.yw_serve.specs.Session.{file_after, HasRoom, with_steps, IsIn, OfSteps, AreDone}
+use Rattle.yw_serve.proofs.Written.{with_none, with_one, with_steps-none}
 
 nothing_said : (old reply new : List ℕ) → new ≡ old → SaysPart old reply new
 nothing_said old reply new e = ([], reply, refl, e ∙ sym (append-nil old))
@@ -34,16 +34,6 @@ holds_same f c end old new a b h = record {
   file = subst (λ (l : List ℕ). FileHas l c end) (sym (same_file f old new a b)) h.file;
   other = subst (λ (l : List ℕ). IsLesser c.generation l) (sym (same_other f old new a b)) h.other;
 }
-
--- the words of a step with one entry or none
-pub with_step : (c : Content) (step : Step) → with_steps c (step ∷ []) ≡ with_entries c step.taken
-with_step c step = ap (with_entries c) (append-nil step.taken)
-
-pub with_one : (c : Content) (step : Step) (entry : Entry) → step.taken ≡ entry ∷ [] → with_steps c (step ∷ []) ≡ with_record c (entry_bytes entry)
-with_one c step entry e = with_step c step ∙ ap (with_entries c) e
-
-pub with_none : (c : Content) (step : Step) → step.taken ≡ [] → with_steps c (step ∷ []) ≡ c
-with_none c step e = with_step c step ∙ ap (with_entries c) e ∙ with_steps-none c
 
 pub said_by-one : (step : Step) → said_by (step ∷ []) ≡ step.reply
 said_by-one step = append-nil step.reply
@@ -101,9 +91,11 @@ module _ {D : Type 0} (moment : D → ℕ) (left_since : D → ℕ → Image →
   leaves_telling = and_then moment left_since old mid new (OfSteps journal.file c (step ∷ []) (state old)) (Speaks text (state mid)) first second
       (λ i s. of_telling journal.file c step journal.end (state old) (state mid) i current.holds unsaid other (subst (λ (t : List ℕ). Speaks t (state mid) i) reply s))
 
-  pub done_by_telling : (state new).a ≡ (state mid).a → (state new).b ≡ (state mid).b → (state new).said ≡ (state mid).said ++ text → IsSettled (state new) (may_leave new)
+  pub done_by_telling : HasRoom journal.limit c (step ∷ []) → file_in journal.file (state mid) ≡ file_after (file_in journal.file (state old)) c (taken_by (step ∷ [])) → (state new).a ≡ (state mid).a → (state new).b ≡ (state mid).b → (state new).said ≡ (state mid).said ++ text → IsSettled (state new) (may_leave new)
       → AreDone moment left_since state may_leave c (step ∷ []) journal old new
-  done_by_telling a b said settled = record {
+  done_by_telling room bytes a b said settled = record {
+    room = room;
+    bytes = same_file journal.file (state mid) (state new) a b ∙ bytes;
     file = record { holds = holds_same journal.file (with_steps c (step ∷ [])) journal.end (state mid) (state new) a b current.holds; generation = current.generation; number = current.number };
     other = same_other journal.file (state mid) (state new) a b ∙ other;
     said = said ∙ ap (λ (bs : List ℕ). bs ++ text) unsaid ∙ ap (λ (bs : List ℕ). (state old).said ++ bs) (reply ∙ sym (said_by-one step));

@@ -33,11 +33,11 @@ pub record EndsFull {D : Type 0} (moment : D → ℕ) (left_since : D → ℕ �
 abbrev pub RunEnds : {D : Type 0} → (D → ℕ) → (D → ℕ → Image → Type 0) → (D → Image) → (D → Image → Type 0)
     → Status → Content → State → ℕ → ℕ → List ℕ → Option (List ℕ) → ℕ → D → D → Type 0
 -- all is answered and held
-RunEnds m l v y Ok c s full_at limit bytes left piece old new = EndsWhole m l v y c s limit bytes left old new
+RunEnds m l v y Ok c s full_at limit bytes left piece old new = EndsWhole m l v y c s full_at limit bytes left old new
 -- the lines that ended within the bytes taken are
-RunEnds m l v y Read c s full_at limit bytes left piece old new = EndsBetween m l v y c s limit bytes left old new
+RunEnds m l v y Read c s full_at limit bytes left piece old new = EndsBetween m l v y c s full_at limit bytes left old new
 -- those that ended within the limit are
-RunEnds m l v y InputLimit c s full_at limit bytes left piece old new = EndsPast m l v y c s limit bytes left old new
+RunEnds m l v y InputLimit c s full_at limit bytes left piece old new = EndsPast m l v y c s full_at limit bytes left old new
 -- those that ended before the last piece are, and of the further ones some
 RunEnds m l v y Disk c s full_at limit bytes left piece old new = EndsShort m l v y c s full_at limit stops.Disk bytes left piece old new
 RunEnds m l v y Memory c s full_at limit bytes left piece old new =

@@ -1,11 +1,11 @@
 -- How far a session has come: which lines are answered, what the files hold of them at each moment, and what is kept of the next line.
-use Rattle.std.specs.Prelude.{◌≡◌, ◌⊎◌, ℕ, ◌+◌, ◌<◌, List, [], ◌∷◌, ◌++◌, length, map}
-use Rattle.yw_outside.specs.Image.{SaysPart, other_in}
+use Rattle.std.specs.Prelude.{◌≡◌, ◌⊎◌, ℕ, ◌+◌, ◌<◌, ◌≤◌, List, [], ◌∷◌, ◌++◌, length, map}
+use Rattle.yw_outside.specs.Image.{SaysPart, file_in, other_in}
 use Rattle.yw_outside.specs.Moments.{IsSettled, LeavesOnly}
 use Rattle.yw_outside.specs.declared.desk.File.{File}
 use Rattle.yw_outside.specs.declared.image.Image.{Image}
-use Rattle.yw_journal.specs.Files.{Content, Holds}
-use Rattle.yw_journal.specs.Journal.{IsCurrent}
+use Rattle.yw_journal.specs.Files.{Content, Holds, end_of}
+use Rattle.yw_journal.specs.Journal.{IsCurrent, appended}
 use Rattle.yw_journal.specs.declared.journal.Journal.{Journal}
 use Rattle.yw_codec.specs.Entries.{entry_bytes, framed}
 use Rattle.yw_library.specs.Holdings as library
@@ -27,6 +27,15 @@ with_entries c entries = record { generation = c.generation; count = c.count; sn
 -- with those that these steps take
 abbrev pub with_steps : Content → List Step → Content
 with_steps c steps = with_entries c (taken_by steps)
+
+-- a file of this content with these entries behind its own; every other byte is as it was
+abbrev pub file_after : List ℕ → Content → List Entry → List ℕ
+file_after file c [] = file
+file_after file c (e ∷ es) = file_after (appended file (end_of c) (framed e)) (with_entries c (e ∷ [])) es
+
+-- no entry is taken, or the file with those that are ends within the limit
+abbrev pub HasRoom : ℕ → Content → List Step → Type 0
+HasRoom limit c steps = (taken_by steps ≡ []) ⊎ (end_of (with_steps c steps) ≤ limit)
 
 -- this file is the live one of higher generation, with this content
 abbrev pub IsIn : File → Content → Image → Type 0
@@ -53,11 +62,13 @@ pub record OfSteps (f : File) (c : Content) (steps : List Step) (old i : Image) 
   pub here : IsBetween f c done old i ⊎ IsAtWork f c done rest old i
   pub other : other_in f i ≡ other_in f old
 
--- These steps are done between two states of a desk: their entries are held, their replies said, nothing is pending, and a crash at any
--- moment of it leaves some of them.
+-- These steps are done between two states of a desk: their entries are held and had room, not one other byte of a file has changed, their
+-- replies are said, nothing is pending, and a crash at any moment of it leaves some of them.
 pub record AreDone {D : Type 0} (moment : D → ℕ) (left_since : D → ℕ → Image → Type 0) (state : D → Image) (may_leave : D → Image → Type 0)
     (c : Content) (steps : List Step) (journal : Journal) (old new : D) : Type 0 where
   pub file : IsCurrent journal (with_steps c steps) (state new)
+  pub room : HasRoom journal.limit c steps
+  pub bytes : file_in journal.file (state new) ≡ file_after (file_in journal.file (state old)) c (taken_by steps)
   pub other : other_in journal.file (state new) ≡ other_in journal.file (state old)
   pub said : (state new).said ≡ (state old).said ++ said_by steps
   pub settled : IsSettled (state new) (may_leave new)
@@ -72,15 +83,16 @@ pub record AnswersOn {D : Type 0} (moment : D → ℕ) (left_since : D → ℕ �
   pub run : Run (state_of session) session.number lines steps t
   pub are_done : AreDone moment left_since state may_leave c steps journal old new
 
--- Why a session ended at a line, of which this may come: for want of memory or of room, before anything was done for it, or within the
--- calls of the desk.
-abbrev pub Why : {D : Type 0} → Stop → Journal → List Step → D → D → Type 0
-Why Memory journal work old new = new ≡ old
-Why (Full n) journal work old new =
+-- Why a session ended at a line, of which this may come, behind content c: for want of memory or of room, before anything was done for it,
+-- or within the calls of the desk, and then there was room. Where a reply wasn't said whole, its entry is held.
+abbrev pub Why : {D : Type 0} → (D → Image) → Content → Stop → Journal → List Step → D → D → Type 0
+Why state c Memory journal work old new = new ≡ old
+Why state c (Full n) journal work old new =
     (new ≡ old) × (entry : Entry) × (step : Step) × (later : List Step) × (work ≡ step ∷ later) × (step.taken ≡ entry ∷ [])
     × (n ≡ journal.end + length (framed entry)) × (journal.limit < n)
-Why Disk journal work old new = Unit {0}
-Why Write journal work old new = Unit {0}
+Why state c Disk journal work old new = HasRoom journal.limit c work
+Why state c Write journal work old new =
+    HasRoom journal.limit c work × (file_in journal.file (state new) ≡ file_after (file_in journal.file (state old)) c (taken_by work))
 
 -- Of the lines behind the done ones some are answered, and the session stopped at the next.
 pub record StopsWithin {D : Type 0} (moment : D → ℕ) (left_since : D → ℕ → Image → Type 0) (state : D → Image) (may_leave : D → Image → Type 0)
@@ -103,7 +115,7 @@ pub record StopsWithin {D : Type 0} (moment : D → ℕ) (left_since : D → ℕ
   -- and something comes of the further lines
   pub goes_on : HasRun after (session.number + length lines + length next) later
   pub moments : LeavesOnly moment left_since mid new (OfSteps journal.file (with_steps c steps) work (state mid))
-  pub why : Why stop journal work mid new
+  pub why : Why state (with_steps c steps) stop journal work mid new
   pub limit : journal.limit ≡ session.journal.limit
   pub file : journal.file ≡ session.journal.file
 
@@ -134,7 +146,7 @@ pub record CutsStep {D : Type 0} (moment : D → ℕ) (left_since : D → ℕ �
   pub after : State
   pub answers : Answers (state_of before) before.number before.front.items step after
   pub moments : LeavesOnly moment left_since old new (OfSteps before.journal.file c (step ∷ []) (state old))
-  pub why : Why stop before.journal (step ∷ []) old new
+  pub why : Why state c stop before.journal (step ∷ []) old new
 
 -- It stopped there, or no memory was left to find out what comes of the line.
 abbrev pub CutsLine : {D : Type 0} → (D → ℕ) → (D → ℕ → Image → Type 0) → (D → Image) → (D → Image → Type 0) → Content → Stop → Session → D → D → Type 0

@@ -47,7 +47,7 @@ fn carry_out<D: Desk>(journal: &mut Journal, plan: &Plan, desk: &mut D) -> Resul
         → AreDone D.moment D.left_since D.state D.may_leave c (step ∷ []) journal.new desk.old desk.new) }
     ensures moments { OnErr result (IsTrue (D.tells desk.old) → (c : Content) (step : Step) → IsCurrent journal.old c (D.state desk.old) → Does plan.now step
         → LeavesOnly D.moment D.left_since desk.old desk.new (OfSteps journal.old.file c (step ∷ []) (D.state desk.old))) }
-    ensures why { IfErr result (λ stop. IsTrue (D.tells desk.old) → (step : Step) → Does plan.now step → Why stop journal.old (step ∷ []) desk.old desk.new) }
+    ensures why { IfErr result (λ stop. IsTrue (D.tells desk.old) → (c : Content) (step : Step) → IsCurrent journal.old c (D.state desk.old) → Does plan.now step → Why D.state c stop journal.old (step ∷ []) desk.old desk.new) }
 
     ensures stands { OnOk result (Stands D.tells D.state D.may_leave journal.new desk.new) }
     ensures file { journal.new.file ≡ journal.old.file }

@@ -20,7 +20,7 @@ use yw_outside::{Desk, Failed, File};
 
 const MOST_ROLES: usize = 64;
 
-// What stands at a gate.
+/// What stands at a gate.
 pub enum Gate {
     /// A closed gate, which ends the records.
     Closed,

@@ -6,6 +6,7 @@ ghost use Rattle.yw_serve.specs.Kept.{kept_of};
 use memchr::memchr;
 use std::alloc::AllocError;
 
+/// How much of a line is kept, in bytes: one more than a line may have.
 pub const MOST_KEPT: usize = 1_048_577;
 
 /// The bytes before the first newline, and those behind it.

@@ -44,7 +44,7 @@ fn read_piece<S: Source>(source: &mut S, piece: &mut [u8], most: usize) -> Resul
     source.read(&mut piece[..room])
 }
 
-// Room for a piece.
+/// Room for a piece of the input, 65,536 bytes. An `Err` says that no memory was left.
 pub fn new_piece(alloc: Global) -> Result<Vec<u8>, AllocError>
     ensures { IfOk result (λ piece. vec_len piece ≡ 65536) }
 {

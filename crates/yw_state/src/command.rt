@@ -25,7 +25,7 @@ pub enum Command {
         toml: Text,
     },
     /// A rule is added to the tree of this kind at a task of a net, or at the whole case where neither is named:
-    /// at this side (`true` or `false`) of node `at`, with this condition and this conclusion.
+    /// at this side (`true` or `false`) of node `at`, 0 to 65,535, with this condition and this conclusion.
     Rule {
         spec: Name,
         net: Option<Name>,
@@ -109,7 +109,7 @@ pub struct Given {
     pub name: Text,
     /// The value, or `None` where it has no sort: it is null, an object or a float, is a text of more than 4,096
     /// bytes or a list of more than 1,000 elements, or a list of something else than whole numbers alone or
-    /// texts alone.
+    /// such texts alone.
     pub value: Option<Value>,
 }
 

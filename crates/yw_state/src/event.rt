@@ -5,7 +5,7 @@ use yw_spec::PlaceList;
 
 /// The atomic step. The events of one accepted command are its entry, which the files hold whole or not at all. Those
 /// from `Launch` to `CompleteEmpty` are the paper's transitions over named items; those from `Pass` on are after the
-/// thesis's worklets and exlets. Numbers of cases, items and runs are 1 to 2^48 - 1.
+/// thesis's worklets and exlets. Where an event is allowed, numbers of cases, items and runs are 1 to 2^48 - 1.
 #[derive(Debug, Drop)]
 pub enum Event {
     /// This person has these roles, at most 64 and none twice, and no others.
@@ -18,7 +18,7 @@ pub enum Event {
         name: Name,
         text: Text,
     },
-    /// A rule is attached to the tree at this place, at this side of node `at`. Rules are numbered from 1.
+    /// A rule is attached to the tree at this place, at this side of node `at`. Rules are numbered 1 to 65,535; node 0 is the root.
     AddRule {
         place: TreePlace,
         at: u32,

@@ -52,7 +52,7 @@ pub enum Rule {
     NotEnabled = 23,
     /// An OR-join waits for a token that may still come.
     OrWaits = 24,
-    /// The item hasn't come so far, or has come further.
+    /// The item hasn't come so far, or has come further; or the task to which one is added isn't active.
     Stage = 25,
     /// Another person started the item.
     NotYours = 26,
@@ -74,7 +74,7 @@ pub enum Rule {
     NoExlet = 34,
     /// It is suspended already, or isn't.
     Mark = 35,
-    /// No numbers are left.
+    /// No numbers are left, or the tree has as many rules as it may have.
     Numbers = 36,
     /// The word isn't built yet, or a specification uses what isn't. It goes when all is built.
     NotBuilt = 99,

@@ -11,7 +11,7 @@ ghost use Rattle.yw_state.specs.Texts.{Said};
 ghost use Rattle.yw_state.specs.Well.{NumbersFit, ParentsStand};
 ghost use Rattle.yw_state.specs.declared.event.Event.{Event};
 
-/// An event of a case leaves what stands in other cases and how they ended, and specifications, persons and rules.
+/// In a state that is well, an event of a case that is allowed leaves what stands in other cases and how they ended, and specifications, persons and rules.
 pub fn event_leaves_other_cases()
     ensures { (n : ℕ) (s : State) (e : Event) (said : Said) → NumbersFit s → ParentsStand s → Allowed s e said → case_of e ≡ Some n → SameElsewhere n s (after s e said) }
 {}

@@ -37,12 +37,12 @@ pub fn removal_set_is_emptied()
     ensures { (s : State) (i : Ident) (t : List ℕ) (places : List Place) (said : Said) (c : ℕ) → IsTrue (is_some_and (task_at s i t) (exit_empties places c)) → tokens_on (after s (events.Exit i t places) said) i c ≡ 0 }
 {}
 
-/// A command breaks one rule first, or none, where a text is read in one way.
+/// A command breaks at most one rule first, where a text is read in one way.
 pub fn command_breaks_one_rule<R: Reads>()
     ensures { (s : State) (c : Command) (a b : Option Refusal) → IsOne R.reader → Breaks R.reader s c a → Breaks R.reader s c b → a ≡ b }
 {}
 
-/// A query breaks one rule first, or none.
+/// A query breaks at most one rule first.
 pub fn query_breaks_one_rule()
     ensures { (s : State) (q : Query) (a b : Option Refusal) → QueryBreaks s q a → QueryBreaks s q b → a ≡ b }
 {}

@@ -1,19 +1,25 @@
-use Rattle.std.proofs.Common.{◌≡◌, ◌∷◌, [], ℕ, List, refl, sym, ap, ◌∙◌, subst}
+use Rattle.std.proofs.Common.{◌≡◌, ◌≢◌, ◌+◌, ◌<◌, ◌≤◌, ◌∷◌, [], ℕ, List, length, Result, Err, inl, inr, refl, sym, ap, ◌∙◌, subst, arith}
+use Rattle.std.proofs.lemmas.Bool.{cases_lt}
 use Rattle.std.proofs.lemmas.Result.{IfOk-weaker, IfErr-weaker}
 use Rattle.yw_outside.specs.declared.desk.File.{File}
-use Rattle.yw_outside.specs.Image.{other_in}
+use Rattle.yw_outside.specs.Image.{file_in, other_in}
 use Rattle.yw_outside.specs.Moments.{LeavesOnly}
 use Rattle.yw_codec.specs.Entries.{entry_bytes, framed}
-use Rattle.yw_journal.specs.Journal.{IsBeforeOrAfter, with_record}
+use Rattle.yw_journal.specs.FileLaws.{content_end}
+use Rattle.yw_journal.specs.Journal.{IsBeforeOrAfter, appended, with_record}
 use Rattle.yw_journal.specs.Records.{IsFramed}
+use Rattle.yw_journal.specs.declared.journal.AppendFault.{AppendFault}
+use Rattle.yw_journal.specs.declared.journal.AppendFault.TheVariants.{Full}
 use Rattle.yw_journal.proofs.Passing.{weakened}
-use Rattle.yw_model.specs.Run.{Step}
-use Rattle.yw_serve.specs.Session.{OfSteps}
+use Rattle.yw_model.specs.Run.{Step, taken_by}
+use Rattle.yw_serve.specs.Session.{OfSteps, Why, file_after}
+use Rattle.yw_serve.specs.declared.session.Stop.{Stop}
 use Rattle.yw_serve.specs.Plans.{Does, CanBeAppended}
 use Rattle.yw_serve.specs.declared.plan.Plan.{Plan}
 use Rattle.yw_serve.specs.declared.plan.Plan.TheVariants.{Refuse, Accept}
 use Rattle.yw_serve.proofs.Doing.{leaves_nothing}
-use Rattle.yw_serve.proofs.Telling.{not_begun, of_append, leaves_telling, done_by_telling, current_none, current_one, current_same}
+use Rattle.yw_serve.proofs.Telling.{not_begun, of_append, leaves_telling, done_by_telling, current_none, current_one, current_same, same_file}
+use Rattle.yw_serve.proofs.Written.{file_after-none, file_after-one, room_for_one, taken_none}
 use Rattle.yw_serve.proofs.answer.carry_out.Goals as goal
 
 does_as : (p q : Plan) (step : Step) → p ≡ q → Does p step → Does q step
@@ -24,6 +30,10 @@ can_append p q e h = subst CanBeAppended e h
 
 framed_as : (items : List ℕ) (bytes : List ℕ) (whole : List ℕ) → items ≡ whole → IsFramed whole bytes → IsFramed items bytes
 framed_as items bytes whole e h = subst (λ (l : List ℕ). IsFramed l bytes) (sym e) h
+
+-- what isn't refused as too long ends within the limit
+fits : {T : Type 0} (limit end : ℕ) (result : Result T AppendFault) → (limit < end → result ≡ Err (Full end)) → ((n : ℕ) → result ≢ Err (Full n)) → end ≤ limit
+fits limit end result full never = elim (cases_lt limit end) [ inl over ↦ absurd (never end (full over)) | inr within ↦ within ]
 
 pub returns-in-Refuse-clause-ok : goal.returns-in-Refuse-clause-ok
 returns-in-Refuse-clause-ok g c = IfOk-weaker c.tell.result _ _ (λ x said tells content step current does.
@@ -36,7 +46,8 @@ returns-in-Refuse-clause-ok g c = IfOk-weaker c.tell.result _ _ (λ x said tells
     let first = leaves_nothing D.moment D.left_since D.state D.may_leave old (OfSteps journal.file content (step ∷ []) (D.state old)) settled (g.met.D.Desk.said_by_now old) (g.met.D.Desk.only_now old)
     (not_begun journal.file content step (D.state old) (D.state old) (journal.end, current.holds) refl refl) in
     done_by_telling D.moment D.left_since D.state D.may_leave content step journal old old c.tell.new.desk c.as_slice.result.now (c.as_slice.ensures ∙ sym d.1)
-    (current_none journal content step (D.state old) d.0 current) refl refl first (told.any_moment tells settled) told.a told.b (said tells) (told.settled tells settled)) c.tell.ensures.said
+    (current_none journal content step (D.state old) d.0 current) refl refl first (told.any_moment tells settled)
+    (inl (taken_none step d.0)) (file_after-none (file_in journal.file (D.state old)) (file_in journal.file (D.state old)) content step d.0 refl) told.a told.b (said tells) (told.settled tells settled)) c.tell.ensures.said
 
 pub returns-in-Refuse-clause-moments : goal.returns-in-Refuse-clause-moments
 returns-in-Refuse-clause-moments g c = IfErr-weaker c.tell.result _ _ (λ x write tells content step current does.
@@ -67,9 +78,17 @@ returns-in-Ok-clause-ok g c = IfOk-weaker c.tell-in-Ok.result _ _ (λ x said tel
     let first = weakened D.moment D.left_since old mid (IsBeforeOrAfter before.file content bytes (D.state old)) (OfSteps journal.file content (step ∷ []) (D.state old)) (kept.any_moment tells content bytes current whole)
     (λ i h. subst (λ (f : File). OfSteps f content (step ∷ []) (D.state old) i) (sym file) (of_append before.file content step d.0 (D.state old) i d.1 h)) in
     let other : other_in journal.file (D.state mid) ≡ other_in journal.file (D.state old) = subst (λ (f : File). other_in f (D.state mid) ≡ other_in f (D.state old)) (sym file) (kept.other tells) in
+    let entry : c.as_slice-in-Accept.result.now ≡ framed d.0 = c.as_slice-in-Accept.ensures ∙ d.2 in
+    let at = content_end (file_in before.file (D.state old)) content before.end current.holds.file in
+    let within = fits before.limit (before.end + length c.as_slice-in-Accept.result.now) c.append.result c.append.ensures.fits (λ n e. cc (c.in-Ok.is, e)) in
+    let written : file_in before.file (D.state mid) ≡ file_after (file_in before.file (D.state old)) content (taken_by (step ∷ [])) =
+    file_after-one (file_in before.file (D.state old)) (file_in before.file (D.state mid)) content step d.0 before.end d.1 at (kept.bytes tells ∙ ap (appended (file_in before.file (D.state old)) before.end) entry) in
     let told = c.tell-in-Ok.ensures in
     done_by_telling D.moment D.left_since D.state D.may_leave content step journal old mid c.tell-in-Ok.new.desk c.as_slice-in-Ok.result.now (c.as_slice-in-Ok.ensures ∙ sym d.4)
-    (current_one journal content step d.0 (D.state mid) d.1 (kept.ok tells content bytes current whole)) (kept.said tells) other first (told.any_moment tells_mid settled) told.a told.b (said tells_mid) (told.settled tells_mid settled))
+    (current_one journal content step d.0 (D.state mid) d.1 (kept.ok tells content bytes current whole)) (kept.said tells) other first (told.any_moment tells_mid settled)
+    (room_for_one journal.limit content step d.0 before.end d.1 d.3 at (omega (arith, within, ap length entry, ap (λ j. j.limit) kept.journal)))
+    (subst (λ (f : File). file_in f (D.state mid) ≡ file_after (file_in f (D.state old)) content (taken_by (step ∷ []))) (sym file) written)
+    told.a told.b (said tells_mid) (told.settled tells_mid settled))
     c.tell-in-Ok.ensures.said
 
 pub returns-in-Ok-clause-moments : goal.returns-in-Ok-clause-moments
@@ -134,3 +153,40 @@ returns-in-Err-Full-clause-moments g c = λ tells content step current does.
     let whole : IsFramed c.as_slice-in-Accept.result.now bytes = framed_as c.as_slice-in-Accept.result.now bytes (framed d.0) (c.as_slice-in-Accept.ensures ∙ d.2) d.3 in
     weakened D.moment D.left_since old c.append.new.desk (IsBeforeOrAfter before.file content bytes (D.state old)) (OfSteps before.file content (step ∷ []) (D.state old)) (c.append.ensures.any_moment tells content bytes current whole)
     (λ i h. of_append before.file content step d.0 (D.state old) i d.1 h)
+
+pub returns-in-Refuse-clause-why : goal.returns-in-Refuse-clause-why
+returns-in-Refuse-clause-why g c = IfErr-weaker c.tell.result _ _ (λ x write tells content step current does.
+    let D = g.D.Desk in
+    let old = c.args.desk.now in
+    let journal = c.args.journal.now in
+    let d = does_as c.args.plan.now (Refuse c.in-Refuse.reply) step c.in-Refuse.is does in
+    subst (λ (stop : Stop). Why D.state content stop journal (step ∷ []) old c.tell.new.desk) (sym write.0)
+    (inl (taken_none step d.0), file_after-none _ _ content step d.0 (same_file journal.file (D.state old) (D.state c.tell.new.desk) c.tell.ensures.a c.tell.ensures.b))) c.tell.ensures.write
+
+pub returns-in-Ok-clause-why : goal.returns-in-Ok-clause-why
+returns-in-Ok-clause-why g c = IfErr-weaker c.tell-in-Ok.result _ _ (λ x write tells content step current does.
+    let D = g.D.Desk in
+    let old = c.args.desk.now in
+    let mid = c.append.new.desk in
+    let before = c.args.journal.now in
+    let d = does_as c.args.plan.now (Accept c.in-Accept.entry c.in-Accept.reply) step c.in-Accept.is does in
+    let kept = c.in-Ok.ensures in
+    let told = c.tell-in-Ok.ensures in
+    let entry : c.as_slice-in-Accept.result.now ≡ framed d.0 = c.as_slice-in-Accept.ensures ∙ d.2 in
+    let at = content_end (file_in before.file (D.state old)) content before.end current.holds.file in
+    let within = fits before.limit (before.end + length c.as_slice-in-Accept.result.now) c.append.result c.append.ensures.fits (λ n e. cc (c.in-Ok.is, e)) in
+    let written : file_in before.file (D.state mid) ≡ file_after (file_in before.file (D.state old)) content (taken_by (step ∷ [])) =
+    file_after-one (file_in before.file (D.state old)) (file_in before.file (D.state mid)) content step d.0 before.end d.1 at (kept.bytes tells ∙ ap (appended (file_in before.file (D.state old)) before.end) entry) in
+    subst (λ (stop : Stop). Why D.state content stop before (step ∷ []) old c.tell-in-Ok.new.desk) (sym write.0)
+    (room_for_one before.limit content step d.0 before.end d.1 d.3 at (omega (arith, within, ap length entry)), same_file before.file (D.state mid) (D.state c.tell-in-Ok.new.desk) told.a told.b ∙ written))
+    c.tell-in-Ok.ensures.write
+
+pub returns-in-Err-Disk-clause-why : goal.returns-in-Err-Disk-clause-why
+returns-in-Err-Disk-clause-why g c = λ tells content step current does.
+    let D = g.D.Desk in
+    let before = c.args.journal.now in
+    let d = does_as c.args.plan.now (Accept c.in-Accept.entry c.in-Accept.reply) step c.in-Accept.is does in
+    let entry : c.as_slice-in-Accept.result.now ≡ framed d.0 = c.as_slice-in-Accept.ensures ∙ d.2 in
+    let at = content_end (file_in before.file (D.state c.args.desk.now)) content before.end current.holds.file in
+    let within = fits before.limit (before.end + length c.as_slice-in-Accept.result.now) c.append.result c.append.ensures.fits (λ n e. cc (c.in-Err-Disk.is, e)) in
+    room_for_one before.limit content step d.0 before.end d.1 d.3 at (omega (arith, within, ap length entry))

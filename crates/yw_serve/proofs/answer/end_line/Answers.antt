@@ -37,5 +37,5 @@ returns-clause-err g c = both_err c.carry_out.result _ _ _ c.carry_out.ensures.m
       after = t;
       answers = subst (λ (l : List ℕ). Answers (state_of session) session.number l plan.step t) c.deref.ensures.value plan.answers;
       moments = moments tells content plan.step current plan.does;
-      why = why tells plan.step plan.does;
+      why = why tells content plan.step current plan.does;
     }))

@@ -72,7 +72,7 @@ loop-part-preserved g c =
         λ tells content taken current at.
             let first = went.2 tells content taken current at in
             goes_further D.moment D.left_since D.state D.may_leave content c.args.session.now c.loop-part.session taken went.0 c.args.desk.now c.loop-part.desk c.take_line.new.desk inv.file inv.limit first
-            c.take_line.new.session line made.file (made.ok (inv.counts.telling ∙ tells) (with_steps content first.answers.steps) (taken ++ went.0) first.answers.are_done.file first.at),
+            c.take_line.new.session line made.file made.limit (made.ok (inv.counts.telling ∙ tells) (with_steps content first.answers.steps) (taken ++ went.0) first.answers.are_done.file first.at),
       );
     }
 
@@ -89,7 +89,7 @@ returns-clause-ok g c =
     c.take_part.ensures.state c.take_part.ensures.number c.take_part.ensures.journal desk desk
     (record { settled = inv.stands.settled there; said = g.met.D.Desk.said_by_now desk; only = g.met.D.Desk.only_now desk; current = subst (λ (j : Journal). IsCurrent j (with_steps content first.answers.steps) (D.state desk)) (sym c.take_part.ensures.journal) first.answers.are_done.file }) in
     subst (λ (p : List ℕ). GoesOn D.moment D.left_since D.state D.may_leave content c.args.session.now c.take_part.new.session taken p c.args.desk.now desk) (sym went.1)
-    (goes_further D.moment D.left_since D.state D.may_leave content c.args.session.now c.loop-part.session taken went.0 c.args.desk.now desk desk inv.file inv.limit first c.take_part.new.session c.loop-part.rest.now (ap (λ j. j.file) c.take_part.ensures.journal) next))
+    (goes_further D.moment D.left_since D.state D.may_leave content c.args.session.now c.loop-part.session taken went.0 c.args.desk.now desk desk inv.file inv.limit first c.take_part.new.session c.loop-part.rest.now (ap (λ j. j.file) c.take_part.ensures.journal) (ap (λ j. j.limit) c.take_part.ensures.journal) next))
     c.take_part.ensures.ok
 
 pub returns-clause-err : goal.returns-clause-err

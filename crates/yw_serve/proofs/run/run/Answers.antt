@@ -1,6 +1,7 @@
 use Rattle.std.proofs.Common.{ℕ, refl, ◌∙◌, subst, arith}
 use Rattle.yw_serve.specs.Ends.{EndsAs}
 use Rattle.yw_serve.specs.Session.{state_of}
+use Rattle.yw_serve.specs.declared.run.Ending.TheVariants.{Past}
 use Rattle.yw_serve.proofs.Reading.{read_nothing, read_past}
 use Rattle.yw_serve.proofs.run.run.Goals as goal
 
@@ -45,4 +46,6 @@ pub returns-clause-ends : goal.returns-clause-ends
 returns-clause-ends g c = λ tells content bytes current e.
     let D = g.D.Desk in
     let inv = c.loop-taken.invariant in
-    read_past D.moment D.left_since D.state D.may_leave content (state_of c.args.session.now) c.args.desk.now c.loop-taken.session _ _ bytes _ c.loop-taken.desk (inv.went tells content bytes current e) c.loop-taken-test.false inv.small
+    subst (λ (n : ℕ). EndsAs D.moment D.left_since D.state D.may_leave Past content (state_of c.args.session.now) n c.args.limit bytes (g.S.Source.left c.loop-taken.source) (g.S.Source.piece c.loop-taken.source) c.args.desk.now c.loop-taken.desk)
+    inv.limited
+    (read_past D.moment D.left_since D.state D.may_leave content (state_of c.args.session.now) c.args.desk.now c.loop-taken.session _ _ bytes _ c.loop-taken.desk (inv.went tells content bytes current e) c.loop-taken-test.false inv.small)

@@ -17,7 +17,7 @@ returns-in-Ok-finish-clause-ends g c = λ tells content s bytes start h.
     let left = g.S.Source.left c.read_piece.new.source in
     let none = consumes_none _ _ c.read_piece.new.piece c.in-Ok.count zero c.in-Ok.ensures.bytes.0 in
     let a = all_answered D.moment D.left_since D.state D.may_leave content s start c.args.session.now _ _ bytes _ left desk h c.requires.within in
-    read_all D.moment D.left_since D.state D.may_leave content s start c.args.session.now _ _ bytes _ _ desk h c.requires.within none (c.in-Ok.ensures.bytes.1 zero) _ _ c.finish.new.desk c.in-Ok-finish.ensures.file
+    read_all D.moment D.left_since D.state D.may_leave content s start c.args.session.now _ _ bytes _ _ desk h c.requires.within none (c.in-Ok.ensures.bytes.1 zero) _ _ c.finish.new.desk c.in-Ok-finish.ensures.file c.in-Ok-finish.ensures.limit
     (c.in-Ok-finish.ensures.ok tells (with_steps content a.steps) h.taken a.are_done.file a.at)
 
 pub returns-in-Err-finish-clause-ends : goal.returns-in-Err-finish-clause-ends
@@ -38,7 +38,7 @@ returns-in-Ok-feed-clause-ends g c = λ tells content s bytes start h.
     let left = g.S.Source.left c.read_piece.new.source in
     let a = all_answered D.moment D.left_since D.state D.may_leave content s start c.args.session.now _ _ bytes _ left desk h c.requires.within in
     read_on D.moment D.left_since D.state D.may_leave content s start c.args.session.now _ _ bytes _ _ desk h c.requires.within c.read_piece.new.piece c.in-Ok.count c.min-kept.result
-    c.in-Ok.ensures.count.1 c.in-Ok.ensures.count.0 c.min-kept.ensures c.in-Ok.ensures.bytes.0 c.feed.new.session c.feed.new.desk c.in-Ok-feed.ensures.file
+    c.in-Ok.ensures.count.1 c.in-Ok.ensures.count.0 c.min-kept.ensures c.in-Ok.ensures.bytes.0 c.feed.new.session c.feed.new.desk c.in-Ok-feed.ensures.file c.in-Ok-feed.ensures.limit
     (c.in-Ok-feed.ensures.ok tells (with_steps content a.steps) h.taken a.are_done.file a.at)
 
 pub returns-in-Err-feed-clause-ends : goal.returns-in-Err-feed-clause-ends

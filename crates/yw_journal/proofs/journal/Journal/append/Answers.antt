@@ -1,6 +1,6 @@
-use Rattle.std.proofs.Common.{◌≡◌, ◌+◌, ◌-◌, [], ◌∷◌, length, ◌∙◌, IsTrue, sym, subst, arith, length-append}
+use Rattle.std.proofs.Common.{◌≡◌, ℕ, ◌+◌, ◌-◌, List, [], ◌∷◌, length, ap, ◌∙◌, IsTrue, sym, subst, arith, length-append}
 use Rattle.yw_outside.specs.declared.image.Image.{Image}
-use Rattle.yw_outside.specs.Image.{file_in, Writes}
+use Rattle.yw_outside.specs.Image.{file_in, overwritten, Writes}
 use Rattle.yw_outside.specs.Moments.{After}
 use Rattle.yw_journal.specs.Files.{Holds}
 use Rattle.yw_journal.specs.Journal.{IsBeforeOrAfter, with_record}
@@ -104,6 +104,11 @@ returns-clause-ok g c = λ tells content bytes current whole.
       generation = current.generation;
       number = omega (arith, current.number, length-append content.records (bytes ∷ []));
     }
+
+pub returns-clause-bytes : goal.returns-clause-bytes
+returns-clause-bytes g c = λ tells.
+    let q = c.args.self.now.end - 1 in
+    (c.in-Ok-write_synced.ensures.written (c.in-Ok.ensures.tells ∙ tells)).ok ∙ ap (λ (file : List ℕ). overwritten file q (1 ∷ [])) (c.in-Ok.ensures.written tells).ok
 
 pub returns-clause-each_has : goal.returns-clause-each_has
 returns-clause-each_has g c = λ tells content bytes current whole i left.
