@@ -1,19 +1,15 @@
 -- From how the files are opened to what the statuses say, and to what a crash leaves of it.
-use Rattle.std.proofs.Common.{◌≡◌, ◌≢◌, ◌⊎◌, ℕ, Result, Ok, Err, inl, inr, ⊎_elim, refl, sym, ◌∙◌}
+use Rattle.std.proofs.Common.{◌≡◌, ◌≢◌, ◌⊎◌, ℕ, Result, Err, inl, inr, ⊎_elim, refl}
 use Rattle.yw_outside.specs.Moments.{LeavesOnly}
 use Rattle.yw_outside.specs.declared.image.Image.{Image}
-use Rattle.yw_journal.proofs.Passing.{and_then, started, weakened}
-use Rattle.yw_serve.specs.Opening.{HoldsBegun, IsOfStart, IsUnsynced, LeftByOpening, LeftBehindSyncs, OpensBy}
+use Rattle.yw_journal.proofs.Passing.{and_then, weakened}
+use Rattle.yw_serve.specs.Opening.{HoldsBegun, IsUnsynced, LeftByOpening, LeftBehindSyncs, OpensBy}
 use Rattle.yw_serve.specs.Served.{OpensInPart}
 use Rattle.yw_serve.specs.declared.opening.OpenFault.{OpenFault}
 use Rattle.yw_serve.specs.declared.opening.OpenFault.TheVariants.{Disk}
 use Rattle.yw_serve.specs.declared.opening.Opened.{Opened}
 
 module _ {D : Type 0} (moment : D → ℕ) (left_since : D → ℕ → Image → Type 0) (state : D → Image) (may_leave : D → Image → Type 0) where
-  -- before the first call of the files
-  pub never_begun : (old : D) → ((k : Image) → left_since old (moment old) k → may_leave old k) → OpensInPart moment left_since state may_leave old old
-  never_begun old now = record { said = refl; opening = inr (record { same = refl; moments = started moment left_since old (may_leave old) now }) }
-
   module _ (result : Result Opened OpenFault) (old new : D)
       (opening : OpensBy moment left_since state may_leave old new ⊎ ((result ≡ Err Disk) × IsUnsynced moment left_since state may_leave old new)) where
     pub opens_in_part : (state new).said ≡ (state old).said → OpensInPart moment left_since state may_leave old new

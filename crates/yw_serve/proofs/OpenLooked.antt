@@ -1,5 +1,5 @@
 -- How looks at a desk join, and what their faults are from the start.
-use Rattle.std.proofs.Common.{◌≡◌, ℕ, ◌≤◌, Bool, Option, None, Some, MatchOption, inl, refl, sym, ap, ◌∙◌, subst, arith}
+use Rattle.std.proofs.Common.{◌≡◌, ℕ, ◌≤◌, Bool, Option, None, Some, MatchOption, inl, sym, ap, ◌∙◌, subst, arith}
 use Rattle.yw_outside.specs.declared.desk.File.{File}
 use Rattle.yw_outside.specs.declared.image.Image.{Image}
 use Rattle.yw_outside.specs.Moments.{IsSettled, LeavesOnly}
