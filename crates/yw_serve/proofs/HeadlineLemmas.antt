@@ -32,6 +32,7 @@ use Rattle.yw_serve.proofs.Doing.{leaves_behind}
 use Rattle.yw_serve.proofs.Telling.{holds_same, same_other}
 use Rattle.yw_serve.proofs.OpenLaws.{held_once, held_or_damaged}
 use Rattle.yw_serve.proofs.Meant.{run_meant}
+use Rattle.yw_serve.proofs.OpenEnds.{opening_leaves, part_leaves}
 use Rattle.yw_serve.proofs.OpenRecords.{LeadsTo-append}
 
 -- A journal goes on in file A.
@@ -91,20 +92,20 @@ module _ {D : Type 0} (moment : D → ℕ) (left_since : D → ℕ → Image →
         said = d.said ∙ ap (λ (bs : List ℕ). bs ++ said_by a.steps) from.said;
       }
 
-  pub served : (status : Status) (old new : D) (full_at limit : ℕ) (bytes : List ℕ) (left : Option (List ℕ)) (piece : ℕ) → status ≡ Ok
-      → OpeningEnds moment left_since state may_leave status old new
+  pub served : (status : Status) (old new : D) (full_at limit : ℕ) (bytes : List ℕ) (left : Option (List ℕ)) (piece : ℕ) (Unread : Type 0) → status ≡ Ok
+      → (OpeningEnds moment left_since state may_leave status old new × Unread)
       ⊎ RunsFrom moment left_since state may_leave (λ c s opened. RunEnds moment left_since state may_leave status c s full_at limit bytes left piece opened new) old
       → Serves state may_leave (input.lines bytes true) old new
-  served Ok old new full_at limit bytes left piece e ends = ⊎_elim (λ none. absurd none) (served_from old new full_at limit bytes left piece) ends
-  served Findings old new full_at limit bytes left piece e ends = cc
-  served Usage old new full_at limit bytes left piece e ends = cc
-  served Disk old new full_at limit bytes left piece e ends = cc
-  served Memory old new full_at limit bytes left piece e ends = cc
-  served Read old new full_at limit bytes left piece e ends = cc
-  served Write old new full_at limit bytes left piece e ends = cc
-  served Damaged old new full_at limit bytes left piece e ends = cc
-  served Full old new full_at limit bytes left piece e ends = cc
-  served InputLimit old new full_at limit bytes left piece e ends = cc
+  served Ok old new full_at limit bytes left piece Unread e ends = ⊎_elim (λ none. absurd none.0) (served_from old new full_at limit bytes left piece) ends
+  served Findings old new full_at limit bytes left piece Unread e ends = cc
+  served Usage old new full_at limit bytes left piece Unread e ends = cc
+  served Disk old new full_at limit bytes left piece Unread e ends = cc
+  served Memory old new full_at limit bytes left piece Unread e ends = cc
+  served Read old new full_at limit bytes left piece Unread e ends = cc
+  served Write old new full_at limit bytes left piece Unread e ends = cc
+  served Damaged old new full_at limit bytes left piece Unread e ends = cc
+  served Full old new full_at limit bytes left piece Unread e ends = cc
+  served InputLimit old new full_at limit bytes left piece Unread e ends = cc
 
 -- What a crash leaves of a run.
 
@@ -261,14 +262,16 @@ module _ {D : Type 0} (moment : D → ℕ) (left_since : D → ℕ → Image →
       run_left Usage new e = absurd e
       run_left Damaged new e = absurd e
 
-  module _ (c : Content) (s : State) (old : D) (h : HoldNow c s (state old)) (bytes : List ℕ) where
+  module _ (c : Content) (s : State) (old : D) (h : HoldNow c s (state old)) (reads : may_leave old (state old)) (bytes : List ℕ) where
     -- what the opening leaves, or a front of the lines
     abbrev OpeningOrFront : Image → Type 0
     OpeningOrFront k = LeftByOpening (may_leave old) (state old) k ⊎ HoldsFront s (input.lines bytes true) (state old).said k
 
     opening_left : (status : Status) (new : D) → OpeningEnds moment left_since state may_leave status old new → LeavesOnly moment left_since old new OpeningOrFront
-    opening_left Disk new e = weakened moment left_since old new (LeftByOpening (may_leave old) (state old)) OpeningOrFront e.opening (λ k l. inl l)
-    opening_left Memory new (inl e) = weakened moment left_since old new (LeftByOpening (may_leave old) (state old)) OpeningOrFront e.opening (λ k l. inl l)
+    opening_left Disk new e =
+        weakened moment left_since old new (LeftByOpening (may_leave old) (state old)) OpeningOrFront (part_leaves moment left_since state may_leave old new (said_by_now old) reads e) (λ k l. inl l)
+    opening_left Memory new (inl e) =
+        weakened moment left_since old new (LeftByOpening (may_leave old) (state old)) OpeningOrFront (part_leaves moment left_since state may_leave old new (said_by_now old) reads e) (λ k l. inl l)
     opening_left Memory new (inr e) = absurd (held_or_damaged (state old) c s e.file e.place h e.damaged)
     opening_left Write new e = absurd (held_or_damaged (state old) c s e.file e.place h e.damaged)
     opening_left Damaged new e = absurd (held_or_damaged (state old) c s e.file e.place h e.damaged)
@@ -279,15 +282,16 @@ module _ {D : Type 0} (moment : D → ℕ) (left_since : D → ℕ → Image →
     opening_left Full new e = absurd e
     opening_left InputLimit new e = absurd e
 
-    pub crash_left : (status : Status) (new : D) (full_at limit : ℕ) (left : Option (List ℕ)) (piece : ℕ)
-        → OpeningEnds moment left_since state may_leave status old new
+    pub crash_left : (status : Status) (new : D) (full_at limit : ℕ) (left : Option (List ℕ)) (piece : ℕ) (Unread : Type 0)
+        → (OpeningEnds moment left_since state may_leave status old new × Unread)
         ⊎ RunsFrom moment left_since state may_leave (λ k t opened. RunEnds moment left_since state may_leave status k t full_at limit bytes left piece opened new) old
         → LeavesOnly moment left_since old new OpeningOrFront
-    crash_left status new full_at limit left piece (inl e) = opening_left status new e
-    crash_left status new full_at limit left piece (inr from) =
+    crash_left status new full_at limit left piece Unread (inl e) = opening_left status new e.0
+    crash_left status new full_at limit left piece Unread (inr from) =
         let all = input.lines bytes true in
         let same : s ≡ from.s = held_once (state old) c from.before s from.s h from.held in
         and_then moment left_since old from.opened new OpeningOrFront (HoldsFront from.s all (state from.opened).said)
-        (weakened moment left_since old from.opened (LeftByOpening (may_leave old) (state old)) OpeningOrFront from.opening (λ k l. inl l))
+        (weakened moment left_since old from.opened (LeftByOpening (may_leave old) (state old)) OpeningOrFront
+        (opening_leaves moment left_since state may_leave old from.opened (said_by_now old) reads from.opening) (λ k l. inl l))
         (run_left from.c from.s from.opened from.holds bytes full_at limit left piece status new from.ends)
         (λ k front. inr (subst (λ (t : State). HoldsFront t all (state old).said k) (sym same) (subst (λ (bs : List ℕ). HoldsFront from.s all bs k) from.said front)))

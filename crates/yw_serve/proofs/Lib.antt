@@ -11,6 +11,7 @@ pub mod OpenEntries
 pub mod OpenRecords
 pub mod OpenHeld
 pub mod OpenLooked
+pub mod OpenEnds
 pub mod WordsLemmas
 pub mod OpenLaws
 pub mod ServedLemmas

@@ -5,12 +5,12 @@ use Rattle.yw_outside.specs.declared.desk.File.TheVariants.{A}
 use Rattle.yw_outside.specs.declared.image.Image.{Image}
 use Rattle.yw_journal.specs.Files as files
 use Rattle.yw_journal.specs.Files.{Content, HasContent, HoldState, NoneIsLive, Holds, is_live, header_damage, generation_of, count_of, snapshot_size_of}
-use Rattle.yw_journal.specs.Journal.{IsBeforeOrMade, IsCurrent, made}
+use Rattle.yw_journal.specs.Journal.{IsBeforeOrMade, IsCurrent}
 use Rattle.yw_journal.specs.declared.journal.Journal.{Journal}
 use Rattle.yw_journal.specs.Records.{IsFramedState}
 use Rattle.yw_state.specs.State.{State, opening}
 use Rattle.yw_serve.specs.Damage.{HoldNow, IsDamagedNow}
-use Rattle.yw_serve.specs.Opening.{HoldsAsStart, IsChosen, IsClosedHere, IsDamagedAt, IsReached, LeftByOpening}
+use Rattle.yw_serve.specs.Opening.{IsChosen, IsClosedHere, IsDamagedAt, IsReached, LeftBehindSyncs, begun}
 use Rattle.yw_serve.specs.declared.header.Head.{Head}
 use Rattle.yw_serve.proofs.OpenHeads.{front_count, front_generation, heads_sound, header_is, live_long}
 use Rattle.yw_serve.proofs.OpenRecords.{ends_at, reached_none}
@@ -53,10 +53,6 @@ module _ (i : Image) (head : Head) (chosen : IsChosen i (Some head)) where
 pub framed_nothing : IsFramedState (0 ∷ 0 ∷ 0 ∷ 0 ∷ 0 ∷ 0 ∷ 0 ∷ 0 ∷ 0 ∷ []) []
 framed_nothing = record { field = 0 ∷ 0 ∷ 0 ∷ 0 ∷ 0 ∷ 0 ∷ 0 ∷ 0 ∷ []; gate = 0; split = refl; eight = refl; value = refl; closed = λ (e : 0 ≡ 1). cc }
 
--- file A as it is made
-abbrev pub fresh : Content
-fresh = made 1 0 []
-
 module _ (i : Image) (chosen : IsChosen i None) where
   pub none_live : NoneIsLive i
   none_live = record { a = chosen.head; b = chosen.alone }
@@ -67,17 +63,18 @@ module _ (i : Image) (chosen : IsChosen i None) where
   still_alone : (k : Image) → k.b ≡ i.b → is_live k.b ≡ false
   still_alone k same = ap is_live same ∙ chosen.alone
 
-  pub held_fresh : (k : Image) (end : ℕ) → k.b ≡ i.b → Holds A fresh end k → HoldNow fresh opening k
-  held_fresh k end same holds = record { hold = record { content = inr (A, end, holds); state = (opening, refl, refl) }; alone = still_alone k same }
+  pub held_begun : (k : Image) (end : ℕ) → k.b ≡ i.b → Holds A begun end k → HoldNow begun opening k
+  held_begun k end same holds = record { hold = record { content = inr (A, end, holds); state = (opening, refl, refl) }; alone = still_alone k same }
 
-  pub left_by_making : (may_leave : Image → Type 0) (k : Image) → IsBeforeOrMade A files.opening fresh i k → LeftByOpening may_leave i k
-  left_by_making may_leave k b = record {
-    files = inr (⊎_elim
-        (λ (c : HasContent files.opening k). as_start files.opening (record { hold = record { content = c; state = (opening, refl, refl) }; alone = still_alone k b.other }))
-        (λ (h : (end : ℕ) × Holds A fresh end k). as_start fresh (held_fresh k h.0 b.other h.1))
-        b.holds);
+  pub left_by_making : (k : Image) → IsBeforeOrMade A files.opening begun i k → LeftBehindSyncs i k
+  left_by_making k b = record {
+    files = inr (record {
+      none = none_live;
+      holds = ⊎_elim
+          (λ (c : HasContent files.opening k). inl (record { hold = record { content = c; state = (opening, refl, refl) }; alone = still_alone k b.other }))
+          (λ (h : (end : ℕ) × Holds A begun end k). inr (held_begun k h.0 b.other h.1))
+          b.holds;
+      b = b.other;
+    });
     said = b.said;
   }
-    where
-      as_start : (now : Content) → HoldNow now opening k → HoldsAsStart i k
-      as_start now holds = record { state = opening; before = files.opening; held = held_nothing; now = now; holds = holds }

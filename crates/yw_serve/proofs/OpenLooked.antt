@@ -1,10 +1,10 @@
 -- How looks at a desk join, and what their faults are from the start.
-use Rattle.std.proofs.Common.{◌≡◌, ℕ, ◌≤◌, Bool, Option, None, Some, MatchOption, inl, inr, ⊎_elim, refl, ap, ◌∙◌, subst, arith}
+use Rattle.std.proofs.Common.{◌≡◌, ℕ, ◌≤◌, Bool, Option, None, Some, MatchOption, inl, sym, ap, ◌∙◌, subst, arith}
 use Rattle.yw_outside.specs.declared.desk.File.{File}
 use Rattle.yw_outside.specs.declared.image.Image.{Image}
-use Rattle.yw_outside.specs.Moments.{LeavesOnly}
+use Rattle.yw_outside.specs.Moments.{IsSettled, LeavesOnly}
 use Rattle.yw_journal.proofs.Passing.{and_then, weakened}
-use Rattle.yw_serve.specs.Opening.{HasFaultCause, HoldsAsStart, IsOfStart, LeftByOpening, OnlyLooked}
+use Rattle.yw_serve.specs.Opening.{HasFaultCause, IsUnsynced, LeftBehindSyncs, OnlyLooked, OpensBy}
 use Rattle.yw_serve.specs.declared.opening.OpenFault.{OpenFault}
 use Rattle.yw_serve.specs.declared.opening.OpenFault.TheVariants.{Disk, Damaged, Memory}
 
@@ -33,21 +33,44 @@ module _ {D : Type 0} (moment : D → ℕ) (left_since : D → ℕ → Image →
     say = b.say ∙ a.say;
   }
 
-  -- what looks leave is left by an opening
-  pub looked_leaves : (old new : D) → ((i : Image) → may_leave old i → i.said ≡ (state old).said) → OnlyLooked moment left_since state may_leave tells disk_faults say_faults old new
-      → LeavesOnly moment left_since old new (LeftByOpening (may_leave old) (state old))
-  looked_leaves old new said looked = weakened moment left_since old new (may_leave old) (LeftByOpening (may_leave old) (state old)) looked.moments
-      (λ i left. record { files = inl (record { start = i; left = left; a = refl; b = refl }); said = said i left })
+  -- what is settled stays so
+  pub still_settled : (old new : D) → OnlyLooked moment left_since state may_leave tells disk_faults say_faults old new → IsSettled (state old) (may_leave old) → IsSettled (state new) (may_leave new)
+  still_settled old new looked settled = record {
+    a = λ k left. settled.a k (looked.crash k left) ∙ ap (λ (j : Image). j.a) (sym looked.same);
+    b = λ k left. settled.b k (looked.crash k left) ∙ ap (λ (j : Image). j.b) (sym looked.same);
+  }
 
-  -- and looks before it are
-  pub opening_behind : (old mid new : D) → ((i : Image) → may_leave old i → i.said ≡ (state old).said) → OnlyLooked moment left_since state may_leave tells disk_faults say_faults old mid
-      → LeavesOnly moment left_since mid new (LeftByOpening (may_leave mid) (state mid)) → LeavesOnly moment left_since old new (LeftByOpening (may_leave old) (state old))
-  opening_behind old mid new said looked then =
-      and_then moment left_since old mid new (LeftByOpening (may_leave old) (state old)) (LeftByOpening (may_leave mid) (state mid)) (looked_leaves old mid said looked) then
-      (λ i left. record {
-        files = ⊎_elim
-            (λ (s : IsOfStart (may_leave mid) i). inl (record { start = s.start; left = looked.crash s.start s.left; a = s.a; b = s.b }))
-            (λ (h : HoldsAsStart (state mid) i). inr (subst (λ (j : Image). HoldsAsStart j i) looked.same h))
-            left.files;
-        said = left.said ∙ ap (λ (j : Image). j.said) looked.same;
-      })
+  -- looks alone came
+  pub unsynced : (old new : D) → OnlyLooked moment left_since state may_leave tells disk_faults say_faults old new → IsUnsynced moment left_since state may_leave old new
+  unsynced old new looked = record { same = looked.same; moments = looked.moments }
+
+  -- looks at settled files leave them
+  looks_leave : (old new : D) → ((i : Image) → may_leave old i → i.said ≡ (state old).said) → OnlyLooked moment left_since state may_leave tells disk_faults say_faults old new
+      → IsSettled (state old) (may_leave old) → LeavesOnly moment left_since old new (LeftBehindSyncs (state old))
+  looks_leave old new said looked settled = weakened moment left_since old new (may_leave old) (LeftBehindSyncs (state old)) looked.moments
+      (λ i left. record { files = inl (settled.a i left, settled.b i left); said = said i left })
+
+  module _ (old synced : D) (first : OnlyLooked moment left_since state may_leave tells disk_faults say_faults old synced) (settled : IsSettled (state synced) (may_leave synced))
+      (said : (i : Image) → may_leave synced i → i.said ≡ (state synced).said) where
+    -- the files were synced, and looks came behind it
+    pub opens_looking : (new : D) → OnlyLooked moment left_since state may_leave tells disk_faults say_faults synced new → OpensBy moment left_since state may_leave old new
+    opens_looking new looked = record {
+      synced = synced;
+      same = first.same;
+      settled = settled;
+      before = first.moments;
+      behind = subst (λ (i : Image). LeavesOnly moment left_since synced new (LeftBehindSyncs i)) first.same (looks_leave synced new said looked settled);
+    }
+
+    -- and a file was begun behind these
+    pub opens_beginning : (mid new : D) → OnlyLooked moment left_since state may_leave tells disk_faults say_faults synced mid → LeavesOnly moment left_since mid new (LeftBehindSyncs (state mid))
+        → OpensBy moment left_since state may_leave old new
+    opens_beginning mid new looked then = record {
+      synced = synced;
+      same = first.same;
+      settled = settled;
+      before = first.moments;
+      behind = subst (λ (i : Image). LeavesOnly moment left_since synced new (LeftBehindSyncs i)) first.same
+          (and_then moment left_since synced mid new (LeftBehindSyncs (state synced)) (LeftBehindSyncs (state mid)) (looks_leave synced mid said looked settled) then
+          (λ k left. subst (λ (i : Image). LeftBehindSyncs i k) looked.same left));
+    }

@@ -1,6 +1,6 @@
 -- From how a run ends to what its status says.
 use Rattle.std.proofs.Common.{◌≡◌, ◌⊎◌, ◌≤◌, ℕ, List, length, Option, inl, inr, refl, sym, subst, arith}
-use Rattle.yw_outside.specs.Moments.{LeavesOnly}
+use Rattle.yw_outside.specs.Moments.{IsSettled}
 use Rattle.yw_outside.specs.declared.desk.File.{File}
 use Rattle.yw_outside.specs.declared.image.Image.{Image}
 use Rattle.yw_journal.specs.Files.{Content}
@@ -9,7 +9,7 @@ use Rattle.yw_state.specs.State.{State}
 use Rattle.yw_serve.specs.Damage.{IsDamagedNow}
 use Rattle.yw_serve.specs.Ends.{EndsAs, EndsShort}
 use Rattle.yw_serve.specs.Notices.{damage_line, full_line}
-use Rattle.yw_serve.specs.Opening.{IsOpened, LeftByOpening, opened_state}
+use Rattle.yw_serve.specs.Opening.{IsOpened, OpensBy, opened_state}
 use Rattle.yw_serve.specs.Session.{state_of}
 use Rattle.yw_serve.specs.declared.opening.Opened.{Opened}
 use Rattle.yw_serve.specs.declared.run.Ending.{Ending}
@@ -62,33 +62,34 @@ ends_from m l v y session s journal same_state same_journal ending c limit piece
 -- A damage was found, by what became of its line.
 pub damage_ends : {D : Type 0} (moment : D → ℕ) (left_since : D → ℕ → Image → Type 0) (state : D → Image) (may_leave : D → Image → Type 0)
     (r : Status) (f : File) (place : ℕ) (old mid new : D) → IsDamagedNow (state old) f place → state mid ≡ state old
-    → LeavesOnly moment left_since old mid (LeftByOpening (may_leave old) (state old)) → IsTold moment left_since state may_leave r Damaged (damage_line f place) mid new
+    → IsSettled (state mid) (may_leave mid) → OpensBy moment left_since state may_leave old mid → IsTold moment left_since state may_leave r Damaged (damage_line f place) mid new
     → OpeningEnds moment left_since state may_leave r old new
-damage_ends m l v y r f place old mid new damaged same opening told =
+damage_ends m l v y r f place old mid new damaged same settled opening told =
     let with_status : (q : Status) → r ≡ q → OpeningEnds m l v y q old new → OpeningEnds m l v y r old new =
     λ q e h. subst (λ (x : Status). OpeningEnds m l v y x old new) (sym e) h in
     elim told [
-      | inl whole ↦ with_status Damaged whole.0 (record { file = f; place = place; damaged = damaged; mid = mid; same = same; opening = opening; said = whole.1 })
+      | inl whole ↦ with_status Damaged whole.0 (record { file = f; place = place; damaged = damaged; mid = mid; same = same; settled = settled; opening = opening; said = whole.1 })
       | inr other ↦ elim other [
-        | inl part ↦ with_status Write part.0 (record { file = f; place = place; damaged = damaged; mid = mid; same = same; opening = opening; said = part.1 })
-        | inr none ↦ with_status Memory none.0 (inr (record { file = f; place = place; damaged = damaged; mid = mid; same = same; opening = opening; said = none.1 }))
+        | inl part ↦ with_status Write part.0 (record { file = f; place = place; damaged = damaged; mid = mid; same = same; settled = settled; opening = opening; said = part.1 })
+        | inr none ↦ with_status Memory none.0 (inr (record { file = f; place = place; damaged = damaged; mid = mid; same = same; settled = settled; opening = opening; said = none.1 }))
       ]
     ]
 
 -- The files were opened, and the lines answered over them.
 pub runs_from : {D : Type 0} (moment : D → ℕ) (left_since : D → ℕ → Image → Type 0) (state : D → Image) (may_leave : D → Image → Type 0)
     (opened : Opened) (limit full_at piece : ℕ) (bytes : List ℕ) (left : Option (List ℕ)) (status : Status) (old mid new : D) → (o : IsOpened opened (state old) (state mid))
-    → LeavesOnly moment left_since old mid (LeftByOpening (may_leave old) (state old)) → opened.journal.limit ≡ full_at
+    → IsSettled (state mid) (may_leave mid) → OpensBy moment left_since state may_leave old mid → opened.journal.limit ≡ full_at
     → RunEnds moment left_since state may_leave status o.now (opened_state opened) opened.journal.limit limit bytes left piece mid new
     → RunsFrom moment left_since state may_leave (λ c s start. RunEnds moment left_since state may_leave status c s full_at limit bytes left piece start new) old
-runs_from m l v y opened limit full_at piece bytes left status old mid new o opening limited ends = record {
+runs_from m l v y opened limit full_at piece bytes left status old mid new o settled opening limited ends = record {
   s = opened_state opened;
   before = o.before;
   held = o.held;
   c = o.now;
   opened = mid;
   holds = o.holds;
-  records = o.records;
+  content = o.content;
+  settled = settled;
   b = o.other;
   said = o.said;
   opening = opening;

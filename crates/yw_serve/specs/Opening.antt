@@ -2,12 +2,13 @@
 use Rattle.std.specs.Prelude.{◌≡◌, ◌≢◌, ◌⊎◌, ℕ, ◌+◌, ◌≤◌, List, [], ◌∷◌, ◌++◌, length, take, drop, Bool, true, false, Option, None, MatchOption, Result, MatchResult}
 use Rattle.std.specs.Int.{w32, from_be_bytes}
 use Rattle.yw_outside.specs.Causes.{Rose}
-use Rattle.yw_outside.specs.Moments.{LeavesOnly}
+use Rattle.yw_outside.specs.Moments.{IsSettled, LeavesOnly}
 use Rattle.yw_outside.specs.declared.desk.File.{File}
 use Rattle.yw_outside.specs.declared.desk.File.TheVariants.{A}
 use Rattle.yw_outside.specs.declared.image.Image.{Image}
-use Rattle.yw_journal.specs.Files.{Content, IsCut, HasNoMeaning, LeadsTo, is_live, snapshot_size_of}
-use Rattle.yw_journal.specs.Journal.{IsCurrent}
+use Rattle.yw_journal.specs.Files as files
+use Rattle.yw_journal.specs.Files.{Content, IsCut, HasNoMeaning, LeadsTo, NoneIsLive, is_live, snapshot_size_of}
+use Rattle.yw_journal.specs.Journal.{IsCurrent, made}
 use Rattle.yw_journal.specs.Records.{AreOpen, IsNoRecord}
 use Rattle.yw_library.specs.Holdings as library
 use Rattle.yw_model.specs.Texts.{reader}
@@ -107,18 +108,43 @@ pub record IsOfStart (may_leave : Image → Type 0) (k : Image) : Type 0 where
   pub a : k.a ≡ start.a
   pub b : k.b ≡ start.b
 
--- The state that the files held at the start, in this content or in another.
-pub record HoldsAsStart (i k : Image) : Type 0 where
-  pub state : State
-  pub before : Content
-  pub held : HoldNow before state i
-  pub now : Content
-  pub holds : HoldNow now state k
+-- what file A has when it is begun: generation 1, number 0 and no record
+abbrev pub begun : Content
+begun = made 1 0 []
+
+-- No file was live, and file B is as it was: no file is live, or file A is begun. So the state is the opening one, as it was.
+pub record HoldsBegun (i k : Image) : Type 0 where
+  pub none : NoneIsLive i
+  pub holds : HoldNow files.opening opening k ⊎ HoldNow begun opening k
+  pub b : k.b ≡ i.b
 
 -- What a crash leaves at any moment of the opening.
 pub record LeftByOpening (may_leave : Image → Type 0) (i k : Image) : Type 0 where
-  pub files : IsOfStart may_leave k ⊎ HoldsAsStart i k
+  pub files : IsOfStart may_leave k ⊎ HoldsBegun i k
   pub said : k.said ≡ i.said
+
+-- What a crash leaves of the opening behind the syncs: each byte of both files as it was, or file A is being begun.
+pub record LeftBehindSyncs (i k : Image) : Type 0 where
+  pub files : ((k.a ≡ i.a) × (k.b ≡ i.b)) ⊎ HoldsBegun i k
+  pub said : k.said ≡ i.said
+
+-- The files aren't synced yet: they are as they were, and a crash leaves what it might have left before.
+pub record IsUnsynced {D : Type 0} (moment : D → ℕ) (left_since : D → ℕ → Image → Type 0) (state : D → Image) (may_leave : D → Image → Type 0) (old new : D) : Type 0 where
+  pub same : state new ≡ state old
+  pub moments : LeavesOnly moment left_since old new (may_leave old)
+
+-- First the files are synced, as they were. Up to then a crash leaves what it might have left before, and from then on the files as they
+-- were, or file A being begun.
+pub record OpensBy {D : Type 0} (moment : D → ℕ) (left_since : D → ℕ → Image → Type 0) (state : D → Image) (may_leave : D → Image → Type 0) (old new : D) : Type 0 where
+  pub synced : D
+  pub same : state synced ≡ state old
+  pub settled : IsSettled (state synced) (may_leave synced)
+  pub before : LeavesOnly moment left_since old synced (may_leave old)
+  pub behind : LeavesOnly moment left_since synced new (LeftBehindSyncs (state old))
+
+-- The content that was found goes on, and not one byte of file A has changed; or no file was live, and file A is begun.
+abbrev pub GoesOnOrBegins : Content → Content → Image → Image → Type 0
+GoesOnOrBegins before now i j = ((now ≡ before) × (j.a ≡ i.a)) ⊎ ((before ≡ files.opening) × (now ≡ begun))
 
 -- The files held this state and hold it, the journal stands for them, and nothing else has changed.
 pub record IsOpened (opened : Opened) (i j : Image) : Type 0 where
@@ -127,7 +153,7 @@ pub record IsOpened (opened : Opened) (i j : Image) : Type 0 where
   pub now : Content
   pub holds : HoldNow now (opened_state opened) j
   pub current : IsCurrent opened.journal now j
-  pub records : now.records ≡ before.records
+  pub content : GoesOnOrBegins before now i j
   pub other : j.b ≡ i.b
   pub said : j.said ≡ i.said
 

@@ -2,7 +2,7 @@
 -- The source had `bytes`, has `left` now, and its last read gave `piece` bytes. At most `limit` bytes are answered, and no file is longer than
 -- `full_at`. The desk was `old` and is `new`.
 use Rattle.std.specs.Prelude.{◌≡◌, ◌⊎◌, ℕ, List, Option}
-use Rattle.yw_outside.specs.Moments.{LeavesOnly}
+use Rattle.yw_outside.specs.Moments.{IsSettled}
 use Rattle.yw_outside.specs.Tells.{Tells, TellsWhole}
 use Rattle.yw_outside.specs.declared.desk.File.{File}
 use Rattle.yw_outside.specs.declared.image.Image.{Image}
@@ -11,7 +11,7 @@ use Rattle.yw_state.specs.State.{State}
 use Rattle.yw_serve.specs.Damage.{HoldNow, IsDamagedNow}
 use Rattle.yw_serve.specs.Ends.{EndsWhole, EndsBetween, EndsPast, EndsShort}
 use Rattle.yw_serve.specs.Notices.{damage_line, full_line}
-use Rattle.yw_serve.specs.Opening.{LeftByOpening}
+use Rattle.yw_serve.specs.Opening.{GoesOnOrBegins, IsUnsynced, OpensBy}
 use Rattle.yw_serve.specs.declared.session.Stop.TheVariants as stops
 use Rattle.yw_serve.specs.declared.top.Status.{Status}
 use Rattle.yw_serve.specs.declared.top.Status.TheVariants.{Ok, Findings, Usage, Disk, Memory, Read, Write, Damaged, Full, InputLimit}
@@ -52,7 +52,8 @@ RunEnds m l v y Findings c s full_at limit bytes left piece old new = ⊥
 RunEnds m l v y Usage c s full_at limit bytes left piece old new = ⊥
 RunEnds m l v y Damaged c s full_at limit bytes left piece old new = ⊥
 
--- The files were opened: they held state s, hold it when the run begins, and nothing else has changed by then.
+-- The files were opened: they held state s, and hold it when the run begins, in the content that was found or in the file just begun, also
+-- after a crash. Nothing else has changed by then.
 pub record RunsFrom {D : Type 0} (moment : D → ℕ) (left_since : D → ℕ → Image → Type 0) (state : D → Image) (may_leave : D → Image → Type 0)
     (Ends : Content → State → D → Type 0) (old : D) : Type 0 where
   pub s : State
@@ -61,13 +62,14 @@ pub record RunsFrom {D : Type 0} (moment : D → ℕ) (left_since : D → ℕ �
   pub c : Content
   pub opened : D
   pub holds : HoldNow c s (state opened)
-  pub records : c.records ≡ before.records
+  pub content : GoesOnOrBegins before c (state old) (state opened)
+  pub settled : IsSettled (state opened) (may_leave opened)
   pub b : (state opened).b ≡ (state old).b
   pub said : (state opened).said ≡ (state old).said
-  pub opening : LeavesOnly moment left_since old opened (LeftByOpening (may_leave old) (state old))
+  pub opening : OpensBy moment left_since state may_leave old opened
   pub ends : Ends c s opened
 
--- A damage was found, and its line said, all of it or a front; not one byte of a file has changed.
+-- Behind the syncs a damage was found, and its line said, all of it or a front; not one byte of a file has changed.
 pub record FindsDamage {D : Type 0} (moment : D → ℕ) (left_since : D → ℕ → Image → Type 0) (state : D → Image) (may_leave : D → Image → Type 0)
     (Says : List ℕ → D → D → Type 0) (old new : D) : Type 0 where
   pub file : File
@@ -75,13 +77,14 @@ pub record FindsDamage {D : Type 0} (moment : D → ℕ) (left_since : D → ℕ
   pub damaged : IsDamagedNow (state old) file place
   pub mid : D
   pub same : state mid ≡ state old
-  pub opening : LeavesOnly moment left_since old mid (LeftByOpening (may_leave old) (state old))
+  pub settled : IsSettled (state mid) (may_leave mid)
+  pub opening : OpensBy moment left_since state may_leave old mid
   pub said : Says (damage_line file place) mid new
 
--- The opening wasn't finished, and nothing is said.
+-- The opening wasn't finished, before the files were synced or behind it, and nothing is said.
 pub record OpensInPart {D : Type 0} (moment : D → ℕ) (left_since : D → ℕ → Image → Type 0) (state : D → Image) (may_leave : D → Image → Type 0) (old new : D) : Type 0 where
   pub said : (state new).said ≡ (state old).said
-  pub opening : LeavesOnly moment left_since old new (LeftByOpening (may_leave old) (state old))
+  pub opening : OpensBy moment left_since state may_leave old new ⊎ IsUnsynced moment left_since state may_leave old new
 
 -- how the opening ends with each status, where no run follows
 abbrev pub OpeningEnds : {D : Type 0} → (D → ℕ) → (D → ℕ → Image → Type 0) → (D → Image) → (D → Image → Type 0) → Status → D → D → Type 0

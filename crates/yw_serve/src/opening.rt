@@ -1,5 +1,5 @@
 // The opening of the files, before any line is read.
-ghost use Rattle.std.specs.Prelude.{◌≡◌, ◌≤◌, ◌<◌, ◌+◌, ◌^◌, [], ℕ, IsTrue, IfOk, OnOk, IfErr, IfSome, IsSome, if◌then◌else◌, Err, None, Some, slice_index};
+ghost use Rattle.std.specs.Prelude.{◌≡◌, ◌≤◌, ◌<◌, ◌+◌, ◌^◌, ◌⊎◌, [], ℕ, IsTrue, IfOk, OnOk, IfErr, IfSome, IsSome, if◌then◌else◌, Err, None, Some, slice_index};
 ghost use Rattle.yw_journal.specs.Files.{Content, count_of, greatest};
 ghost use Rattle.yw_outside.specs.declared.image.Image.{Image};
 ghost use Rattle.yw_outside.specs.Causes.{HasCause, Rose};
@@ -7,7 +7,7 @@ ghost use Rattle.yw_outside.specs.Moments.{IsSettled, LeavesOnly};
 ghost use Rattle.yw_state.specs.State.{State};
 ghost use Rattle.yw_serve.specs.Damage.{heads_damage, HoldNow, IsDamagedNow};
 ghost use Rattle.yw_serve.specs.Desks.{Stands, KeepsCounts};
-ghost use Rattle.yw_serve.specs.Opening.{AnswersDamage, AnswersState, HasFaultCause, IsChosen, IsHeadRead, IsOpened, LeftByOpening, OnlyLooked};
+ghost use Rattle.yw_serve.specs.Opening.{AnswersDamage, AnswersState, HasFaultCause, IsChosen, IsHeadRead, IsOpened, IsUnsynced, LeftBehindSyncs, OnlyLooked, OpensBy};
 
 #[cfg(test)]
 mod tests;
@@ -161,7 +161,7 @@ fn begin<D: Desk>(alloc: Global, limit: u64, desk: &mut D) -> Result<Opened, Ope
     ensures stands { IfOk result (λ opened. Stands D.tells D.state D.may_leave opened.journal desk.new) }
     ensures limited { IfOk result (λ opened. opened.journal.limit ≡ limit) }
     ensures file { IfOk result (λ opened. opened.journal.file ≡ File.A) }
-    ensures any_moment { IsTrue (D.tells desk.old) → LeavesOnly D.moment D.left_since desk.old desk.new (LeftByOpening (D.may_leave desk.old) (D.state desk.old)) }
+    ensures any_moment { IsTrue (D.tells desk.old) → LeavesOnly D.moment D.left_since desk.old desk.new (LeftBehindSyncs (D.state desk.old)) }
     ensures counts { KeepsCounts D.tells D.disk_faults D.say_faults desk.old desk.new }
     ensures say_faults { D.say_faults desk.new ≡ D.say_faults desk.old }
     ensures fault { IfErr result (HasFaultCause (λ f place. ⊥) (D.disk_faults desk.old) (D.disk_faults desk.new)) }
@@ -177,10 +177,12 @@ fn begin<D: Desk>(alloc: Global, limit: u64, desk: &mut D) -> Result<Opened, Ope
 }
 
 /// Opens the files: syncs both, looks at their headers, makes file A where none is live, and else reads its
-/// entries one after another. `Damaged` names the first damage, and comes exactly where the synced files hold no
-/// state that is read; not one byte is changed then. `Disk` comes only where a call of the files failed, and
-/// `Memory` where no memory was left. A crash at any moment leaves files that a crash might have left before, or
-/// files that hold the same state. The memory that it takes is that of the persons and specifications and of the longest entry.
+/// entries one after another. `Damaged` names the first damage, and comes only where the synced files hold no
+/// state that is read, and there unless a call failed or no memory was left; not one byte is changed then. `Disk`
+/// comes only where a call of the files failed, and `Memory` where no memory was left. Up to the syncs a crash
+/// leaves what it might have left before. Behind them it leaves the files as they are; or, where no file is live,
+/// none that is, or file A begun with generation 1, number 0 and no record. The memory that it takes is that of the
+/// persons and specifications and of the longest entry.
 pub fn open<D: Desk>(alloc: Global, limit: u64, desk: &mut D) -> Result<Opened, OpenFault>
     requires some { 64 ≤ limit }
     requires limit { limit ≤ 2 ^ 62 }
@@ -191,8 +193,9 @@ pub fn open<D: Desk>(alloc: Global, limit: u64, desk: &mut D) -> Result<Opened, 
     ensures limited { IfOk result (λ opened. opened.journal.limit ≡ limit) }
     ensures file { IfOk result (λ opened. opened.journal.file ≡ File.A) }
 
-    // A crash at any moment leaves files of the start, or the same state.
-    ensures any_moment { IsTrue (D.tells desk.old) → LeavesOnly D.moment D.left_since desk.old desk.new (LeftByOpening (D.may_leave desk.old) (D.state desk.old)) }
+    // A crash before the syncs leaves what it might have left at the start, and behind them the files as they are, or the file being begun.
+    ensures any_moment { IsTrue (D.tells desk.old) → OpensBy D.moment D.left_since D.state D.may_leave desk.old desk.new
+        ⊎ ((result ≡ Err OpenFault.Disk) × IsUnsynced D.moment D.left_since D.state D.may_leave desk.old desk.new) }
     ensures said { IsTrue (D.tells desk.old) → (D.state desk.new).said ≡ (D.state desk.old).said }
 
     ensures counts { KeepsCounts D.tells D.disk_faults D.say_faults desk.old desk.new }
@@ -202,6 +205,7 @@ pub fn open<D: Desk>(alloc: Global, limit: u64, desk: &mut D) -> Result<Opened, 
     ensures disk { result ≡ Err OpenFault.Disk → Rose (D.disk_faults desk.old) (D.disk_faults desk.new) }
     ensures damaged { IsTrue (D.tells desk.old) → (f : File) (place : ℕ) → result ≡ Err (OpenFault.Damaged f place) → IsDamagedNow (D.state desk.old) f place }
     ensures unchanged { (f : File) (place : ℕ) → result ≡ Err (OpenFault.Damaged f place) → D.state desk.new ≡ D.state desk.old }
+    ensures settled { (f : File) (place : ℕ) → result ≡ Err (OpenFault.Damaged f place) → IsSettled (D.state desk.new) (D.may_leave desk.new) }
 
     // A state that is held is the one answered, and a damage is the one answered; they exclude each other.
     ensures held { IsTrue (D.tells desk.old) → (c : Content) (s : State) → HoldNow c s (D.state desk.old) → AnswersState s result }

@@ -172,7 +172,7 @@ fn serve_files<S: Source, D: Desk>(
     requires limit { limit ≤ 2 ^ 30 }
 
     ensures ends { IsTrue (D.tells desk.old) → (bytes : List ℕ) → S.left source.old ≡ Some bytes
-        → OpeningEnds D.moment D.left_since D.state D.may_leave result desk.old desk.new
+        → (OpeningEnds D.moment D.left_since D.state D.may_leave result desk.old desk.new × (source.new ≡ source.old))
         ⊎ RunsFrom D.moment D.left_since D.state D.may_leave (λ c s opened. RunEnds D.moment D.left_since D.state D.may_leave result c s limit INPUT_LIMIT bytes (S.left source.new) (S.piece source.new) opened desk.new) desk.old }
     ensures told { IsOfRun result }
     ensures read { result ≡ Status.Read → Rose (S.faults source.old) (S.faults source.new) }
@@ -201,18 +201,20 @@ fn serve_files<S: Source, D: Desk>(
 ///
 /// It answers `Usage` exactly where the words are others, and then calls neither source nor desk; `Disk` only
 /// where a call of the files failed, `Read` only where one of the source did, `Write` only where a say did;
-/// `Damaged` exactly where the synced files hold no state; `Full` exactly where an entry would end past N;
-/// `InputLimit` exactly where more than `INPUT_LIMIT` bytes came; `Findings` exactly where a text isn't accepted
-/// that was checked; `Memory` where no memory was left; and no other status but `Ok`.
+/// `Damaged` only where the synced files hold no state, and there unless a call of the files failed, no memory was
+/// left or the line couldn't be said; `Full` exactly where an entry would end past N;
+/// `InputLimit` only where more than `INPUT_LIMIT` bytes came; `Findings` only where a text isn't accepted that was
+/// checked; `Memory` where no memory was left; and no other status but `Ok`.
 pub fn serve<S: Source, D: Desk>(
     alloc: Global,
     words: &[String],
     source: &mut S,
     desk: &mut D,
 ) -> Status
-    // What each status says of the input, the files and the output, at every moment since the call began.
+    // What each status says of the input, the files and the output, at every moment since the call began. Where the files aren't opened,
+    // the source isn't called.
     ensures ends { IsTrue (D.tells desk.old) → (limit : ℕ) (bytes : List ℕ) → IsRun words.now limit → S.left source.old ≡ Some bytes
-        → OpeningEnds D.moment D.left_since D.state D.may_leave result desk.old desk.new
+        → (OpeningEnds D.moment D.left_since D.state D.may_leave result desk.old desk.new × (source.new ≡ source.old))
         ⊎ RunsFrom D.moment D.left_since D.state D.may_leave (λ c s opened. RunEnds D.moment D.left_since D.state D.may_leave result c s limit INPUT_LIMIT bytes (S.left source.new) (S.piece source.new) opened desk.new) desk.old }
 
     // Each answer has its cause.

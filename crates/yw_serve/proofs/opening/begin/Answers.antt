@@ -1,4 +1,4 @@
-use Rattle.std.proofs.Common.{◌≡◌, [], IsTrue, inl, refl, sym, ◌∙◌, subst, rules}
+use Rattle.std.proofs.Common.{◌≡◌, [], IsTrue, inl, inr, refl, sym, ◌∙◌, subst, rules}
 use Rattle.yw_outside.specs.declared.desk.File.{File}
 use Rattle.yw_outside.specs.declared.desk.File.TheVariants.{A}
 use Rattle.yw_journal.specs.Files as files
@@ -7,8 +7,8 @@ use Rattle.yw_journal.proofs.Passing.{weakened}
 use Rattle.yw_library.specs.Holdings as library
 use Rattle.yw_state.specs.State.{State, opening}
 use Rattle.yw_serve.specs.Damage.{HoldNow}
-use Rattle.yw_serve.specs.Opening.{LeftByOpening}
-use Rattle.yw_serve.proofs.OpenHeld.{fresh, framed_nothing, none_live, held_nothing, held_fresh, left_by_making}
+use Rattle.yw_serve.specs.Opening.{LeftBehindSyncs, begun}
+use Rattle.yw_serve.proofs.OpenHeld.{framed_nothing, none_live, held_nothing, held_begun, left_by_making}
 use Rattle.yw_serve.proofs.opening.begin.Goals as goal
 
 pub make-requires-clause-framed : goal.make-requires-clause-framed
@@ -20,18 +20,18 @@ returns-in-Ok-clause-opened g c = λ tells.
     let j = g.D.Desk.state c.make.new.desk in
     let chosen = c.requires.chosen tells in
     let here = c.in-Ok.ensures in
-    let current : IsCurrent c.in-Ok.journal fresh j = here.current tells files.opening [] (inl (none_live i chosen, refl)) framed_nothing in
+    let current : IsCurrent c.in-Ok.journal begun j = here.current tells files.opening [] (inl (none_live i chosen, refl)) framed_nothing in
     let a : c.in-Ok.journal.file ≡ A = search rules in
-    let holds : files.Holds A fresh c.in-Ok.journal.end j = subst (λ (f : File). files.Holds f fresh c.in-Ok.journal.end j) a current.holds in
+    let holds : files.Holds A begun c.in-Ok.journal.end j = subst (λ (f : File). files.Holds f begun c.in-Ok.journal.end j) a current.holds in
     let s : State = library.state_of c.new.result in
     let nobody : s ≡ opening = c.new.ensures.state in
     record {
       before = files.opening;
       held = subst (λ (s : State). HoldNow files.opening s i) (sym nobody) (held_nothing i chosen);
-      now = fresh;
-      holds = subst (λ (s : State). HoldNow fresh s j) (sym nobody) (held_fresh i chosen j c.in-Ok.journal.end (here.other tells) holds);
+      now = begun;
+      holds = subst (λ (s : State). HoldNow begun s j) (sym nobody) (held_begun i chosen j c.in-Ok.journal.end (here.other tells) holds);
       current = current;
-      records = refl;
+      content = inr (refl, refl);
       other = here.other tells;
       said = here.said tells;
     }
@@ -42,7 +42,7 @@ returns-in-Ok-clause-stands g c =
     let back = λ (t : IsTrue (g.D.Desk.tells c.make.new.desk)). sym here.tells ∙ t in
     record {
       ready = here.ready;
-      current = λ tells. (fresh, here.current (back tells) files.opening [] (inl (none_live (g.D.Desk.state c.args.desk.now) (c.requires.chosen (back tells)), refl)) framed_nothing);
+      current = λ tells. (begun, here.current (back tells) files.opening [] (inl (none_live (g.D.Desk.state c.args.desk.now) (c.requires.chosen (back tells)), refl)) framed_nothing);
       settled = λ tells. here.settled (back tells);
     }
 
@@ -51,15 +51,15 @@ returns-in-Ok-clause-any_moment g c = λ tells.
     let D = g.D.Desk in
     let i = D.state c.args.desk.now in
     let chosen = c.requires.chosen tells in
-    weakened D.moment D.left_since c.args.desk.now c.make.new.desk (IsBeforeOrMade A files.opening fresh i) (LeftByOpening (D.may_leave c.args.desk.now) i)
+    weakened D.moment D.left_since c.args.desk.now c.make.new.desk (IsBeforeOrMade A files.opening begun i) (LeftBehindSyncs i)
     (c.in-Ok.ensures.any_moment tells files.opening [] (inl (none_live i chosen, refl)) framed_nothing)
-    (left_by_making i chosen (D.may_leave c.args.desk.now))
+    (left_by_making i chosen)
 
 pub returns-in-Err-Disk-clause-any_moment : goal.returns-in-Err-Disk-clause-any_moment
 returns-in-Err-Disk-clause-any_moment g c = λ tells.
     let D = g.D.Desk in
     let i = D.state c.args.desk.now in
     let chosen = c.requires.chosen tells in
-    weakened D.moment D.left_since c.args.desk.now c.make.new.desk (IsBeforeOrMade A files.opening fresh i) (LeftByOpening (D.may_leave c.args.desk.now) i)
+    weakened D.moment D.left_since c.args.desk.now c.make.new.desk (IsBeforeOrMade A files.opening begun i) (LeftBehindSyncs i)
     (c.in-Err-Disk.ensures.any_moment tells files.opening [] (inl (none_live i chosen, refl)) framed_nothing)
-    (left_by_making i chosen (D.may_leave c.args.desk.now))
+    (left_by_making i chosen)

@@ -1,33 +1,54 @@
-use Rattle.std.proofs.Common.{◌≡◌, ℕ, IsTrue, Err, IfOk, ◌∙◌, rules}
+use Rattle.std.proofs.Common.{◌≡◌, ℕ, IsTrue, Err, IfOk, inl, inr, ◌∙◌, rules}
 use Rattle.yw_outside.specs.declared.desk.File.{File}
 use Rattle.yw_serve.specs.Damage.{IsDamagedNow}
 use Rattle.yw_serve.specs.Opening.{IsOpened}
 use Rattle.yw_serve.specs.declared.opening.OpenFault.TheVariants.{Damaged}
 use Rattle.yw_serve.proofs.OpenLaws.{answers_state, answers_damage}
-use Rattle.yw_serve.proofs.OpenLooked.{looked_on, looked_leaves, opening_behind}
+use Rattle.yw_serve.proofs.OpenLooked.{looked_on, opens_beginning, opens_looking, still_settled, unsynced}
 use Rattle.yw_serve.proofs.opening.open.Goals as goal
+
+pub returns-in_err-sync_both-clause-any_moment : goal.returns-in_err-sync_both-clause-any_moment
+returns-in_err-sync_both-clause-any_moment g c = λ tells.
+    let D = g.D.Desk in
+    inr (search rules, unsynced D.moment D.left_since D.state D.may_leave D.tells D.disk_faults D.say_faults c.args.desk.now c.sync_both.new.desk c.in_err-sync_both.ensures.looked)
+
+pub returns-in_err-head-clause-any_moment : goal.returns-in_err-head-clause-any_moment
+returns-in_err-head-clause-any_moment g c = λ tells.
+    let D = g.D.Desk in
+    let synced = c.sync_both.new.desk in
+    inl (opens_looking D.moment D.left_since D.state D.may_leave D.tells D.disk_faults D.say_faults c.args.desk.now synced c.in_ok-sync_both.ensures.looked c.in_ok-sync_both.ensures.settled (g.met.D.Desk.said_by_now synced)
+    c.choose.new.desk c.in_err-head.ensures.looked)
 
 pub returns-in-Some-clause-any_moment : goal.returns-in-Some-clause-any_moment
 returns-in-Some-clause-any_moment g c = λ tells.
     let D = g.D.Desk in
-    let old = c.args.desk.now in
     let synced = c.sync_both.new.desk in
     let chosen = c.choose.new.desk in
     let new = c.resume.new.desk in
-    let first = looked_on D.moment D.left_since D.state D.may_leave D.tells D.disk_faults D.say_faults old synced chosen c.in_ok-sync_both.ensures.looked c.in_ok-head.ensures.looked in
-    looked_leaves D.moment D.left_since D.state D.may_leave D.tells D.disk_faults D.say_faults old new (g.met.D.Desk.said_by_now old)
-    (looked_on D.moment D.left_since D.state D.may_leave D.tells D.disk_faults D.say_faults old chosen new first c.resume.ensures.looked)
+    inl (opens_looking D.moment D.left_since D.state D.may_leave D.tells D.disk_faults D.say_faults c.args.desk.now synced c.in_ok-sync_both.ensures.looked c.in_ok-sync_both.ensures.settled (g.met.D.Desk.said_by_now synced)
+    new (looked_on D.moment D.left_since D.state D.may_leave D.tells D.disk_faults D.say_faults synced chosen new c.in_ok-head.ensures.looked c.resume.ensures.looked))
 
 pub returns-in-None-clause-any_moment : goal.returns-in-None-clause-any_moment
 returns-in-None-clause-any_moment g c = λ tells.
     let D = g.D.Desk in
-    let old = c.args.desk.now in
     let synced = c.sync_both.new.desk in
     let chosen = c.choose.new.desk in
-    let new = c.begin.new.desk in
-    let first = looked_on D.moment D.left_since D.state D.may_leave D.tells D.disk_faults D.say_faults old synced chosen c.in_ok-sync_both.ensures.looked c.in_ok-head.ensures.looked in
-    opening_behind D.moment D.left_since D.state D.may_leave D.tells D.disk_faults D.say_faults old chosen new (g.met.D.Desk.said_by_now old) first
-    (c.begin.ensures.any_moment (first.telling ∙ tells))
+    inl (opens_beginning D.moment D.left_since D.state D.may_leave D.tells D.disk_faults D.say_faults c.args.desk.now synced c.in_ok-sync_both.ensures.looked c.in_ok-sync_both.ensures.settled (g.met.D.Desk.said_by_now synced)
+    chosen c.begin.new.desk c.in_ok-head.ensures.looked (c.begin.ensures.any_moment (c.in_ok-head.ensures.looked.telling ∙ c.in_ok-sync_both.ensures.looked.telling ∙ tells)))
+
+pub returns-in_err-head-clause-settled : goal.returns-in_err-head-clause-settled
+returns-in_err-head-clause-settled g c = λ f place is.
+    let D = g.D.Desk in
+    still_settled D.moment D.left_since D.state D.may_leave D.tells D.disk_faults D.say_faults c.sync_both.new.desk c.choose.new.desk c.in_err-head.ensures.looked c.in_ok-sync_both.ensures.settled
+
+pub returns-in-Some-clause-settled : goal.returns-in-Some-clause-settled
+returns-in-Some-clause-settled g c = λ f place is.
+    let D = g.D.Desk in
+    let synced = c.sync_both.new.desk in
+    let chosen = c.choose.new.desk in
+    let new = c.resume.new.desk in
+    still_settled D.moment D.left_since D.state D.may_leave D.tells D.disk_faults D.say_faults synced new
+    (looked_on D.moment D.left_since D.state D.may_leave D.tells D.disk_faults D.say_faults synced chosen new c.in_ok-head.ensures.looked c.resume.ensures.looked) c.in_ok-sync_both.ensures.settled
 
 pub returns-in_err-head-clause-held : goal.returns-in_err-head-clause-held
 returns-in_err-head-clause-held g c = λ tells.

@@ -1,4 +1,4 @@
-use Rattle.std.proofs.Common.{◌≡◌, ◌≤◌, ◌+◌, ℕ, [], IsTrue, Result, Err, IfErr, refl, sym, ap, ◌∙◌, subst, arith, rules}
+use Rattle.std.proofs.Common.{◌≡◌, ◌≤◌, ◌+◌, ℕ, [], IsTrue, Result, Err, IfErr, inl, refl, sym, ap, ◌∙◌, subst, arith, rules}
 use Rattle.yw_outside.specs.declared.desk.File.{File}
 use Rattle.yw_outside.specs.declared.desk.File.TheVariants.{A}
 use Rattle.yw_outside.specs.declared.image.Image.{Image}
@@ -12,7 +12,7 @@ use Rattle.yw_serve.specs.Opening.{HasFaultCause, IsDamagedAt, IsReached, IsOpen
 use Rattle.yw_serve.specs.declared.opening.OpenFault.{OpenFault}
 use Rattle.yw_serve.specs.declared.opening.Opened.{Opened}
 use Rattle.yw_serve.proofs.OpenHeld.{chosen_start, content_of, current_records, damaged_within, held_records}
-use Rattle.yw_serve.proofs.OpenLooked.{fault_further}
+use Rattle.yw_serve.proofs.OpenLooked.{fault_further, still_settled}
 use Rattle.yw_serve.proofs.opening.resume.Goals as goal
 
 pub returns-in_err-tail-clause-fault : goal.returns-in_err-tail-clause-fault
@@ -52,7 +52,7 @@ returns-clause-opened g c = λ tells.
     let held = held_records i head chosen tail.gate records s read.1.1 read.0 in
     let current = current_records i head chosen journal tail.gate records s read.1.1 read.0 refl refl c.u64_in.ensures
     (ap (λ (n : ℕ). n + tail.records) c.u64_in-2.ensures ∙ ap (λ (n : ℕ). count_of head.bytes + n) (sym read.1.2)) in
-    let here : IsOpened opened i i = record { before = content_of i.a records; held = held; now = content_of i.a records; holds = held; current = current; records = refl; other = refl; said = refl } in
+    let here : IsOpened opened i i = record { before = content_of i.a records; held = held; now = content_of i.a records; holds = held; current = current; content = inl (refl, refl); other = refl; said = refl } in
     subst (λ (j : Image). IsOpened opened i j) (sym looked.same) here
 
 pub returns-clause-stands : goal.returns-clause-stands
@@ -78,10 +78,5 @@ returns-clause-stands g c =
           let current = current_records i head chosen journal tail.gate read.1.0 s read.1.1 read.0 refl refl c.u64_in.ensures
           (ap (λ (n : ℕ). n + tail.records) c.u64_in-2.ensures ∙ ap (λ (n : ℕ). count_of head.bytes + n) (sym read.1.2)) in
           (content_of i.a read.1.0, subst (λ (j : Image). IsCurrent journal (content_of i.a read.1.0) j) (sym looked.same) current);
-      settled = λ telling.
-          let settled = c.requires.settled (back telling) in
-          record {
-            a = λ k left. settled.a k (looked.crash k left) ∙ ap (λ (j : Image). j.a) (sym looked.same);
-            b = λ k left. settled.b k (looked.crash k left) ∙ ap (λ (j : Image). j.b) (sym looked.same);
-          };
+      settled = λ telling. still_settled D.moment D.left_since D.state D.may_leave D.tells D.disk_faults D.say_faults c.args.desk.now c.read_entries.new.desk looked (c.requires.settled (back telling));
     }

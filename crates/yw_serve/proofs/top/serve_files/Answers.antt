@@ -1,5 +1,6 @@
-use Rattle.std.proofs.Common.{Bool, inl, inr, ◌≡◌, Err, sym, subst, rules}
+use Rattle.std.proofs.Common.{Bool, inl, inr, ◌≡◌, Err, refl, sym, subst, rules}
 use Rattle.std.specs.Bool.{IsTrue}
+use Rattle.yw_serve.proofs.OpenEnds.{opens_by, opens_in_part}
 use Rattle.yw_serve.proofs.ServedLemmas.{damage_ends, runs_from}
 use Rattle.yw_serve.specs.declared.opening.OpenFault.TheVariants as faults
 use Rattle.yw_serve.specs.declared.top.TheConstants.{INPUT_LIMIT}
@@ -8,21 +9,38 @@ use Rattle.yw_serve.proofs.top.serve_files.Goals as goal
 pub returns-in-Ok-open-clause-ends : goal.returns-in-Ok-open-clause-ends
 returns-in-Ok-open-clause-ends g c = λ tells bytes left.
     let D = g.D.Desk in
+    let old = c.args.desk.now in
     let mid = c.open.new.desk in
     let is = c.in-Ok-open.ensures.opened tells in
     let still = g.S.Source.left c.serve_lines.new.source in
     let piece = g.S.Source.piece c.serve_lines.new.source in
-    inr (runs_from D.moment D.left_since D.state D.may_leave c.in-Ok-open.opened INPUT_LIMIT c.args.limit piece bytes still c.serve_lines.result c.args.desk.now mid c.serve_lines.new.desk is
-    (c.open.ensures.any_moment tells) c.in-Ok-open.ensures.limited
-    (c.serve_lines.ensures.ends (subst (λ (b : Bool). IsTrue b) (sym c.open.ensures.counts.telling) tells) is.now bytes is.current left))
+    let then : IsTrue (D.tells mid) = subst (λ (b : Bool). IsTrue b) (sym c.open.ensures.counts.telling) tells in
+    inr (runs_from D.moment D.left_since D.state D.may_leave c.in-Ok-open.opened INPUT_LIMIT c.args.limit piece bytes still c.serve_lines.result old mid c.serve_lines.new.desk is
+    (c.in-Ok-open.ensures.stands.settled then) (opens_by D.moment D.left_since D.state D.may_leave c.open.result old mid (c.open.ensures.any_moment tells) (search rules)) c.in-Ok-open.ensures.limited
+    (c.serve_lines.ensures.ends then is.now bytes is.current left))
+
+pub returns-in-Err-Disk-clause-ends : goal.returns-in-Err-Disk-clause-ends
+returns-in-Err-Disk-clause-ends g c = λ tells bytes left.
+    let D = g.D.Desk in
+    inl (opens_in_part D.moment D.left_since D.state D.may_leave c.open.result c.args.desk.now c.open.new.desk (c.open.ensures.any_moment tells) (c.open.ensures.said tells), refl)
+
+pub returns-in-Err-Memory-clause-ends : goal.returns-in-Err-Memory-clause-ends
+returns-in-Err-Memory-clause-ends g c = λ tells bytes left.
+    let D = g.D.Desk in
+    inl (inl (opens_in_part D.moment D.left_since D.state D.may_leave c.open.result c.args.desk.now c.open.new.desk (c.open.ensures.any_moment tells) (c.open.ensures.said tells)), refl)
 
 pub returns-clause-ends : goal.returns-clause-ends
 returns-clause-ends g c = λ tells bytes left.
     let D = g.D.Desk in
+    let old = c.args.desk.now in
     let mid = c.open.new.desk in
     let f = c.in-Err-Damaged.file in
     let place = c.in-Err-Damaged.place in
     let is : c.open.result ≡ Err (faults.Damaged f place) = search rules in
-    inl (damage_ends D.moment D.left_since D.state D.may_leave c.tell_damage.result f place c.args.desk.now mid c.tell_damage.new.desk
-    (c.open.ensures.damaged tells f place is) (c.open.ensures.unchanged f place is) (c.open.ensures.any_moment tells)
-    (c.tell_damage.ensures.told (subst (λ (b : Bool). IsTrue b) (sym c.open.ensures.counts.telling) tells)))
+    inl (
+      damage_ends D.moment D.left_since D.state D.may_leave c.tell_damage.result f place old mid c.tell_damage.new.desk
+          (c.open.ensures.damaged tells f place is) (c.open.ensures.unchanged f place is) (c.open.ensures.settled f place is)
+          (opens_by D.moment D.left_since D.state D.may_leave c.open.result old mid (c.open.ensures.any_moment tells) (search rules))
+          (c.tell_damage.ensures.told (subst (λ (b : Bool). IsTrue b) (sym c.open.ensures.counts.telling) tells)),
+      refl,
+    )
