@@ -175,6 +175,7 @@ fn serve_files<S: Source, D: Desk>(
         → (OpeningEnds D.moment D.left_since D.state D.may_leave result desk.old desk.new × (source.new ≡ source.old))
         ⊎ RunsFrom D.moment D.left_since D.state D.may_leave (λ c s opened. RunEnds D.moment D.left_since D.state D.may_leave result c s limit INPUT_LIMIT bytes (S.left source.new) (S.piece source.new) opened desk.new) desk.old }
     ensures told { IsOfRun result }
+    ensures counts { KeepsCounts D.tells D.disk_faults D.say_faults desk.old desk.new }
     ensures read { result ≡ Status.Read → Rose (S.faults source.old) (S.faults source.new) }
     ensures disk { result ≡ Status.Disk → Rose (D.disk_faults desk.old) (D.disk_faults desk.new) }
     ensures write { result ≡ Status.Write → Rose (D.say_faults desk.old) (D.say_faults desk.new) }
@@ -202,7 +203,7 @@ fn serve_files<S: Source, D: Desk>(
 /// It answers `Usage` exactly where the words are others, and then calls neither source nor desk; `Disk` only
 /// where a call of the files failed, `Read` only where one of the source did, `Write` only where a say did;
 /// `Damaged` only where the synced files hold no state, and there unless a call of the files failed, no memory was
-/// left or the line couldn't be said; `Full` exactly where an entry would end past N;
+/// left or the line couldn't be said; `Full` only where an entry would end past N, and no entry is taken that does;
 /// `InputLimit` only where more than `INPUT_LIMIT` bytes came; `Findings` only where a text isn't accepted that was
 /// checked; `Memory` where no memory was left; and no other status but `Ok`.
 pub fn serve<S: Source, D: Desk>(
@@ -232,6 +233,9 @@ pub fn serve<S: Source, D: Desk>(
         → HoldNow c s (D.state desk.old) → length bytes ≤ INPUT_LIMIT
         → ¬ (Rose (S.faults source.old) (S.faults source.new)) → ¬ (Rose (D.disk_faults desk.old) (D.disk_faults desk.new)) → ¬ (Rose (D.say_faults desk.old) (D.say_faults desk.new))
         → (result ≡ Status.Ok) ⊎ (result ≡ Status.Memory) ⊎ (result ≡ Status.Full) }
+
+    // The desk tells as it did, so that the next run goes on from here, and no count of its faults has fallen.
+    ensures run_counts { (limit : ℕ) → IsRun words.now limit → KeepsCounts D.tells D.disk_faults D.say_faults desk.old desk.new }
 
     // Where all is answered, the files hold the state that the lines lead to from the one that they held, now and after a crash, and all
     // replies are said.
