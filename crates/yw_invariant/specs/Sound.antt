@@ -1,4 +1,5 @@
--- What the specifications that texts say have, whatever is kept. Accepted texts say no others.
+-- What the specifications that texts say have, whatever is kept. Accepted texts say no others. What is asked of a net
+-- is the paper's; the rest, and the limits, are our own.
 use Rattle.std.specs.Prelude.{◌≡◌, ◌<◌, ◌≤◌, ◌&&◌, ℕ, Bool, true, not, List, [], ◌∷◌, ◌++◌, map, Option, Some, None, IfSome, Ok, find, is_some, slice_get}
 use Rattle.std.specs.List.{All, list_all}
 use Rattle.std.specs.Str.{bytes_eq}

@@ -1,4 +1,4 @@
--- The kinds of fields that lines have: what a JSON value says, if it is of the kind.
+-- The kinds of fields that lines have: what a JSON value says, if it is of the kind. Our own.
 use Rattle.std.specs.Prelude.{ℕ, ◌==◌, List, length, map, Bool, true, false, nat_le, if◌then◌else◌, Option, Some, None, option_and_then, option_map, codes}
 use Rattle.std.specs.Option.{option_map_or}
 use Rattle.std.specs.Str.{bytes_eq}

@@ -1,4 +1,4 @@
--- How the text of an identity is read: numbers in decimal, with a dot between each two.
+-- How the text of an identity is read: numbers in decimal, with a dot between each two. Our own.
 use Rattle.std.specs.Prelude.{ℕ, ◌==◌, ◌&&◌, List, [], ◌∷◌, length, Bool, not, nat_lt, slice_index, if◌then◌else◌, Option, Some, None, option_and_then, option_map}
 use Rattle.std.specs.List.{list_all}
 use Rattle.std.specs.Str.Parse.{digits_value}

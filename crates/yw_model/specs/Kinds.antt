@@ -1,4 +1,4 @@
--- The words of the kinds of rule trees.
+-- The words of the kinds of rule trees. The kinds are after the thesis, the words our own.
 use Rattle.std.specs.Prelude.{ℕ, List, [], ◌∷◌, Option, codes}
 use Rattle.yw_model.specs.Words.{written}
 use Rattle.yw_state.specs.declared.tree.TreeKind.{TreeKind}

@@ -1,4 +1,5 @@
--- The lines of bytes: the pieces that end at a newline, and at the end of the input what follows the last one.
+-- The lines of bytes: the pieces that end at a newline, and at the end of the input what follows the last one. Our
+-- own.
 use Rattle.std.specs.Prelude.{ℕ, ◌==◌, ◌≢◌, List, [], ◌∷◌, ◌++◌, Bool, All, if◌then◌else◌}
 
 abbrev pub newline : ℕ

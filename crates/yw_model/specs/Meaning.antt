@@ -1,5 +1,5 @@
 -- What a line means: nothing, by a rule, or a command or a query. A line is a JSON object, as `serde_json` reads it, with
--- `cmd` and exactly the fields of its word. A word that isn't among those built is refused before its fields are looked at.
+-- `cmd` and exactly the fields of its word. A word that isn't among those built is refused before its fields are looked at. Our own.
 use Rattle.std.specs.Prelude.{◌≡◌, ℕ, List, length, Bool, true, nat_lt, if◌then◌else◌, Option, Some, None, Result, Err, ok_or, codes}
 use Rattle.std.specs.List.{list_any}
 use Rattle.std.specs.Str.{bytes_eq, is_utf8}

@@ -1,4 +1,5 @@
--- How the steps of an exlet are written: a word, and behind `compensate` one blank and a name.
+-- How the steps of an exlet are written: a word, and behind `compensate` one blank and a name. The steps are
+-- after the thesis, their spelling our own.
 use Rattle.std.specs.Prelude.{ℕ, List, [], ◌∷◌, ◌++◌, length, drop, take, ◌&&◌, codes, unwrap_or, if◌then◌else◌}
 use Rattle.std.specs.Str.{bytes_eq}
 use Rattle.yw_base.specs.Spelling.{is_name}

@@ -1,4 +1,4 @@
--- The lines that are said: compact JSON, keys in byte order, and a newline.
+-- The lines that are said: compact JSON, keys in byte order, and a newline. Our own.
 use Rattle.std.specs.Prelude.{ℕ, List, [], ◌∷◌, ◌++◌, map, Bool, true, false, codes}
 use Rattle.serde_json.specs.Data.{Data, unsigned, boolean, number, string, array, object, no_members, member}
 use Rattle.serde_json.specs.View.{items_of}

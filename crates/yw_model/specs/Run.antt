@@ -1,4 +1,4 @@
--- What a list of lines may be answered: a run goes line by line.
+-- What a list of lines may be answered: a run goes line by line. Our own.
 use Rattle.std.specs.Prelude.{ℕ, ◌+◌, ◌≡◌, List, [], ◌∷◌, ◌++◌, Bool, true, Option, Some, None, Result, Ok, Err}
 use Rattle.yw_model.specs.Texts.{reader}
 use Rattle.yw_state.specs.State.{State}

@@ -1,4 +1,4 @@
--- What lines ask, by their words: a JSON object with `cmd` and exactly these fields.
+-- What lines ask, by their words: a JSON object with `cmd` and exactly these fields. Our own.
 use Rattle.std.specs.Prelude.{ℕ, if◌then◌else◌, Option, Some, None, codes}
 use Rattle.serde_json.specs.Data.{Data}
 use Rattle.serde_json.specs.Find.{as_str}

@@ -1,4 +1,4 @@
--- The values that JSON values stand for, and what is given under names.
+-- The values that JSON values stand for, and what is given under names. Our own.
 use Rattle.std.specs.Prelude.{ℕ, ℤ, List, [], ◌∷◌, nat_le, Option, Some, None, option_map, option_and_then, if◌then◌else◌}
 use Rattle.serde_json.specs.Data.{Data, null, boolean, number, string, array, object, Items, no_items, item, Members, no_members, member}
 use Rattle.serde_json.specs.Events.{items_len}

@@ -1,4 +1,4 @@
--- What words say, and the words under `cmd`, one for each command and each query.
+-- What words say, and the words under `cmd`, one for each command and each query. Our own.
 use Rattle.std.specs.Prelude.{ℕ, List, [], ◌∷◌, Option, find, codes}
 use Rattle.std.specs.Str.{bytes_eq}
 use Rattle.yw_model.specs.declared.word.Word.{Word}

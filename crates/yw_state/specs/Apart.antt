@@ -1,4 +1,5 @@
--- States that are alike: in all but one case, or in all cases.
+-- States that are alike: in all but one case, or in all cases. That cases leave each other alone is the paper's; that it is said by
+-- what stands under their numbers is our own.
 use Rattle.std.specs.Prelude.{◌≡◌, ◌≢◌, ℕ}
 use Rattle.yw_state.specs.Identity.{Ident, case_number}
 use Rattle.yw_state.specs.Map.{get}

@@ -1,5 +1,5 @@
--- Which events come of themselves, and when a case is quiet. That a task with nobody to do it goes on by itself is the paper's; that
--- the server enters all but manual tasks is our own.
+-- Which events come of themselves, and when a case is quiet. Of the paper's transitions and the thesis's steps the server takes these;
+-- which they are, and that it enters all but manual tasks, is our own.
 use Rattle.std.specs.Prelude.{◌≡◌, ℕ, Bool, true, false, not, List, [], ◌∷◌, Option, Some, None, IsTrue}
 use Rattle.yw_state.specs.Allowed.{Allowed}
 use Rattle.yw_state.specs.Events.{after}

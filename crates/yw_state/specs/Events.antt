@@ -1,4 +1,5 @@
--- The state after an event, one row for each kind, and what a list of events leads to.
+-- The state after an event, one row for each kind, and what a list of events leads to. The rows from Launch to CompleteEmpty are the
+-- paper's transitions; AddRule and those from Pass on are after the thesis; Person and Load are our own.
 use Rattle.std.specs.Prelude.{◌≡◌, List, [], ◌∷◌}
 use Rattle.yw_state.specs.After.{add, add_rule, begin_run, begun, change, complete, completed, end_case, end_net, enter, exit, launch, load, pass, start_sub, substitute, where_some, with_item}
 use Rattle.yw_state.specs.Allowed.{Allowed}

@@ -21,7 +21,7 @@ suspend s j = change s j (λ x. record x { suspended = true })
 abbrev pub continue_at : State → Ident → State
 continue_at s j = change s j (λ x. record x { suspended = false })
 
--- an item with no check due, and the net at it and all under it gone but for the run r
+-- an item with no check due, and the net at it and all strictly under it gone but for the run r
 abbrev cut_back : State → Ident → Ident → (ItemPart → ItemPart) → State
 cut_back s r j f = change (with_sites s (bare_but s.sites j r)) j (λ x. record (with_item f x) { due = no_checks })
 

@@ -1,4 +1,5 @@
--- What an event removes: behind it, nothing stands at these identities.
+-- What an event removes: behind it, nothing stands at these identities. That an exit empties its removal set and that an item's end
+-- takes the net below it is the paper's; what the primitives of an exlet remove is after the thesis. The list of it is our own.
 use Rattle.std.specs.Prelude.{ℕ, ◌&&◌, Bool, false, not, List, ◌∷◌, Option, Some, None, is_some, if◌then◌else◌}
 use Rattle.std.specs.List.{list_any}
 use Rattle.yw_base.specs.Identity.{under}

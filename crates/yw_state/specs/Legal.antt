@@ -1,5 +1,5 @@
 -- The event that a command asks for, and the entries that may answer it: that event, and what comes of itself behind it until the case
--- is quiet, or until 4,096 events came. The one entry of one command is our own.
+-- is quiet, or until 4,096 events came behind the first. The one entry of one command is our own.
 use Rattle.std.specs.Prelude.{◌≡◌, ◌≤◌, ◌↔◌, ℕ, ◌+◌, List, [], ◌∷◌, length, Bool, false, Option, Some, None, option_and_then, option_map, IsTrue, Ok}
 use Rattle.yw_spec.specs.declared.spec.Net.{Net}
 use Rattle.yw_spec.specs.declared.spec.Place.{Place}

@@ -1,4 +1,4 @@
--- Finite maps as lists of entries in the order of their keys, which compute.
+-- Finite maps as lists of entries in the order of their keys, which compute. Our own.
 use Rattle.std.specs.Prelude.{ℕ, ◌≡◌, Bool, true, false, not, T, List, [], ◌∷◌, map, Option, Some, None, is_some, refl}
 use Rattle.std.specs.Ordering.{nat_cmp, eq_by_cmp}
 use Rattle.std.specs.Cmp.Lexicographic.{slice_cmp}

@@ -1,4 +1,5 @@
--- What a specification has under its names, and which kinds its tasks are of.
+-- What a specification has under its names, and which kinds its tasks are of. Nets, tasks and their decompositions are the paper's;
+-- that they go by numbers, and the kind of an empty task, is our own.
 use Rattle.std.specs.Prelude.{ℕ, ◌&&◌, Bool, true, false, List, Option, Some, None, position, slice_get, option_and_then, nat_eq}
 use Rattle.std.specs.List.{list_any}
 use Rattle.std.specs.Str.{bytes_eq}

@@ -1,4 +1,4 @@
--- What may be there.
+-- What may be there. Our own.
 use Rattle.std.specs.Prelude.{Bool, false, List, [], ◌∷◌, Option, Some, None, option_and_then, option_map}
 
 -- there is one, and it passes

@@ -1,4 +1,4 @@
--- The names of rules, as replies have them.
+-- The names of rules, as replies have them. Our own.
 use Rattle.std.specs.Prelude.{ℕ, List, codes}
 use Rattle.yw_state.specs.declared.rule.Rule.{Rule}
 use Rattle.yw_state.specs.declared.rule.Rule.TheVariants as rules

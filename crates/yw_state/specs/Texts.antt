@@ -1,5 +1,5 @@
 -- What the text of an event says. Which texts are specifications and which spell conditions is said elsewhere: here it is a relation
--- that is given, so that what events do stands on no way of writing.
+-- that is given, so that what events do stands on no way of writing. Our own.
 use Rattle.std.specs.Prelude.{◌≡◌, ℕ, List, Some, Result, Ok}
 use Rattle.yw_expr.specs.Tree.{Tree}
 use Rattle.yw_expr.specs.declared.scope.Binding.{Binding}

@@ -1,4 +1,4 @@
--- Rows of values, and which values are the same.
+-- Rows of values, and which values are the same. Our own.
 use Rattle.std.specs.Prelude.{Bool, false, not, List, if◌then◌else◌}
 use Rattle.std.specs.Cmp.Lexicographic.{pointwise}
 use Rattle.std.specs.Ordering.{int_eq}
