@@ -30,6 +30,10 @@ abbrev pub IsOpen : {R W F D : Type 0} → FolderDesk R W F D → File → Type 
 IsOpen d A = IsSome d.a.file
 IsOpen d B = IsSome d.b.file
 
+-- the writer of the output
+abbrev pub out_of : {R W F D : Type 0} → FolderDesk R W F D → W
+out_of d = d.out
+
 -- how often a call of a file has failed
 abbrev pub disk_faults_of : {R W F D : Type 0} → FolderDesk R W F D → ℕ
 disk_faults_of d = d.disk_faults

@@ -1,3 +1,4 @@
 pub mod Counted
 pub mod FolderDesk
+pub mod Handed
 pub mod StdSource

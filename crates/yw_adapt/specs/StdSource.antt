@@ -2,6 +2,10 @@
 use Rattle.std.specs.Prelude.{ℕ}
 use Rattle.yw_adapt.specs.declared.std_source.StdSource.{StdSource}
 
+-- the reader
+abbrev pub inner_of : {R : Type 0} → StdSource R → R
+inner_of s = s.inner
+
 -- how many bytes the last read with Ok gave
 abbrev pub piece_of : {R : Type 0} → StdSource R → ℕ
 piece_of s = s.piece

@@ -1,5 +1,5 @@
 // What a call of the system came to, and how failures are counted.
-ghost use Rattle.std.specs.Prelude.{◌≡◌, ◌≢◌, ◌<◌, ◌↔◌, IfErr, IfOk, IsErr, IsTrue};
+ghost use Rattle.std.specs.Prelude.{◌≡◌, ◌≢◌, ◌<◌, ◌↔◌, IfErr, IfOk, IsErr, IsTrue, OnErr};
 ghost use Rattle.std.specs.IoError.{error_kind};
 ghost use Rattle.yw_adapt.specs.Counted.{Counted};
 ghost use Rattle.yw_outside.specs.Causes.{HasCause};
@@ -21,6 +21,7 @@ pub fn moved(answer: io::Result<usize>) -> Result<usize, Failed>
     ensures some { IfOk answer (λ n. 0 < n → result ≡ Ok n) }
     ensures none { answer ≡ Ok 0 → IsErr result }
     ensures interrupted { IfErr answer (λ e. error_kind e ≡ ErrorKind.Interrupted → result ≡ Ok 0) }
+    ensures nothing { OnErr answer (IfOk result (λ n. n ≡ 0)) }
     ensures failed { IfErr answer (λ e. error_kind e ≢ ErrorKind.Interrupted → IsErr result) }
 {
     match answer {

@@ -1,5 +1,6 @@
 // A folder's two files and an output as a desk.
 ghost use Rattle.std.specs.Prelude.{◌≡◌};
+ghost use Rattle.yw_adapt.specs.Handed.{Handed};
 
 #[cfg(test)]
 mod tests;
@@ -31,12 +32,13 @@ pub struct FolderDesk<R: Files, W> {
 
 impl<R: Files + Drop, W: Drop> FolderDesk<R, W> {
     ghost use Rattle.std.specs.Prelude.{IfOk};
-    ghost use Rattle.yw_adapt.specs.FolderDesk.{folder_named, path_in, path_of, disk_faults_of, say_faults_of};
+    ghost use Rattle.yw_adapt.specs.FolderDesk.{folder_named, path_in, path_of, out_of, disk_faults_of, say_faults_of};
 
     /// A desk over a folder, which the empty text names too where it is the present one, and over a writer.
     /// No file is opened yet. An `Err` says that there was no memory for the paths.
     pub fn new(alloc: Global, rt: R, folder: &str, out: W) -> Result<FolderDesk<R, W>, AllocError>
         ensures paths { IfOk result (λ desk. (f : File) → path_of desk f ≡ path_in (folder_named folder.now) f) }
+        ensures out { IfOk result (λ desk. out_of desk ≡ out) }
         ensures disk_faults { IfOk result (λ desk. disk_faults_of desk ≡ 0) }
         ensures say_faults { IfOk result (λ desk. say_faults_of desk ≡ 0) }
     {
@@ -54,7 +56,9 @@ impl<R: Files + Drop, W: Drop> FolderDesk<R, W> {
 }
 
 /// Writes all of the bytes, in as few calls as the writer takes, and flushes it.
-fn write_out<W: Write>(out: &mut W, bytes: &[u8]) -> Result<(), Failed> {
+fn write_out<W: Write>(out: &mut W, bytes: &[u8]) -> Result<(), Failed>
+    ensures handed { Handed (W.contents out.old) (W.contents out.new) result bytes.now }
+{
     let mut rest = bytes;
     for _ in 0..u64::MAX {
         if rest.is_empty() {
@@ -72,7 +76,8 @@ where
 {
     ghost use Rattle.std.specs.Prelude.{◌≡◌, ◌<◌, ◌+◌, ◌^◌, [], false, IfOk, OnOk, length};
     ghost use Rattle.yw_adapt.specs.Counted.{Counted};
-    ghost use Rattle.yw_adapt.specs.FolderDesk.{path_of, other_of, IsOpen, disk_faults_of, say_faults_of};
+    ghost use Rattle.yw_adapt.specs.FolderDesk.{path_of, other_of, out_of, IsOpen, disk_faults_of, say_faults_of};
+    ghost use Rattle.yw_adapt.specs.Handed.{Handed};
     ghost use Rattle.yw_outside.specs.Causes.{HasCause};
 
     ghost tells = { λ _. false };
@@ -105,6 +110,7 @@ where
         ensures other_cause { say_faults_of self.new ≡ say_faults_of self.old }
         ensures opened { OnOk result (IsOpen self.new f) }
         ensures other_file { other_of self.new f ≡ other_of self.old f }
+        ensures out { out_of self.new ≡ out_of self.old }
         ensures paths { path_of self.new ≡ path_of self.old }
     {
         let length = match f {
@@ -121,6 +127,7 @@ where
         ensures other_cause { say_faults_of self.new ≡ say_faults_of self.old }
         ensures opened { OnOk result (IsOpen self.new f) }
         ensures other_file { other_of self.new f ≡ other_of self.old f }
+        ensures out { out_of self.new ≡ out_of self.old }
         ensures paths { path_of self.new ≡ path_of self.old }
     {
         let done = match f {
@@ -138,6 +145,7 @@ where
         ensures other_cause { say_faults_of self.new ≡ say_faults_of self.old }
         ensures opened { OnOk result (IsOpen self.new f) }
         ensures other_file { other_of self.new f ≡ other_of self.old f }
+        ensures out { out_of self.new ≡ out_of self.old }
         ensures paths { path_of self.new ≡ path_of self.old }
     {
         let done = match f {
@@ -155,6 +163,7 @@ where
         ensures other_cause { say_faults_of self.new ≡ say_faults_of self.old }
         ensures opened { OnOk result (IsOpen self.new f) }
         ensures other_file { other_of self.new f ≡ other_of self.old f }
+        ensures out { out_of self.new ≡ out_of self.old }
         ensures paths { path_of self.new ≡ path_of self.old }
     {
         let folder = self.folder.as_path();
@@ -165,8 +174,11 @@ where
         counted(done, &mut self.disk_faults)
     }
 
-    /// Fails where a write fails or takes no byte, or the flush fails.
+    /// Hands all of the bytes to the writer, and else a front of them. Fails where a write fails or takes no byte, or
+    /// the flush fails.
     fn say(&mut self, bytes: &[u8]) -> Result<(), Failed>
+        ensures handed { Handed (W.contents (out_of self.old)) (W.contents (out_of self.new)) result bytes.now }
+        ensures files { (f : File) → other_of self.new f ≡ other_of self.old f }
         ensures counts { Counted (say_faults_of self.old) (say_faults_of self.new) result }
         ensures cause { HasCause (say_faults_of self.old) (say_faults_of self.new) result }
         ensures other_cause { disk_faults_of self.new ≡ disk_faults_of self.old }

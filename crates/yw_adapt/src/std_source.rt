@@ -1,6 +1,7 @@
 // Standard input as a source.
 ghost use Rattle.std.specs.Prelude.{◌≡◌};
 ghost use Rattle.std.specs.Io.{ReadsAtMost};
+ghost use Rattle.std.specs.Io.KnownBytes.{ReadConsumes};
 
 #[cfg(test)]
 mod tests;
@@ -18,10 +19,11 @@ pub struct StdSource<R> {
 }
 
 impl<R> StdSource<R> {
-    ghost use Rattle.yw_adapt.specs.StdSource.{piece_of, faults_of};
+    ghost use Rattle.yw_adapt.specs.StdSource.{inner_of, piece_of, faults_of};
 
     /// A source over a reader. It takes no memory.
     pub fn new(inner: R) -> StdSource<R>
+        ensures inner { inner_of result ≡ inner }
         ensures piece { piece_of result ≡ 0 }
         ensures faults { faults_of result ≡ 0 }
     {
@@ -36,6 +38,7 @@ impl<R> StdSource<R> {
 /// One read that isn't interrupted.
 fn read_some<R: Read>(inner: &mut R, buf: &mut [u8]) -> Result<usize, Failed>
     ensures bound { ReadsAtMost result buf.new }
+    ensures bytes { ReadConsumes (R.remaining inner.old) (R.remaining inner.new) result buf.new }
 {
     for _ in 0..u64::MAX {
         match inner.read(buf) {
@@ -53,7 +56,7 @@ impl<R: Read> Source for StdSource<R> {
     ghost use Rattle.std.specs.Io.KnownBytes.{ReadConsumes};
     ghost use Rattle.yw_outside.specs.Causes.{HasCause};
     ghost use Rattle.yw_adapt.specs.Counted.{Counted};
-    ghost use Rattle.yw_adapt.specs.StdSource.{piece_of, faults_of};
+    ghost use Rattle.yw_adapt.specs.StdSource.{inner_of, piece_of, faults_of};
 
     ghost left = { λ _. None };
 
@@ -61,10 +64,11 @@ impl<R: Read> Source for StdSource<R> {
 
     ghost faults = { faults_of };
 
-    /// Fails where the reader does. Each failure is counted, and nothing else is.
+    /// Gives the next bytes of the reader, and fails where that does. Each failure is counted, and nothing else is.
     fn read(&mut self, buf: &mut [u8]) -> Result<usize, Failed>
         ensures bound { ReadsAtMost result buf.new }
         ensures bytes { ReadConsumes None None result buf.new }
+        ensures given { ReadConsumes (R.remaining (inner_of self.old)) (R.remaining (inner_of self.new)) result buf.new }
         ensures piece { IfOk result (λ n. piece_of self.new ≡ n) }
         ensures piece_err { OnErr result (piece_of self.new ≡ piece_of self.old) }
         ensures counts { Counted (faults_of self.old) (faults_of self.new) result }

@@ -4,8 +4,9 @@
 //! exit status is the number of the server's status. It writes nothing to standard error.
 #![tactic(auto)]
 
-ghost use Rattle.std.specs.Prelude.{◌≡◌, codes, drop, slice_get, string_bytes};
+ghost use Rattle.std.specs.Prelude.{◌≡◌, IfOk, codes, drop, slice_get, string_bytes};
 ghost use Rattle.std.specs.Option.{option_map_or};
+ghost use Rattle.std.specs.Vec.Iter.{into_iter_items};
 
 use std::alloc::AllocError;
 use std::process::ExitCode;
@@ -14,12 +15,10 @@ use yw_adapt::{FolderDesk, StdSource};
 use yw_serve::{Status, serve};
 
 /// The words behind the program's name. An `Err` says that no memory was left.
-fn words_of(rt: &HostRuntime, args: env::Args) -> Result<Vec<String>, AllocError> {
-    let mut words = Vec::new(rt.alloc());
-    for word in args.skip(1) {
-        words.push(word)?;
-    }
-    Ok(words)
+fn words_of(rt: &HostRuntime, args: env::Args) -> Result<Vec<String>, AllocError>
+    ensures { IfOk result (λ words. words.items ≡ drop 1 (into_iter_items args)) }
+{
+    args.skip(1).collect(rt.alloc())
 }
 
 /// The first word, `.` where there is none.
