@@ -11,6 +11,8 @@ mod folder_desk;
 mod script;
 mod slot;
 mod std_source;
+#[cfg(test)]
+mod tally;
 
 pub use folder_desk::FolderDesk;
 pub use std_source::StdSource;

@@ -1,6 +1,9 @@
 // What a file moves where the system stops early.
-use super::{read_whole, write_whole};
+use super::{Slot, read_whole, write_whole};
 use crate::script::{Answer, Script, TEXT};
+use crate::tally::{Disk, Tally};
+use std::cell::Cell;
+use std::path::Path;
 use std::test::Fail;
 use yw_outside::Failed;
 
@@ -45,5 +48,21 @@ fn fails_within_a_piece(rt: HostRuntime) -> Result<(), Fail> {
         assert_eq!(rt; write_whole(&file, 2, &TEXT[2..]), Err(Failed));
         assert_eq!(rt; file.calls.get(), 2);
     }
+    Ok(())
+}
+
+#[test]
+fn each_sync_is_of_the_file_and_the_first_of_the_folder(rt: HostRuntime) -> Result<(), Fail> {
+    let of_file = Cell::new(0);
+    let of_folder = Cell::new(0);
+    let disk = Disk { opened: &of_folder };
+    let mut slot = Slot::new(Path::new("yawl.a").to_path_buf(rt.alloc())?);
+    slot.file = Some(Tally { syncs: &of_file });
+    assert_eq!(rt; slot.sync(&disk, Path::new(".")), Ok(()));
+    assert_eq!(rt; of_file.get(), 1);
+    assert_eq!(rt; of_folder.get(), 1);
+    assert_eq!(rt; slot.sync(&disk, Path::new(".")), Ok(()));
+    assert_eq!(rt; of_file.get(), 2);
+    assert_eq!(rt; of_folder.get(), 1);
     Ok(())
 }
