@@ -1,6 +1,7 @@
--- What a desk over a folder opens, and what it counts.
+-- What a desk over a folder consists of, and the paths of its files.
 use Rattle.std.specs.Prelude.{◌==◌, ℕ, List, length, codes, if◌then◌else◌, IsSome}
 use Rattle.std.specs.Path.{path_buf_bytes, path_join}
+use Rattle.std.specs.declared.option.Option.{Option}
 use Rattle.yw_adapt.specs.declared.folder_desk.FolderDesk.{FolderDesk}
 use Rattle.yw_adapt.specs.declared.slot.Slot.{Slot}
 use Rattle.yw_outside.specs.declared.desk.File.{File}
@@ -15,29 +16,36 @@ abbrev pub path_in : List ℕ → File → List ℕ
 path_in folder A = path_join folder (codes "yawl.a")
 path_in folder B = path_join folder (codes "yawl.b")
 
--- the path of the desk's own
-abbrev pub path_of : {R W F D : Type 0} → FolderDesk R W F D → File → List ℕ
-path_of d A = path_buf_bytes d.a.path
-path_of d B = path_buf_bytes d.b.path
+-- a file of the desk
+abbrev pub slot_of : {S O F : Type 0} {g : _} → FolderDesk S O F g → File → Slot S F g
+slot_of d A = d.a
+slot_of d B = d.b
 
 -- the file that a call on this one leaves alone
-abbrev pub other_of : {R W F D : Type 0} → FolderDesk R W F D → File → Slot F
+abbrev pub other_of : {S O F : Type 0} {g : _} → FolderDesk S O F g → File → Slot S F g
 other_of d A = d.b
 other_of d B = d.a
 
+-- the path of the desk's own
+abbrev pub path_of : {S O F : Type 0} {g : _} → FolderDesk S O F g → File → List ℕ
+path_of d f = path_buf_bytes (slot_of d f).path
+
+-- the folder of the desk's own, as the file has it
+abbrev pub folder_of : {S O F : Type 0} {g : _} → FolderDesk S O F g → File → List ℕ
+folder_of d f = path_buf_bytes (slot_of d f).folder
+
+-- the file that is open
+abbrev pub file_of : {S O F : Type 0} {g : _} → FolderDesk S O F g → File → Option F
+file_of d f = (slot_of d f).file
+
 -- the file is open
-abbrev pub IsOpen : {R W F D : Type 0} → FolderDesk R W F D → File → Type 0
-IsOpen d A = IsSome d.a.file
-IsOpen d B = IsSome d.b.file
+abbrev pub IsOpen : {S O F : Type 0} {g : _} → FolderDesk S O F g → File → Type 0
+IsOpen d f = IsSome (file_of d f)
 
--- the writer of the output
-abbrev pub out_of : {R W F D : Type 0} → FolderDesk R W F D → W
+-- the system under it
+abbrev pub system_of : {S O F : Type 0} {g : _} → FolderDesk S O F g → S
+system_of d = d.system
+
+-- its output
+abbrev pub out_of : {S O F : Type 0} {g : _} → FolderDesk S O F g → O
 out_of d = d.out
-
--- how often a call of a file has failed
-abbrev pub disk_faults_of : {R W F D : Type 0} → FolderDesk R W F D → ℕ
-disk_faults_of d = d.disk_faults
-
--- how often a `say` has failed
-abbrev pub say_faults_of : {R W F D : Type 0} → FolderDesk R W F D → ℕ
-say_faults_of d = d.say_faults

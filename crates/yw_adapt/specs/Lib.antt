@@ -1,4 +1,5 @@
-pub mod Counted
+pub mod Calls
+pub mod Files
 pub mod FolderDesk
 pub mod Handed
 pub mod StdSource

@@ -1,9 +1,12 @@
-// An outside that answers as a test tells it.
+// A system, a reader and a writer that answer as a test tells them.
 ghost use Rattle.std.specs.Prelude.{◌≤◌, IfOk};
 
+use std::alloc::Allocator;
 use std::cell::Cell;
-use std::io::{Error, ErrorKind, Read, Result, Write};
+use std::fs::{Metadata, OpenFile, OpenOptions};
+use std::io::{Error, ErrorKind, Read, Result, Seek, SeekFrom, Write};
 use std::os::unix::fs::FileExt;
+use std::rt::Files;
 
 /// What it holds, and what it wants written.
 pub const TEXT: &[u8] = b"a text that moves in pieces";
@@ -17,20 +20,23 @@ pub enum Answer {
     Fails,
 }
 
-/// It gives the text, and takes the text. It fails once it has no answer left.
+/// The answers to calls in turn, and then failures. Syncs succeed.
 #[derive(Drop)]
-pub struct Script<'a> {
+pub struct Tape<'a> {
     answers: &'a [Answer],
     pub calls: Cell<usize>,
-    pub moved: u64,
+    pub syncs: Cell<u64>,
+    /// how long the file is said to be
+    pub length: u64,
 }
 
-impl<'a> Script<'a> {
-    pub(crate) fn new(answers: &'a [Answer]) -> Script<'a> {
-        Script {
+impl<'a> Tape<'a> {
+    pub fn new(answers: &'a [Answer]) -> Tape<'a> {
+        Tape {
             answers,
             calls: Cell::new(0),
-            moved: 0,
+            syncs: Cell::new(0),
+            length: 0,
         }
     }
 
@@ -47,15 +53,32 @@ impl<'a> Script<'a> {
     }
 }
 
+/// A file, a reader or a writer that gives the text, and takes the text.
+#[derive(Drop)]
+pub struct Script<'a> {
+    pub tape: &'a Tape<'a>,
+    pub moved: u64,
+}
+
+impl<'a> Script<'a> {
+    pub fn new(tape: &'a Tape<'a>) -> Script<'a> {
+        Script { tape, moved: 0 }
+    }
+}
+
 /// The text from this offset on.
 fn text_from(at: u64) -> &'static [u8] {
     &TEXT[TEXT.len().min(at as usize)..]
 }
 
+fn unsupported() -> Error {
+    Error::from(ErrorKind::Unsupported)
+}
+
 impl FileExt for Script<'_> {
     fn read_at(&self, buf: &mut [u8], offset: u64) -> Result<usize> {
         let text = text_from(offset);
-        let count = self.answer(buf.len().min(text.len()))?;
+        let count = self.tape.answer(buf.len().min(text.len()))?;
         buf[..count].copy_from_slice(&text[..count]);
         Ok(count)
     }
@@ -64,7 +87,7 @@ impl FileExt for Script<'_> {
         if !text_from(offset).starts_with(buf) {
             return Err(Error::from(ErrorKind::InvalidData));
         }
-        self.answer(buf.len())
+        self.tape.answer(buf.len())
     }
 }
 
@@ -86,7 +109,84 @@ impl Write for Script<'_> {
     }
 
     fn flush(&mut self) -> Result<()> {
-        self.answer(0)?;
+        self.tape.answer(0)?;
         Ok(())
+    }
+}
+
+impl Seek for Script<'_> {
+    fn seek(&mut self, _to: SeekFrom) -> Result<u64> {
+        Err(unsupported())
+    }
+}
+
+impl OpenFile for Script<'_> {
+    fn metadata(&self) -> Result<Metadata> {
+        Ok(Metadata::of_file(self.tape.length))
+    }
+
+    fn set_len(&self, _size: u64) -> Result<()> {
+        Err(unsupported())
+    }
+
+    fn sync_all(&self) -> Result<()> {
+        self.tape.syncs.set(self.tape.syncs.get().saturating_add(1));
+        Ok(())
+    }
+
+    fn sync_data(&self) -> Result<()> {
+        Err(unsupported())
+    }
+}
+
+/// A system of which each file and folder has this tape.
+#[derive(Drop)]
+pub struct Disk<'a> {
+    pub tape: &'a Tape<'a>,
+}
+
+impl<'a> Files for Disk<'a> {
+    type File = Script<'a>;
+
+    type Dir = Script<'a>;
+
+    fn open_file(&self, _how: &OpenOptions, _path: &str) -> Result<Script<'a>> {
+        Ok(Script::new(self.tape))
+    }
+
+    fn open_dir(&self, _path: &str) -> Result<Script<'a>> {
+        Err(unsupported())
+    }
+
+    fn metadata(&self, _path: &str) -> Result<Metadata> {
+        Err(unsupported())
+    }
+
+    fn symlink_metadata(&self, _path: &str) -> Result<Metadata> {
+        Err(unsupported())
+    }
+
+    fn copy(&self, _from: &str, _to: &str) -> Result<u64> {
+        Err(unsupported())
+    }
+
+    fn rename(&self, _from: &str, _to: &str) -> Result<()> {
+        Err(unsupported())
+    }
+
+    fn remove_file(&self, _path: &str) -> Result<()> {
+        Err(unsupported())
+    }
+
+    fn create_dir(&self, _path: &str) -> Result<()> {
+        Err(unsupported())
+    }
+
+    fn remove_dir(&self, _path: &str) -> Result<()> {
+        Err(unsupported())
+    }
+
+    fn remove_dir_all<B: Allocator>(&self, _alloc: B, _path: &str) -> Result<()> {
+        Err(unsupported())
     }
 }

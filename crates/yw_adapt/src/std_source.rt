@@ -1,12 +1,10 @@
 // Standard input as a source.
 ghost use Rattle.std.specs.Prelude.{◌≡◌};
-ghost use Rattle.std.specs.Io.{ReadsAtMost};
-ghost use Rattle.std.specs.Io.KnownBytes.{ReadConsumes};
 
 #[cfg(test)]
 mod tests;
 
-use crate::faults::{counted, is_interrupted};
+use crate::calls::Calls;
 use std::io::Read;
 use yw_outside::{Failed, Source};
 
@@ -15,7 +13,7 @@ use yw_outside::{Failed, Source};
 pub struct StdSource<R> {
     inner: R,
     piece: usize,
-    faults: u64,
+    calls: Calls,
 }
 
 impl<R> StdSource<R> {
@@ -30,24 +28,9 @@ impl<R> StdSource<R> {
         StdSource {
             inner,
             piece: 0,
-            faults: 0,
+            calls: Calls::none(),
         }
     }
-}
-
-/// One read that isn't interrupted.
-fn read_some<R: Read>(inner: &mut R, buf: &mut [u8]) -> Result<usize, Failed>
-    ensures bound { ReadsAtMost result buf.new }
-    ensures bytes { ReadConsumes (R.remaining inner.old) (R.remaining inner.new) result buf.new }
-{
-    for _ in 0..u64::MAX {
-        match inner.read(buf) {
-            Ok(count) => return Ok(count),
-            Err(e) if is_interrupted(&e) => {}
-            Err(_) => return Err(Failed),
-        }
-    }
-    Err(Failed)
 }
 
 impl<R: Read> Source for StdSource<R> {
@@ -55,8 +38,8 @@ impl<R: Read> Source for StdSource<R> {
     ghost use Rattle.std.specs.Io.{ReadsAtMost};
     ghost use Rattle.std.specs.Io.KnownBytes.{ReadConsumes};
     ghost use Rattle.yw_outside.specs.Causes.{HasCause};
-    ghost use Rattle.yw_adapt.specs.Counted.{Counted};
-    ghost use Rattle.yw_adapt.specs.StdSource.{inner_of, piece_of, faults_of};
+    ghost use Rattle.yw_adapt.specs.Calls.{Counts};
+    ghost use Rattle.yw_adapt.specs.StdSource.{inner_of, piece_of, calls_of, faults_of};
 
     ghost left = { λ _. None };
 
@@ -64,18 +47,22 @@ impl<R: Read> Source for StdSource<R> {
 
     ghost faults = { faults_of };
 
-    /// Gives the next bytes of the reader, and fails where that does. Each failure is counted, and nothing else is.
+    /// Gives the next bytes of the reader, and fails where that does. Each call of the reader is counted, and each failure.
     fn read(&mut self, buf: &mut [u8]) -> Result<usize, Failed>
         ensures bound { ReadsAtMost result buf.new }
         ensures bytes { ReadConsumes None None result buf.new }
         ensures given { ReadConsumes (R.remaining (inner_of self.old)) (R.remaining (inner_of self.new)) result buf.new }
         ensures piece { IfOk result (λ n. piece_of self.new ≡ n) }
         ensures piece_err { OnErr result (piece_of self.new ≡ piece_of self.old) }
-        ensures counts { Counted (faults_of self.old) (faults_of self.new) result }
+        ensures counts { Counts (calls_of self.old) (calls_of self.new) result }
         ensures cause { HasCause (faults_of self.old) (faults_of self.new) result }
     {
-        let count = counted(read_some(&mut self.inner, buf), &mut self.faults)?;
-        self.piece = count;
-        Ok(count)
+        while !self.calls.are_full() {
+            if let Some(count) = self.calls.tried(self.inner.read(buf))? {
+                self.piece = count;
+                return Ok(count);
+            }
+        }
+        Err(self.calls.give_up())
     }
 }

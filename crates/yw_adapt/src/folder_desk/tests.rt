@@ -1,6 +1,8 @@
-// Real folders, and a writer that stops early.
+// Real folders, files in memory, and a writer that stops early.
 use super::FolderDesk;
-use crate::script::{Answer, Script, TEXT};
+use crate::mem_system::MemSystem;
+use crate::output::Writer;
+use crate::script::{Answer, Script, TEXT, Tape};
 use std::fs;
 use std::test::Fail;
 use yw_outside::{Desk, Failed, File};
@@ -21,7 +23,8 @@ fn a_second_desk_reads_what_the_first_wrote(rt: HostRuntime) -> Result<(), Fail>
     assert_eq!(rt; desk.sync(File::B), Ok(()));
     assert_eq!(rt; desk.say(b"one\n"), Ok(()));
     assert_eq!(rt; desk.say(b"two\n"), Ok(()));
-    assert_eq!(rt; desk.out.as_slice(), b"one\ntwo\n".as_slice());
+    let (_, out) = desk.into_parts();
+    assert_eq!(rt; out.get_ref().as_slice(), b"one\ntwo\n".as_slice());
     assert_eq!(rt;
         fs::read_to_string(&rt, "held/yawl.a")?.as_str(),
         "first and last"
@@ -36,7 +39,8 @@ fn a_second_desk_reads_what_the_first_wrote(rt: HostRuntime) -> Result<(), Fail>
     assert_eq!(rt; second.write(File::A, 0, b"F"), Ok(()));
     assert_eq!(rt; second.len(File::A), Ok(14));
     assert_eq!(rt; second.len(File::B), Ok(5));
-    assert_eq!(rt; second.disk_faults, 0);
+    let (os, _) = second.into_parts();
+    assert_eq!(rt; os.calls().failed(), 0);
     fs::remove_dir_all(&rt, "held")?;
     Ok(())
 }
@@ -49,12 +53,12 @@ fn a_read_past_the_end_fails(rt: HostRuntime) -> Result<(), Fail> {
     assert_eq!(rt; desk.write(File::B, 0, b"abc"), Ok(()));
     assert_eq!(rt; desk.read(File::B, 0, &mut [0; 4]), Err(Failed));
     assert_eq!(rt; desk.read(File::B, u64::MAX, &mut [0; 4]), Err(Failed));
-    assert_eq!(rt; desk.disk_faults, 2);
     let mut buf = [0; 3];
     assert_eq!(rt; desk.read(File::B, 3, &mut []), Ok(()));
     assert_eq!(rt; desk.read(File::B, 0, &mut buf), Ok(()));
     assert_eq!(rt; buf.as_slice(), b"abc".as_slice());
-    assert_eq!(rt; desk.disk_faults, 2);
+    let (os, _) = desk.into_parts();
+    assert_eq!(rt; os.calls().failed(), 2);
     fs::remove_dir_all(&rt, "short")?;
     Ok(())
 }
@@ -67,10 +71,11 @@ fn a_missing_folder_fails_each_call_of_a_file(rt: HostRuntime) -> Result<(), Fai
     assert_eq!(rt; desk.read(File::A, 0, &mut []), Err(Failed));
     assert_eq!(rt; desk.write(File::B, 0, b"x"), Err(Failed));
     assert_eq!(rt; desk.sync(File::B), Err(Failed));
-    assert_eq!(rt; desk.disk_faults, 4);
     assert_eq!(rt; desk.say(b"said"), Ok(()));
-    assert_eq!(rt; desk.out.as_slice(), b"said".as_slice());
-    assert_eq!(rt; desk.say_faults, 0);
+    let (os, out) = desk.into_parts();
+    assert_eq!(rt; os.calls().failed(), 4);
+    assert_eq!(rt; out.calls().failed(), 0);
+    assert_eq!(rt; out.get_ref().as_slice(), b"said".as_slice());
     Ok(())
 }
 
@@ -81,9 +86,10 @@ fn a_file_that_cannot_be_opened_leaves_the_other(rt: HostRuntime) -> Result<(), 
     let mut desk = FolderDesk::new(alloc, &rt, "blocked", Vec::new(alloc))?;
     assert_eq!(rt; desk.len(File::A), Err(Failed));
     assert_eq!(rt; desk.len(File::B), Ok(0));
-    assert_eq!(rt; desk.disk_faults, 1);
     fs::remove_dir(&rt, "blocked/yawl.a")?;
     assert_eq!(rt; desk.len(File::A), Ok(0));
+    let (os, _) = desk.into_parts();
+    assert_eq!(rt; os.calls().failed(), 1);
     fs::remove_dir_all(&rt, "blocked")?;
     Ok(())
 }
@@ -108,14 +114,37 @@ fn says_all_or_counts_a_failure(rt: HostRuntime) -> Result<(), Fail> {
         Answer::Moves(0),
         Answer::Moves(0),
     ];
-    let mut desk = FolderDesk::new(rt.alloc(), &rt, "missing", Script::new(&answers))?;
+    let tape = Tape::new(&answers);
+    let mut desk = FolderDesk::new(rt.alloc(), &rt, "missing", Script::new(&tape))?;
     assert_eq!(rt; desk.say(&TEXT[..20]), Ok(()));
-    assert_eq!(rt; desk.out.moved, 20);
-    assert_eq!(rt; desk.out.calls.get(), 4);
-    assert_eq!(rt; desk.say_faults, 0);
+    assert_eq!(rt; tape.calls.get(), 4);
     assert_eq!(rt; desk.say(&TEXT[20..]), Err(Failed));
-    assert_eq!(rt; desk.out.moved, 20);
-    assert_eq!(rt; desk.say_faults, 1);
-    assert_eq!(rt; desk.disk_faults, 0);
+    let (os, out) = desk.into_parts();
+    assert_eq!(rt; out.get_ref().moved, 20);
+    assert_eq!(rt; out.calls().made(), 5);
+    assert_eq!(rt; out.calls().failed(), 1);
+    assert_eq!(rt; os.calls().made(), 0);
+    Ok(())
+}
+
+#[test]
+fn a_desk_in_memory_reads_what_it_wrote(rt: HostRuntime) -> Result<(), Fail> {
+    let alloc = rt.alloc();
+    let out = Writer::new(Vec::new(alloc));
+    let mut desk = FolderDesk::over(alloc, MemSystem::new(alloc), "any", out)?;
+    assert_eq!(rt; desk.write(File::A, 0, b"first and"), Ok(()));
+    assert_eq!(rt; desk.write(File::A, 6, b"to the last"), Ok(()));
+    assert_eq!(rt; desk.write(File::A, 99, b"behind"), Err(Failed));
+    assert_eq!(rt; desk.sync(File::A), Ok(()));
+    assert_eq!(rt; desk.len(File::A), Ok(17));
+    assert_eq!(rt; desk.len(File::B), Ok(0));
+    let mut buf = [0; 17];
+    assert_eq!(rt; desk.read(File::A, 0, &mut buf), Ok(()));
+    assert_eq!(rt; buf.as_slice(), b"first to the last".as_slice());
+    assert_eq!(rt; desk.read(File::A, 1, &mut buf), Err(Failed));
+    assert_eq!(rt; desk.say(b"said\n"), Ok(()));
+    let (system, out) = desk.into_parts();
+    assert_eq!(rt; system.calls().failed(), 2);
+    assert_eq!(rt; out.get_ref().as_slice(), b"said\n".as_slice());
     Ok(())
 }

@@ -1,8 +1,7 @@
 // What a file moves where the system stops early.
 use super::{Slot, read_whole, write_whole};
-use crate::script::{Answer, Script, TEXT};
-use crate::tally::{Disk, Tally};
-use std::cell::Cell;
+use crate::os::Os;
+use crate::script::{Answer, Disk, Script, TEXT, Tape};
 use std::path::Path;
 use std::test::Fail;
 use yw_outside::Failed;
@@ -16,53 +15,100 @@ const STOPS: [Answer; 4] = [
 
 #[test]
 fn moves_the_whole_piece(rt: HostRuntime) -> Result<(), Fail> {
-    let file = Script::new(&STOPS);
+    let tape = Tape::new(&STOPS);
+    let mut os = Os::new(Disk { tape: &tape });
     let mut buf = [0; 25];
-    assert_eq!(rt; read_whole(&file, 2, &mut buf), Ok(()));
+    assert_eq!(rt;
+        read_whole(&mut os, &Script::new(&tape), 2, &mut buf),
+        Ok(())
+    );
     assert_eq!(rt; buf.as_slice(), &TEXT[2..]);
-    assert_eq!(rt; file.calls.get(), 4);
-    let file = Script::new(&STOPS);
-    assert_eq!(rt; write_whole(&file, 2, &TEXT[2..]), Ok(()));
-    assert_eq!(rt; file.calls.get(), 4);
+    assert_eq!(rt; tape.calls.get(), 4);
+    let tape = Tape::new(&STOPS);
+    let mut os = Os::new(Disk { tape: &tape });
+    assert_eq!(rt;
+        write_whole(&mut os, &mut Script::new(&tape), 2, &TEXT[2..]),
+        Ok(())
+    );
+    assert_eq!(rt; tape.calls.get(), 4);
+    assert_eq!(rt; os.calls().made(), 4);
+    assert_eq!(rt; os.calls().failed(), 0);
     Ok(())
 }
 
 #[test]
 fn an_empty_piece_makes_no_call(rt: HostRuntime) -> Result<(), Fail> {
-    let file = Script::new(&[]);
-    assert_eq!(rt; read_whole(&file, 2, &mut []), Ok(()));
-    assert_eq!(rt; write_whole(&file, 2, &[]), Ok(()));
-    assert_eq!(rt; file.calls.get(), 0);
+    let tape = Tape::new(&[]);
+    let mut os = Os::new(Disk { tape: &tape });
+    assert_eq!(rt;
+        read_whole(&mut os, &Script::new(&tape), 2, &mut []),
+        Ok(())
+    );
+    assert_eq!(rt;
+        write_whole(&mut os, &mut Script::new(&tape), 2, &[]),
+        Ok(())
+    );
+    assert_eq!(rt; tape.calls.get(), 0);
+    assert_eq!(rt; os.calls().made(), 0);
     Ok(())
+}
+
+/// What a read and a write of a piece come to, and how many calls each made.
+fn tried(answers: &[Answer]) -> [(Result<(), Failed>, u64); 2] {
+    let tape = Tape::new(answers);
+    let mut os = Os::new(Disk { tape: &tape });
+    let read = read_whole(&mut os, &Script::new(&tape), 2, &mut [0; 25]);
+    let reads = os.calls().made();
+    let tape = Tape::new(answers);
+    let mut os = Os::new(Disk { tape: &tape });
+    let written = write_whole(&mut os, &mut Script::new(&tape), 2, &TEXT[2..]);
+    [(read, reads), (written, os.calls().made())]
 }
 
 #[test]
 fn fails_within_a_piece(rt: HostRuntime) -> Result<(), Fail> {
-    let mut buf = [0; 25];
     for last in [Answer::Moves(0), Answer::Fails] {
         let answers = [Answer::Moves(3), last, Answer::Moves(99)];
-        let file = Script::new(&answers);
-        assert_eq!(rt; read_whole(&file, 2, &mut buf), Err(Failed));
-        assert_eq!(rt; file.calls.get(), 2);
-        let file = Script::new(&answers);
-        assert_eq!(rt; write_whole(&file, 2, &TEXT[2..]), Err(Failed));
-        assert_eq!(rt; file.calls.get(), 2);
+        assert_eq!(rt; tried(&answers), [(Err(Failed), 2), (Err(Failed), 2)]);
     }
     Ok(())
 }
 
 #[test]
 fn each_sync_is_of_the_file_and_the_first_of_the_folder(rt: HostRuntime) -> Result<(), Fail> {
-    let of_file = Cell::new(0);
-    let of_folder = Cell::new(0);
-    let disk = Disk { opened: &of_folder };
-    let mut slot = Slot::new(Path::new("yawl.a").to_path_buf(rt.alloc())?);
-    slot.file = Some(Tally { syncs: &of_file });
-    assert_eq!(rt; slot.sync(&disk, Path::new(".")), Ok(()));
-    assert_eq!(rt; of_file.get(), 1);
-    assert_eq!(rt; of_folder.get(), 1);
-    assert_eq!(rt; slot.sync(&disk, Path::new(".")), Ok(()));
-    assert_eq!(rt; of_file.get(), 2);
-    assert_eq!(rt; of_folder.get(), 1);
+    let of_file = Tape::new(&[]);
+    let of_folder = Tape::new(&[]);
+    let mut os = Os::new(Disk { tape: &of_folder });
+    let folder = Path::new(".");
+    let path = folder.join(rt.alloc(), "yawl.a")?;
+    let mut slot = Slot::new(path, folder.to_path_buf(rt.alloc())?);
+    slot.file = Some(Script::new(&of_file));
+    assert_eq!(rt; slot.sync(&mut os), Ok(()));
+    assert_eq!(rt; of_file.syncs.get(), 1);
+    assert_eq!(rt; of_folder.syncs.get(), 1);
+    assert_eq!(rt; slot.sync(&mut os), Ok(()));
+    assert_eq!(rt; of_file.syncs.get(), 2);
+    assert_eq!(rt; of_folder.syncs.get(), 1);
+    Ok(())
+}
+
+#[test]
+fn a_file_is_measured_up_to_the_longest(rt: HostRuntime) -> Result<(), Fail> {
+    let mut tape = Tape::new(&[]);
+    tape.length = i64::MAX as u64;
+    let mut os = Os::new(Disk { tape: &tape });
+    let folder = Path::new(".");
+    let path = folder.join(rt.alloc(), "yawl.a")?;
+    let mut slot = Slot::new(path, folder.to_path_buf(rt.alloc())?);
+    assert_eq!(rt; slot.len(&mut os), Ok(9_223_372_036_854_775_807));
+    let mut tape = Tape::new(&[]);
+    tape.length = 9_223_372_036_854_775_808;
+    let mut os = Os::new(Disk { tape: &tape });
+    let path = folder.join(rt.alloc(), "yawl.a")?;
+    let mut slot = Slot::new(path, folder.to_path_buf(rt.alloc())?);
+    assert_eq!(rt; slot.len(&mut os), Err(Failed));
+    assert_eq!(rt; slot.sync(&mut os), Err(Failed));
+    assert_eq!(rt; tape.syncs.get(), 0);
+    assert_eq!(rt; os.calls().failed(), 2);
     Ok(())
 }

@@ -1,0 +1,119 @@
+// The system that the program runs on.
+ghost use Rattle.std.specs.IoError.{error_kind};
+ghost use Rattle.std.specs.Prelude.{◌≡◌, ◌<◌, ◌≤◌, ◌^◌, IfErr, IsErr};
+
+use crate::calls::Calls;
+use crate::system::System;
+use std::fs::{OpenFile, OpenOptions};
+use std::io;
+use std::io::ErrorKind;
+use std::os::unix::fs::FileExt;
+use std::path::Path;
+use std::rt::Files;
+use yw_outside::Failed;
+
+/// The longest file that a desk may have.
+const LONGEST: u64 = (1 << 63) - 1;
+
+/// The files of the system that the program runs on, or of another. It doesn't tell what they hold.
+///
+/// Of the calls of the system no contract says what they do, so this file is where the files' bytes are trusted.
+#[derive(Drop)]
+pub struct Os<R> {
+    rt: R,
+    calls: Calls,
+}
+
+impl<R> Os<R> {
+    /// No call was made yet.
+    pub fn new(rt: R) -> Os<R>
+        ensures { result ≡ record { rt = rt; calls = record { made = 0; failed = 0 } } }
+    {
+        Os {
+            rt,
+            calls: Calls::none(),
+        }
+    }
+
+    /// The calls that were made.
+    pub fn calls(&self) -> Calls
+        ensures { result ≡ self.now.calls }
+    {
+        self.calls
+    }
+}
+
+/// A length that a desk may have. A greater one is the error FileTooLarge.
+fn checked(length: u64) -> io::Result<u64>
+    ensures ok { length < 2 ^ 63 → result ≡ Ok length }
+    ensures err { 2 ^ 63 ≤ length → IsErr result }
+    ensures kind { IfErr result (λ e. error_kind e ≡ ErrorKind.FileTooLarge) }
+{
+    if length > LONGEST {
+        return Err(io::Error::from(ErrorKind::FileTooLarge));
+    }
+    Ok(length)
+}
+
+impl<R: Files> System for Os<R>
+where
+    R::File: FileExt,
+{
+    ghost use Rattle.std.specs.Prelude.{None, true};
+
+    type File = R::File;
+
+    ghost path = { λ _. None };
+
+    ghost holds = { λ _. None };
+
+    ghost synced = { λ _. None };
+
+    ghost is_kept = { λ _ _. true };
+
+    ghost calls = { λ os. os.calls };
+
+    fn open(&mut self, at: Path<'_>) -> Result<R::File, Failed> {
+        let opened = OpenOptions::new()
+            .read(true)
+            .write(true)
+            .create(true)
+            .open(&self.rt, at);
+        self.calls.told(opened)
+    }
+
+    fn len(&mut self, file: &R::File) -> Result<u64, Failed> {
+        let length = file.metadata().and_then(|metadata| checked(metadata.len()));
+        self.calls.told(length)
+    }
+
+    fn read_at(&mut self, file: &R::File, at: u64, buf: &mut [u8]) -> Result<usize, Failed> {
+        while !self.calls.are_full() {
+            if let Some(count) = self.calls.moved(file.read_at(buf, at))? {
+                return Ok(count);
+            }
+        }
+        Err(self.calls.give_up())
+    }
+
+    fn write_at(&mut self, file: &mut R::File, at: u64, bytes: &[u8]) -> Result<usize, Failed> {
+        while !self.calls.are_full() {
+            if let Some(count) = self.calls.moved(file.write_at(bytes, at))? {
+                return Ok(count);
+            }
+        }
+        Err(self.calls.give_up())
+    }
+
+    fn sync(&mut self, file: &mut R::File) -> Result<(), Failed> {
+        self.calls.told(file.sync_all())
+    }
+
+    fn keep(&mut self, _file: &mut R::File, folder: Path<'_>) -> Result<(), Failed> {
+        let synced = OpenOptions::new()
+            .read(true)
+            .open(&self.rt, folder)
+            .and_then(|folder| folder.sync_all());
+        self.calls.told(synced)
+    }
+}
