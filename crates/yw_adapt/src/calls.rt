@@ -1,5 +1,5 @@
 // How the calls of the system are counted.
-ghost use Rattle.std.specs.Prelude.{◌≡◌, ◌≢◌, ◌≤◌, ◌<◌, ◌-◌, ◌^◌, ◌↔◌, None, Some, IfErr, IfOk, IsErr, IsTrue, OnErr};
+ghost use Rattle.std.specs.Prelude.{◌≡◌, ◌≢◌, ◌≤◌, ◌<◌, ◌-◌, ◌^◌, ◌↔◌, None, Some, ◌⊎◌, Ok, Err, IfErr, IfOk, IsErr, IsTrue, OnErr};
 ghost use Rattle.std.specs.IoError.{error_kind};
 ghost use Rattle.yw_adapt.specs.Calls.{Counts};
 ghost use Rattle.yw_outside.specs.Counts.{one_more};
@@ -65,8 +65,9 @@ impl Calls {
         answer
     }
 
-    /// Counts a call with this answer.
+    /// Counts a call that signals can't interrupt, with this answer.
     pub fn told<T>(&mut self, answer: io::Result<T>) -> Result<T, Failed>
+        requires { IfErr answer (λ e. error_kind e ≢ ErrorKind.Interrupted) }
         ensures ok { IfOk answer (λ value. result ≡ Ok value) }
         ensures err { OnErr answer (IsErr result) }
         ensures counts { Counts self.old self.new result }
@@ -103,6 +104,21 @@ impl Calls {
             Ok(0) => self.count(Err(Failed)),
             _ => self.tried(answer),
         }
+    }
+
+    /// Makes a call, and again while it is interrupted, and counts each.
+    pub fn retry<T, F: Fn() -> io::Result<T>>(&mut self, call: F) -> Result<T, Failed>
+        requires { F.IsAlwaysCallable call }
+        ensures ok { IfOk result (λ value. F.post call (Ok value)) }
+        ensures err { OnErr result ((2 ^ 64 - 1 ≤ self.new.made) ⊎ ((e : _) × F.post call (Err e) × (error_kind e ≢ ErrorKind.Interrupted))) }
+        ensures counts { Counts self.old self.new result }
+    {
+        while !self.are_full() {
+            if let Some(value) = self.tried(call())? {
+                return Ok(value);
+            }
+        }
+        Err(self.give_up())
     }
 
     /// Counts as failed that no more calls can be made.

@@ -1,6 +1,6 @@
 // A system in memory, which tells what its files hold.
 ghost use Rattle.std.specs.IoError.{error_kind};
-ghost use Rattle.std.specs.Prelude.{[], ◌≡◌, ◌≢◌, ◌≤◌, ◌<◌, ◌+◌, ◌^◌, Some, IfErr, IfOk, OnErr, OnOk, length, take, drop};
+ghost use Rattle.std.specs.Prelude.{[], ◌≡◌, ◌⊎◌, ◌≤◌, ◌<◌, ◌+◌, ◌^◌, Some, IfErr, IfOk, OnErr, OnOk, length, take, drop};
 ghost use Rattle.std.specs.Path.{path_buf_bytes, path_bytes};
 ghost use Rattle.yw_adapt.specs.Files.{TornAt};
 ghost use Rattle.yw_outside.specs.Image.{overwritten};
@@ -101,7 +101,7 @@ impl MemFile {
         ensures rest { TornAt at (length bytes.now) (Some self.old.bytes.items) (Some self.new.bytes.items) }
         ensures path { self.new.path ≡ self.old.path }
         ensures kept { self.new.is_kept ≡ self.old.is_kept }
-        ensures err { IfErr result (λ e. error_kind e ≢ ErrorKind.OutOfMemory → length self.old.bytes.items < at) }
+        ensures err { IfErr result (λ e. (error_kind e ≡ ErrorKind.OutOfMemory) ⊎ ((error_kind e ≡ ErrorKind.Unsupported) × (length self.old.bytes.items < at))) }
     {
         let at = at as usize;
         if at > self.bytes.len() {

@@ -74,17 +74,13 @@ where
     ghost calls = { λ os. os.calls };
 
     fn open(&mut self, at: Path<'_>) -> Result<R::File, Failed> {
-        let opened = OpenOptions::new()
-            .read(true)
-            .write(true)
-            .create(true)
-            .open(&self.rt, at);
-        self.calls.told(opened)
+        let mut how = OpenOptions::new();
+        how.read(true).write(true).create(true);
+        self.calls.retry(|| how.open(&self.rt, at))
     }
 
     fn len(&mut self, file: &R::File) -> Result<u64, Failed> {
-        let length = file.metadata().and_then(|metadata| checked(metadata.len()));
-        self.calls.told(length)
+        self.calls.retry(|| file.metadata().and_then(|metadata| checked(metadata.len())))
     }
 
     fn read_at(&mut self, file: &R::File, at: u64, buf: &mut [u8]) -> Result<usize, Failed> {
@@ -106,14 +102,15 @@ where
     }
 
     fn sync(&mut self, file: &mut R::File) -> Result<(), Failed> {
-        self.calls.told(file.sync_all())
+        self.calls.retry(|| file.sync_all())
     }
 
     fn keep(&mut self, _file: &mut R::File, folder: Path<'_>) -> Result<(), Failed> {
-        let synced = OpenOptions::new()
-            .read(true)
-            .open(&self.rt, folder)
-            .and_then(|folder| folder.sync_all());
-        self.calls.told(synced)
+        let mut how = OpenOptions::new();
+        how.read(true);
+        self.calls.retry(|| {
+            how.open(&self.rt, folder)
+                .and_then(|folder| folder.sync_all())
+        })
     }
 }

@@ -93,7 +93,12 @@ impl<W: Write> Output for Writer<W> {
     }
 
     fn flush(&mut self) -> Result<(), Failed> {
-        self.calls.told(self.inner.flush())
+        while !self.calls.are_full() {
+            if self.calls.tried(self.inner.flush())?.is_some() {
+                return Ok(());
+            }
+        }
+        Err(self.calls.give_up())
     }
 }
 

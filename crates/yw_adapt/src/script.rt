@@ -20,12 +20,14 @@ pub enum Answer {
     Fails,
 }
 
-/// The answers to calls in turn, and then failures. Syncs succeed.
+/// The answers in turn to calls that move bytes, and then failures. Other calls succeed.
 #[derive(Drop)]
 pub struct Tape<'a> {
     answers: &'a [Answer],
     pub calls: Cell<usize>,
     pub syncs: Cell<u64>,
+    /// how often an opening, a length or a sync is interrupted first
+    pub signals: Cell<u64>,
     /// how long the file is said to be
     pub length: u64,
 }
@@ -36,6 +38,7 @@ impl<'a> Tape<'a> {
             answers,
             calls: Cell::new(0),
             syncs: Cell::new(0),
+            signals: Cell::new(0),
             length: 0,
         }
     }
@@ -50,6 +53,15 @@ impl<'a> Tape<'a> {
             Some(Answer::Interrupted) => Err(Error::from(ErrorKind::Interrupted)),
             Some(Answer::Fails) | None => Err(Error::from(ErrorKind::StorageFull)),
         }
+    }
+
+    fn signal(&self) -> Result<()> {
+        let left = self.signals.get();
+        if left > 0 {
+            self.signals.set(left - 1);
+            return Err(Error::from(ErrorKind::Interrupted));
+        }
+        Ok(())
     }
 }
 
@@ -122,6 +134,7 @@ impl Seek for Script<'_> {
 
 impl OpenFile for Script<'_> {
     fn metadata(&self) -> Result<Metadata> {
+        self.tape.signal()?;
         Ok(Metadata::of_file(self.tape.length))
     }
 
@@ -130,6 +143,7 @@ impl OpenFile for Script<'_> {
     }
 
     fn sync_all(&self) -> Result<()> {
+        self.tape.signal()?;
         self.tape.syncs.set(self.tape.syncs.get().saturating_add(1));
         Ok(())
     }
@@ -139,10 +153,17 @@ impl OpenFile for Script<'_> {
     }
 }
 
-/// A system of which each file and folder has this tape.
+/// The file that a disk has.
+pub const FILE: &str = "held/yawl.a";
+
+/// The folder of that file.
+pub const FOLDER: &str = "held";
+
+/// A system with a tape for its one file and one for the file's folder.
 #[derive(Drop)]
 pub struct Disk<'a> {
-    pub tape: &'a Tape<'a>,
+    pub file: &'a Tape<'a>,
+    pub folder: &'a Tape<'a>,
 }
 
 impl<'a> Files for Disk<'a> {
@@ -150,8 +171,14 @@ impl<'a> Files for Disk<'a> {
 
     type Dir = Script<'a>;
 
-    fn open_file(&self, _how: &OpenOptions, _path: &str) -> Result<Script<'a>> {
-        Ok(Script::new(self.tape))
+    fn open_file(&self, _how: &OpenOptions, path: &str) -> Result<Script<'a>> {
+        let tape = match path {
+            FILE => self.file,
+            FOLDER => self.folder,
+            _ => return Err(Error::from(ErrorKind::NotFound)),
+        };
+        tape.signal()?;
+        Ok(Script::new(tape))
     }
 
     fn open_dir(&self, _path: &str) -> Result<Script<'a>> {

@@ -111,17 +111,18 @@ fn says_all_or_counts_a_failure(rt: HostRuntime) -> Result<(), Fail> {
         Answer::Moves(3),
         Answer::Interrupted,
         Answer::Moves(99),
+        Answer::Interrupted,
         Answer::Moves(0),
         Answer::Moves(0),
     ];
     let tape = Tape::new(&answers);
     let mut desk = FolderDesk::new(rt.alloc(), &rt, "missing", Script::new(&tape))?;
     assert_eq!(rt; desk.say(&TEXT[..20]), Ok(()));
-    assert_eq!(rt; tape.calls.get(), 4);
+    assert_eq!(rt; tape.calls.get(), 5);
     assert_eq!(rt; desk.say(&TEXT[20..]), Err(Failed));
     let (os, out) = desk.into_parts();
     assert_eq!(rt; out.get_ref().moved, 20);
-    assert_eq!(rt; out.calls().made(), 5);
+    assert_eq!(rt; out.calls().made(), 6);
     assert_eq!(rt; out.calls().failed(), 1);
     assert_eq!(rt; os.calls().made(), 0);
     Ok(())

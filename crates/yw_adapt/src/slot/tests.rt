@@ -1,7 +1,8 @@
 // What a file moves where the system stops early.
 use super::{Slot, read_whole, write_whole};
 use crate::os::Os;
-use crate::script::{Answer, Disk, Script, TEXT, Tape};
+use crate::script::{Answer, Disk, FILE, FOLDER, Script, TEXT, Tape};
+use std::alloc::Global;
 use std::path::Path;
 use std::test::Fail;
 use yw_outside::Failed;
@@ -16,7 +17,10 @@ const STOPS: [Answer; 4] = [
 #[test]
 fn moves_the_whole_piece(rt: HostRuntime) -> Result<(), Fail> {
     let tape = Tape::new(&STOPS);
-    let mut os = Os::new(Disk { tape: &tape });
+    let mut os = Os::new(Disk {
+        file: &tape,
+        folder: &tape,
+    });
     let mut buf = [0; 25];
     assert_eq!(rt;
         read_whole(&mut os, &Script::new(&tape), 2, &mut buf),
@@ -25,7 +29,10 @@ fn moves_the_whole_piece(rt: HostRuntime) -> Result<(), Fail> {
     assert_eq!(rt; buf.as_slice(), &TEXT[2..]);
     assert_eq!(rt; tape.calls.get(), 4);
     let tape = Tape::new(&STOPS);
-    let mut os = Os::new(Disk { tape: &tape });
+    let mut os = Os::new(Disk {
+        file: &tape,
+        folder: &tape,
+    });
     assert_eq!(rt;
         write_whole(&mut os, &mut Script::new(&tape), 2, &TEXT[2..]),
         Ok(())
@@ -39,7 +46,10 @@ fn moves_the_whole_piece(rt: HostRuntime) -> Result<(), Fail> {
 #[test]
 fn an_empty_piece_makes_no_call(rt: HostRuntime) -> Result<(), Fail> {
     let tape = Tape::new(&[]);
-    let mut os = Os::new(Disk { tape: &tape });
+    let mut os = Os::new(Disk {
+        file: &tape,
+        folder: &tape,
+    });
     assert_eq!(rt;
         read_whole(&mut os, &Script::new(&tape), 2, &mut []),
         Ok(())
@@ -56,11 +66,17 @@ fn an_empty_piece_makes_no_call(rt: HostRuntime) -> Result<(), Fail> {
 /// What a read and a write of a piece come to, and how many calls each made.
 fn tried(answers: &[Answer]) -> [(Result<(), Failed>, u64); 2] {
     let tape = Tape::new(answers);
-    let mut os = Os::new(Disk { tape: &tape });
+    let mut os = Os::new(Disk {
+        file: &tape,
+        folder: &tape,
+    });
     let read = read_whole(&mut os, &Script::new(&tape), 2, &mut [0; 25]);
     let reads = os.calls().made();
     let tape = Tape::new(answers);
-    let mut os = Os::new(Disk { tape: &tape });
+    let mut os = Os::new(Disk {
+        file: &tape,
+        folder: &tape,
+    });
     let written = write_whole(&mut os, &mut Script::new(&tape), 2, &TEXT[2..]);
     [(read, reads), (written, os.calls().made())]
 }
@@ -74,21 +90,51 @@ fn fails_within_a_piece(rt: HostRuntime) -> Result<(), Fail> {
     Ok(())
 }
 
+/// The file of a disk, not opened yet.
+fn slot_on<'a>(alloc: Global) -> Result<Slot<Os<Disk<'a>>>, Fail> {
+    let folder = Path::new(FOLDER);
+    let path = Path::new(FILE).to_path_buf(alloc)?;
+    Ok(Slot::new(path, folder.to_path_buf(alloc)?))
+}
+
 #[test]
-fn each_sync_is_of_the_file_and_the_first_of_the_folder(rt: HostRuntime) -> Result<(), Fail> {
-    let of_file = Tape::new(&[]);
-    let of_folder = Tape::new(&[]);
-    let mut os = Os::new(Disk { tape: &of_folder });
-    let folder = Path::new(".");
-    let path = folder.join(rt.alloc(), "yawl.a")?;
-    let mut slot = Slot::new(path, folder.to_path_buf(rt.alloc())?);
-    slot.file = Some(Script::new(&of_file));
+fn each_sync_is_of_the_file_and_the_first_of_its_folder(rt: HostRuntime) -> Result<(), Fail> {
+    let file = Tape::new(&[]);
+    let folder = Tape::new(&[]);
+    let mut os = Os::new(Disk {
+        file: &file,
+        folder: &folder,
+    });
+    let mut slot = slot_on(rt.alloc())?;
     assert_eq!(rt; slot.sync(&mut os), Ok(()));
-    assert_eq!(rt; of_file.syncs.get(), 1);
-    assert_eq!(rt; of_folder.syncs.get(), 1);
+    assert_eq!(rt; file.syncs.get(), 1);
+    assert_eq!(rt; folder.syncs.get(), 1);
     assert_eq!(rt; slot.sync(&mut os), Ok(()));
-    assert_eq!(rt; of_file.syncs.get(), 2);
-    assert_eq!(rt; of_folder.syncs.get(), 1);
+    assert_eq!(rt; file.syncs.get(), 2);
+    assert_eq!(rt; folder.syncs.get(), 1);
+    Ok(())
+}
+
+#[test]
+fn what_is_interrupted_is_done_again(rt: HostRuntime) -> Result<(), Fail> {
+    let file = Tape::new(&[]);
+    let folder = Tape::new(&[]);
+    let mut os = Os::new(Disk {
+        file: &file,
+        folder: &folder,
+    });
+    let mut slot = slot_on(rt.alloc())?;
+    file.signals.set(1);
+    assert_eq!(rt; slot.open(&mut os), Ok(()));
+    file.signals.set(2);
+    assert_eq!(rt; slot.len(&mut os), Ok(0));
+    file.signals.set(3);
+    folder.signals.set(2);
+    assert_eq!(rt; slot.sync(&mut os), Ok(()));
+    assert_eq!(rt; file.syncs.get(), 1);
+    assert_eq!(rt; folder.syncs.get(), 1);
+    assert_eq!(rt; os.calls().made(), 13);
+    assert_eq!(rt; os.calls().failed(), 0);
     Ok(())
 }
 
@@ -96,16 +142,19 @@ fn each_sync_is_of_the_file_and_the_first_of_the_folder(rt: HostRuntime) -> Resu
 fn a_file_is_measured_up_to_the_longest(rt: HostRuntime) -> Result<(), Fail> {
     let mut tape = Tape::new(&[]);
     tape.length = i64::MAX as u64;
-    let mut os = Os::new(Disk { tape: &tape });
-    let folder = Path::new(".");
-    let path = folder.join(rt.alloc(), "yawl.a")?;
-    let mut slot = Slot::new(path, folder.to_path_buf(rt.alloc())?);
+    let mut os = Os::new(Disk {
+        file: &tape,
+        folder: &tape,
+    });
+    let mut slot = slot_on(rt.alloc())?;
     assert_eq!(rt; slot.len(&mut os), Ok(9_223_372_036_854_775_807));
     let mut tape = Tape::new(&[]);
     tape.length = 9_223_372_036_854_775_808;
-    let mut os = Os::new(Disk { tape: &tape });
-    let path = folder.join(rt.alloc(), "yawl.a")?;
-    let mut slot = Slot::new(path, folder.to_path_buf(rt.alloc())?);
+    let mut os = Os::new(Disk {
+        file: &tape,
+        folder: &tape,
+    });
+    let mut slot = slot_on(rt.alloc())?;
     assert_eq!(rt; slot.len(&mut os), Err(Failed));
     assert_eq!(rt; slot.sync(&mut os), Err(Failed));
     assert_eq!(rt; tape.syncs.get(), 0);
