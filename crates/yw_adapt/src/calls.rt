@@ -65,7 +65,7 @@ impl Calls {
         answer
     }
 
-    /// Counts a call that signals can't interrupt, with this answer.
+    /// Counts a call that signals can't interrupt, with this answer. It has failed where that is an error.
     pub fn told<T>(&mut self, answer: io::Result<T>) -> Result<T, Failed>
         requires { IfErr answer (λ e. error_kind e ≢ ErrorKind.Interrupted) }
         ensures ok { IfOk answer (λ value. result ≡ Ok value) }
@@ -75,7 +75,8 @@ impl Calls {
         self.count(answer.map_err(|_| Failed))
     }
 
-    /// Counts a call with this answer. None says that it was interrupted, and is to be made again.
+    /// Counts a call with this answer. None says that it was interrupted, and is to be made again. It has failed where
+    /// the answer is any other error.
     pub fn tried<T>(&mut self, answer: io::Result<T>) -> Result<Option<T>, Failed>
         ensures ok { IfOk answer (λ value. result ≡ Ok (Some value)) }
         ensures interrupted { IfErr answer (λ e. error_kind e ≡ ErrorKind.Interrupted → result ≡ Ok None) }
@@ -90,8 +91,8 @@ impl Calls {
         })
     }
 
-    /// Counts a call by how many bytes it moved of a piece that isn't empty. One that moves none has failed. None
-    /// says that it was interrupted, and is to be made again.
+    /// Counts a call by how many bytes it moved of a piece that isn't empty. None says that it was interrupted, and is to
+    /// be made again. It has failed where the answer is any other error, or that it moved no byte.
     pub fn moved(&mut self, answer: io::Result<usize>) -> Result<Option<usize>, Failed>
         ensures some { IfOk answer (λ n. 0 < n → result ≡ Ok (Some n)) }
         ensures none { answer ≡ Ok 0 → IsErr result }
@@ -106,7 +107,8 @@ impl Calls {
         }
     }
 
-    /// Makes a call, and again while it is interrupted, and counts each.
+    /// Makes a call, and again while it is interrupted, and counts each. It fails where the last answer is another error,
+    /// or where no more calls can be counted.
     pub fn retry<T, F: Fn() -> io::Result<T>>(&mut self, call: F) -> Result<T, Failed>
         requires { F.IsAlwaysCallable call }
         ensures ok { IfOk result (λ value. F.post call (Ok value)) }

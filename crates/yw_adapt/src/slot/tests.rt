@@ -2,8 +2,8 @@
 use super::{Slot, read_whole, write_whole};
 use crate::os::Os;
 use crate::script::{Answer, Disk, FILE, FOLDER, Script, TEXT, Tape};
-use std::alloc::Global;
-use std::path::Path;
+use std::alloc::{AllocError, Global};
+use std::path::{Path, PathBuf};
 use std::test::Fail;
 use yw_outside::Failed;
 
@@ -90,11 +90,10 @@ fn fails_within_a_piece(rt: HostRuntime) -> Result<(), Fail> {
     Ok(())
 }
 
-/// The file of a disk, not opened yet.
-fn slot_on<'a>(alloc: Global) -> Result<Slot<Os<Disk<'a>>>, Fail> {
-    let folder = Path::new(FOLDER);
+/// The paths of a disk's file and folder.
+fn paths(alloc: Global) -> Result<(PathBuf, PathBuf), AllocError> {
     let path = Path::new(FILE).to_path_buf(alloc)?;
-    Ok(Slot::new(path, folder.to_path_buf(alloc)?))
+    Ok((path, Path::new(FOLDER).to_path_buf(alloc)?))
 }
 
 #[test]
@@ -105,7 +104,8 @@ fn each_sync_is_of_the_file_and_the_first_of_its_folder(rt: HostRuntime) -> Resu
         file: &file,
         folder: &folder,
     });
-    let mut slot = slot_on(rt.alloc())?;
+    let (path, parent) = paths(rt.alloc())?;
+    let mut slot = Slot::new(path, parent);
     assert_eq!(rt; slot.sync(&mut os), Ok(()));
     assert_eq!(rt; file.syncs.get(), 1);
     assert_eq!(rt; folder.syncs.get(), 1);
@@ -123,7 +123,8 @@ fn what_is_interrupted_is_done_again(rt: HostRuntime) -> Result<(), Fail> {
         file: &file,
         folder: &folder,
     });
-    let mut slot = slot_on(rt.alloc())?;
+    let (path, parent) = paths(rt.alloc())?;
+    let mut slot = Slot::new(path, parent);
     file.signals.set(1);
     assert_eq!(rt; slot.open(&mut os), Ok(()));
     file.signals.set(2);
@@ -146,7 +147,8 @@ fn a_file_is_measured_up_to_the_longest(rt: HostRuntime) -> Result<(), Fail> {
         file: &tape,
         folder: &tape,
     });
-    let mut slot = slot_on(rt.alloc())?;
+    let (path, parent) = paths(rt.alloc())?;
+    let mut slot = Slot::new(path, parent);
     assert_eq!(rt; slot.len(&mut os), Ok(9_223_372_036_854_775_807));
     let mut tape = Tape::new(&[]);
     tape.length = 9_223_372_036_854_775_808;
@@ -154,7 +156,8 @@ fn a_file_is_measured_up_to_the_longest(rt: HostRuntime) -> Result<(), Fail> {
         file: &tape,
         folder: &tape,
     });
-    let mut slot = slot_on(rt.alloc())?;
+    let (path, parent) = paths(rt.alloc())?;
+    let mut slot = Slot::new(path, parent);
     assert_eq!(rt; slot.len(&mut os), Err(Failed));
     assert_eq!(rt; slot.sync(&mut os), Err(Failed));
     assert_eq!(rt; tape.syncs.get(), 0);
