@@ -1,5 +1,5 @@
 // Values in order, which contracts see as a list.
-ghost use Rattle.std.specs.Prelude.{◌≡◌, ◌↔◌, [], ◌∷◌, ◌++◌, List, ℕ, length, IfOk, OnOk, OnErr, IsTrue, slice_get};
+ghost use Rattle.std.specs.Prelude.{◌≡◌, ◌↔◌, [], ◌∷◌, ◌++◌, List, ℕ, length, IfOk, OnOk, OnErr, IsTrue, slice_get, slice_set, ◌<◌};
 ghost use Rattle.std.specs.Option.{option_copied};
 ghost use Rattle.std.specs.List.{list_any};
 ghost use Rattle.std.specs.Str.{bytes_eq};
@@ -80,6 +80,14 @@ impl<T: Drop> Items<T> {
         ensures { option_copied result ≡ slice_get self.now index }
     {
         self.items.get(index)
+    }
+
+    /// Puts a value in the place of the one that stands there. It takes no memory.
+    pub fn set(&mut self, index: usize, item: T)
+        requires { index < length self.old }
+        ensures { self.new ≡ slice_set self.old index item }
+    {
+        self.items[index] = item;
     }
 
     /// Adds a value at the end. An `Err` says that no memory was left, and changes nothing but that the

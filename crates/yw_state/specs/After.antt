@@ -104,16 +104,16 @@ make_select_due s j t = if is_atomic t then make_due s j Select else s
 
 -- ---- tokens
 
-abbrev count_on : List ℕ → ℕ → ℕ
+abbrev pub count_on : List ℕ → ℕ → ℕ
 count_on tokens c = unwrap_or (slice_get tokens c) 0
 
-abbrev one_more : List ℕ → ℕ → List ℕ
+abbrev pub one_more : List ℕ → ℕ → List ℕ
 one_more tokens c = slice_set tokens c (count_on tokens c + 1)
 
-abbrev one_less : List ℕ → ℕ → List ℕ
+abbrev pub one_less : List ℕ → ℕ → List ℕ
 one_less tokens c = slice_set tokens c (count_on tokens c - 1)
 
-abbrev no_more : List ℕ → ℕ → List ℕ
+abbrev pub no_more : List ℕ → ℕ → List ℕ
 no_more tokens c = slice_set tokens c 0
 
 -- so on each of these places of the net at i
@@ -142,7 +142,7 @@ add_rule s p at side when conclusion said = s
 
 -- ---- a case begins
 
-abbrev begin_case : State → ℕ → List ℕ → Row → Spec → Net → State
+abbrev pub begin_case : State → ℕ → List ℕ → Row → Spec → Net → State
 begin_case s n name vals spec net =
     make_due (with_next (put s (case_ident n) (stands (new_net name spec.top net vals) empty_site)) (n + 1)) (case_ident n) Pre
 
@@ -162,7 +162,7 @@ add_item x i s e = make_select_due (make_due (put s (child i e.0) (new_item x.nu
 abbrev pub add_items : TaskAt → Ident → ℕ → List Row → State → State
 add_items x i first rows s = with_next (fold (add_item x i) s (zip (range_with_len first (length rows)) rows)) (first + length rows)
 
-abbrev enter_with : State → Ident → TaskAt → ℕ → List ℕ → List Row → State
+abbrev pub enter_with : State → Ident → TaskAt → ℕ → List ℕ → List Row → State
 enter_with s i x first taken rows = add_items x i first rows (take s i taken)
 
 abbrev pub enter : State → Ident → List Place → ℕ → TaskAt → State
@@ -187,7 +187,7 @@ complete s j out = make_due (change s j (with_item (completed out))) j Post
 abbrev pub begin_at : State → Ident → List ℕ → ℕ → Named → Option (List ℕ) → Net → State
 begin_at s j spec k source who net = change s j (λ at. stands (new_net spec k net (first_values source net)) (with_item (begun who) at))
 
-abbrev net_numbered : Spec → Task → Option (ℕ × Net)
+abbrev pub net_numbered : Spec → Task → Option (ℕ × Net)
 net_numbered spec t = option_and_then (λ k. option_map (λ net. (k, net)) (slice_get spec.nets k)) (child_net t)
 
 abbrev pub start_sub : State → Ident → ItemAt → State
@@ -204,13 +204,13 @@ end_net s j made x = where_some (net_at s j) s (λ n. complete (with_sites s (ba
 
 -- ---- a task exits
 
-abbrev idents : List (Ident × ItemPart) → List Ident
+abbrev pub idents : List (Ident × ItemPart) → List Ident
 idents es = map (λ e. e.0) es
 
 abbrev pub without_items : Ident → State → ℕ → State
 without_items i s k = with_sites s (drop_all s.sites (idents (items_of s i k)))
 
-abbrev set_values : State → Ident → Row → State
+abbrev pub set_values : State → Ident → Row → State
 set_values s i vals = change s i (with_net (λ n. record n { vals = vals }))
 
 -- the removal set: its places are emptied, and the items of its tasks go with all under them
@@ -218,11 +218,11 @@ abbrev pub empty_region : State → Ident → Task → State
 empty_region s i t = fold (without_items i) (wipe s i t.drop_places) t.drop_tasks
 
 -- an exit that marks the output of a case's own net
-abbrev post_at_output : State → Ident → Net → List ℕ → State
+abbrev pub post_at_output : State → Ident → Net → List ℕ → State
 post_at_output s i net cs = if is_case_ident i && is_among cs net.output then make_due s i Post else s
 
 -- the task's items go, the assignments are made, the removal set is emptied, and a token comes to each of the places
-abbrev exit_to : State → Ident → TaskAt → List ℕ → State
+abbrev pub exit_to : State → Ident → TaskAt → List ℕ → State
 exit_to s i x cs =
     post_at_output (produce (empty_region (set_values (without_items i s x.number) i (exit_values s i x)) i x.task) i cs) i x.within.net cs
 

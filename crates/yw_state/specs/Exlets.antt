@@ -22,29 +22,29 @@ abbrev pub continue_at : State → Ident → State
 continue_at s j = change s j (λ x. record x { suspended = false })
 
 -- an item with no check due, and the net at it and all strictly under it gone but for the run r
-abbrev cut_back : State → Ident → Ident → (ItemPart → ItemPart) → State
+abbrev pub cut_back : State → Ident → Ident → (ItemPart → ItemPart) → State
 cut_back s r j f = change (with_sites s (bare_but s.sites j r)) j (λ x. record (with_item f x) { due = no_checks })
 
-abbrev restarted : ItemPart → ItemPart
+abbrev pub restarted : ItemPart → ItemPart
 restarted x = record x { stage = Ready; who = None; made = [] }
 
 -- the item begins anew, and a worklet may be chosen for it again
-abbrev restart_item : State → Ident → Ident → ItemAt → State
+abbrev pub restart_item : State → Ident → Ident → ItemAt → State
 restart_item s r j x = make_select_due (cut_back s r j restarted) j x.of_task.task
 
 -- the item counts as completed, and has made what it was given; it stays as it is where it is completed
-abbrev complete_item : State → Ident → Ident → ItemAt → State
+abbrev pub complete_item : State → Ident → Ident → ItemAt → State
 complete_item s r j x = if is_completed x.part.stage then s else cut_back s r j (completed (made_of_given x))
 
-abbrev waiting : RunPart → RunPart
+abbrev pub waiting : RunPart → RunPart
 waiting x = record x { waiting = true }
 
 -- the top net stands at the run, which waits for its end
-abbrev begin_compensation : State → Ident → Ident → List ℕ → Spec → Net → State
+abbrev pub begin_compensation : State → Ident → Ident → List ℕ → Spec → Net → State
 begin_compensation s r j name spec net = change s r (λ x. stands (new_net name spec.top net (first_values (source_at s j) net)) (with_run waiting x))
 
 -- where the run isn't too deep
-abbrev compensate : State → Ident → Ident → List ℕ → State
+abbrev pub compensate : State → Ident → Ident → List ℕ → State
 compensate s r j name = if nat_lt (length r) depth_end then where_spec s name (begin_compensation s r j name) else s
 
 abbrev pub case_of : Ident → Ident

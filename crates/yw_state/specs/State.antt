@@ -8,7 +8,7 @@ use Rattle.yw_spec.specs.declared.spec.Net.{Net}
 use Rattle.yw_spec.specs.declared.spec.Spec.{Spec}
 use Rattle.yw_spec.specs.declared.task.Task.{Task}
 use Rattle.yw_state.specs.Identity.{Ident, same, strictly_under, is_child, parent, is_case_ident}
-use Rattle.yw_state.specs.Map.{Map, lexical, lexical_each, empty, entries, get, update, retain}
+use Rattle.yw_state.specs.Map.{Map, lexical, lexical_each, empty, entries, get, of_entries, update, retain}
 use Rattle.std.specs.Ordering.{nat_cmp}
 use Rattle.yw_state.specs.Nets.{task_number, top_net}
 use Rattle.yw_state.specs.Options.{is_some_and}
@@ -51,6 +51,10 @@ pub record Site : Type 0 where
 
 abbrev pub Sites : Type 0
 Sites = Map lexical Site
+
+-- the map of these entries
+abbrev pub sites_of_entries : List (Ident × Site) → Sites
+sites_of_entries = of_entries {R = lexical}
 
 abbrev pub no_checks : Checks
 no_checks = record { pre = false; select = false; post = false }
@@ -108,7 +112,7 @@ pub record NetAt : Type 0 where
   pub part : NetPart
   pub net : Net
 
-abbrev net_of : State → NetPart → Option Net
+abbrev pub net_of : State → NetPart → Option Net
 net_of s n = option_and_then (λ (spec : Spec). slice_get spec.nets n.net) (spec_called s n.spec)
 
 -- the net that stands at i
@@ -151,7 +155,7 @@ is_target s j = is_case s j || is_item s j
 
 -- ---- the items of a task
 
-abbrev if_of_task : ℕ → Ident → ItemPart → Option (Ident × ItemPart)
+abbrev pub if_of_task : ℕ → Ident → ItemPart → Option (Ident × ItemPart)
 if_of_task k j x = if x.task == k then Some (j, x) else None
 
 abbrev pub item_of_task : Ident → ℕ → Ident → Site → Option (Ident × ItemPart)
@@ -172,7 +176,7 @@ abbrev pub drop_all : Sites → List Ident → Sites
 drop_all m [] = m
 drop_all m (j ∷ js) = drop_all (drop m j) js
 
-abbrev without_net : Site → Site
+abbrev pub without_net : Site → Site
 without_net x = record x { net = None }
 
 -- all strictly under j goes, and the net at j

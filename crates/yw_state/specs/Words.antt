@@ -54,14 +54,14 @@ abbrev pub busy : State → Ident → Bool
 busy s j = some_site s (λ r x. is_some x.run && is_child r j)
 
 -- a run stands under i, with j in it: work in a compensation isn't held by its own target's suspension
-abbrev shielded : State → Ident → Ident → Bool
+abbrev pub shielded : State → Ident → Ident → Bool
 shielded s j i = some_site s (λ r x. is_some x.run && strictly_under r i && under j r)
 
 -- what stands at j, or something above it, is suspended
 abbrev pub held : State → Ident → Bool
 held s j = some_site s (λ i x. x.suspended && under j i && not (shielded s j i))
 
-abbrev is_at_work : Option RunPart → Bool
+abbrev pub is_at_work : Option RunPart → Bool
 is_at_work run = is_some_and run (λ r. not r.waiting)
 
 -- in case n a check is due at something that isn't busy, or a run doesn't wait

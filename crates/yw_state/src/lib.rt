@@ -19,6 +19,6 @@ pub use answer::{
 pub use command::{Asked, Command, Given, GivenList, Query};
 pub use event::{Event, EventList};
 pub use loaded::{Loaded, LoadedList};
-pub use part::{Checks, Ended, EndedList, Stage, Way};
+pub use part::{Checks, Ended, EndedList, Marks, Stage, Way};
 pub use rule::{Refusal, Rule};
 pub use tree::{Conclusion, Primitive, PrimitiveList, TreeKind, TreePlace};

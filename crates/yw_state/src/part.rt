@@ -24,6 +24,10 @@ pub struct Checks {
     pub post: bool,
 }
 
+/// How many tokens are on each place of a net, by the place's number: the paper's marking. A count is at most
+/// 1,000,000, which is our own.
+pub type Marks = Items<u64>;
+
 /// How a case ended. The three ways are our own.
 #[derive(Clone, Copy, Debug, PartialEq, Eq)]
 pub enum Way {
