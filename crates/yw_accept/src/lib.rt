@@ -3,8 +3,6 @@
 
 mod broken;
 mod index;
-#[cfg(test)]
-mod tests;
 
 pub use broken::Broken;
 pub use index::{Index, has, number_of};

@@ -16,6 +16,3 @@ pub use name::{Name, NameFault};
 pub use text::Text;
 pub use usage::Usage;
 pub use value::{IntList, Row, Sort, TextList, Val, Value};
-
-#[cfg(test)]
-mod tests;

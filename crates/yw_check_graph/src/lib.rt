@@ -8,8 +8,6 @@ mod joins;
 mod levels;
 mod nets;
 mod paths;
-#[cfg(test)]
-mod tests;
 
 pub use children::children_fit;
 pub use joins::or_joins_fit;

@@ -12,6 +12,3 @@ mod seen;
 pub use flows::flows_fit;
 pub use names::names_fit;
 pub use removals::removals_fit;
-
-#[cfg(test)]
-mod tests;

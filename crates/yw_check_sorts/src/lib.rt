@@ -11,6 +11,3 @@ mod spelling;
 
 pub use parameters::parameters_agree;
 pub use sorts::sorts_fit;
-
-#[cfg(test)]
-mod tests;

@@ -8,6 +8,3 @@ mod splits;
 pub use items::items_fit;
 pub use sizes::sizes_fit;
 pub use splits::splits_fit;
-
-#[cfg(test)]
-mod tests;

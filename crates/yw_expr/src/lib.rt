@@ -6,8 +6,6 @@ mod lexeme;
 mod node;
 mod parsing;
 mod scope;
-#[cfg(test)]
-mod tests;
 mod typing;
 mod value;
 

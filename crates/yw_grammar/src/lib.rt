@@ -5,8 +5,6 @@ mod level;
 mod parser;
 mod stack;
 mod symbol;
-#[cfg(test)]
-mod tests;
 mod tree;
 
 pub use parser::parse;

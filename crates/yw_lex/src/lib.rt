@@ -7,6 +7,3 @@ mod token;
 
 pub use lexer::lex;
 pub use token::{LexFault, Token, TokenList, Word};
-
-#[cfg(test)]
-mod tests;

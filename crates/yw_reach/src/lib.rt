@@ -9,8 +9,6 @@ mod marks;
 mod paths;
 mod rows;
 mod search;
-#[cfg(test)]
-mod tests;
 
 pub use cycles::is_cyclic;
 pub use flow::Flow;

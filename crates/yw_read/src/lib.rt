@@ -13,6 +13,3 @@ pub use raw::{
     ReadFault,
 };
 pub use reading::read_spec;
-
-#[cfg(test)]
-mod tests;

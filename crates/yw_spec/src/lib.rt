@@ -3,8 +3,6 @@
 
 mod spec;
 mod task;
-#[cfg(test)]
-mod tests;
 
 pub use spec::{Net, NetList, Place, PlaceList, Spec, TaskList, Var, VarList, arrow_text};
 pub use task::{

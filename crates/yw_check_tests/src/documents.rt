@@ -1,0 +1,155 @@
+// Whole specifications.
+
+/// Two tasks one after the other.
+pub(super) fn seq() -> &'static str {
+    r#"name = "seq"
+top = "main"
+[[net]]
+name = "main"
+input = "i"
+output = "o"
+flows = [["i","a"],["a","b"],["b","o"]]
+[[net.task]]
+name = "a"
+[[net.task]]
+name = "b"
+"#
+}
+
+/// A net with one variable and one task for an officer.
+pub(super) fn deep() -> &'static str {
+    r#"name = "deep"
+top = "main"
+[[net]]
+name = "main"
+input = "i"
+output = "o"
+vars = [{name="amount",sort="int",use="in"}]
+flows = [["i","visit"],["visit","o"]]
+[[net.task]]
+name = "visit"
+role = "officer"
+"#
+}
+
+/// A net with one task for a clerk.
+pub(super) fn remind() -> &'static str {
+    r#"name = "remind"
+top = "main"
+[[net]]
+name = "main"
+input = "i"
+output = "o"
+flows = [["i","call"],["call","o"]]
+[[net.task]]
+name = "call"
+role = "clerk"
+"#
+}
+
+/// A loan: two nets, with a split and a task of several items.
+pub(super) fn loan() -> &'static str {
+    r#"
+name = "loan"
+top = "main"
+[[net]]
+name = "main"
+input = "i"
+output = "o"
+vars = [{name="amount",sort="int"},{name="who",sort="texts",use="in"},{name="yes",sort="int"}]
+flows = [["i","apply"],["apply","review"],["review","pay"],["review","refuse"],["pay","o"],["refuse","o"]]
+[[net.task]]
+name = "apply"
+role = "clerk"
+outs = [{name="amount",sort="int"}]
+set = [{var="amount",value="amount"}]
+[[net.task]]
+name = "review"
+kind = "sub"
+net = "board"
+split = "xor"
+branch = [{to="pay",when="yes = 2"},{to="refuse"}]
+ins = [{name="amount",sort="int",value="amount"},{name="who",sort="texts",value="who"}]
+outs = [{name="yes",sort="int"}]
+set = [{var="yes",value="yes"}]
+[[net.task]]
+name = "pay"
+role = "teller"
+[[net.task]]
+name = "refuse"
+kind = "empty"
+[[net]]
+name = "board"
+input = "i"
+output = "o"
+vars = [{name="amount",sort="int",use="in"},{name="who",sort="texts",use="in"},{name="yes",sort="int",use="out"}]
+flows = [["i","assess"],["assess","vote"],["vote","o"]]
+[[net.task]]
+name = "assess"
+role = "officer"
+ins = [{name="amount",sort="int",value="amount"}]
+[[net.task]]
+name = "vote"
+role = "officer"
+ins = [{name="reviewer",sort="text"}]
+outs = [{name="v",sort="int"}]
+set = [{var="yes",value="sum(v)"}]
+each = "who"
+item = "reviewer"
+min = 2
+max = 5
+threshold = 2
+"#
+}
+
+/// Two nets, the lower one first, with conditions, removals, values of each sort, branches in another order
+/// than flows, and tasks of several items with and without bounds.
+pub(super) fn rich() -> &'static str {
+    r#"
+name = "rich"
+top = "main"
+[[net]]
+name = "child"
+input = "x"
+output = "y"
+vars = [{name="m",sort="text",use="inout"},{name="k",sort="ints",use="out",init=[3,-4]}]
+flows = [["x","t"],["t","y"]]
+[[net.task]]
+name = "t"
+[[net]]
+name = "main"
+input = "i"
+output = "o"
+conditions = ["c","d"]
+vars = [{name="flag",sort="bool",use="in",init=true},{name="no",sort="bool"},{name="count",sort="int",init=-7},{name="word",sort="text",init="w"},{name="numbers",sort="ints"},{name="words",sort="texts",use="out",init=["p","q"]}]
+flows = [["i","a"],["a","b"],["a","c"],["c","b"],["b","d"],["d","e"],["b","e"],["e","o"]]
+[[net.task]]
+name = "a"
+split = "or"
+branch = [{to="c",when="flag"},{to="b"}]
+ins = [{name="p",sort="int",value="count"},{name="q",sort="text"}]
+outs = [{name="r",sort="int"}]
+set = [{var="numbers",value="r"}]
+each = "words"
+item = "q"
+min = 2
+max = 3
+threshold = 1
+[[net.task]]
+name = "b"
+kind = "sub"
+net = "child"
+join = "or"
+ins = [{name="m",sort="text"}]
+outs = [{name="m",sort="text"}]
+set = [{var="words",value="m"},{var="count",value="len(m) + count"}]
+each = "words"
+item = "m"
+dynamic = true
+[[net.task]]
+name = "e"
+kind = "empty"
+join = "xor"
+remove = ["b->e","a","c","b","a->b"]
+"#
+}
