@@ -3,7 +3,7 @@ use Rattle.std.specs.Prelude.{ℕ, ◌≤◌, List, length, None, Some}
 use Rattle.std.specs.declared.option.Option.{Option}
 use Rattle.yw_outside.specs.Image.{Torn}
 
--- Outside of a range of n bytes at this offset nothing changed, if the range didn't begin behind the end. What was told is told still.
+-- Outside of a range of n bytes at this offset nothing changed, if the range didn't begin past the end. What was told is told still.
 abbrev pub TornAt : ℕ → ℕ → Option (List ℕ) → Option (List ℕ) → Type 0
 TornAt at n None None = Unit {0}
 TornAt at n None (Some new) = ⊥

@@ -1,10 +1,7 @@
 // A folder's two files and an output as a desk.
 ghost use Rattle.std.specs.Prelude.{◌≡◌};
 
-#[cfg(test)]
-mod tests;
-
-use crate::os::Os;
+use crate::os::{Lock, Os};
 use crate::output::{Output, Writer, hand};
 use crate::slot::Slot;
 use crate::system::System;
@@ -16,8 +13,9 @@ use yw_outside::{Desk, Failed, File};
 
 /// The files `yawl.a` and `yawl.b` of a folder, and an output. As a desk it doesn't tell what they hold.
 ///
-/// A file is opened, and made where it isn't there, at the first call on it, and stays open. Where it can't be
-/// opened or is longer than 2^63 - 1 bytes, each call on it fails.
+/// A file is opened, and made where it isn't there, at the first call on it, and stays open. Its exclusive lock is
+/// taken then and held, so that a second desk over the folder can't write to it. Where the file can't be opened, another
+/// opening of it has the lock, or it is longer than 2^63 - 1 bytes, each call on it fails and leaves it as it is.
 #[derive(Drop)]
 pub struct FolderDesk<S: System, O> {
     system: S,
@@ -62,7 +60,7 @@ impl<S: System + Drop, O: Drop> FolderDesk<S, O> {
 
 impl<R: Files + Drop, W: Drop> FolderDesk<Os<R>, Writer<W>>
 where
-    R::File: FileExt,
+    R::File: FileExt + Lock,
 {
     ghost use Rattle.std.specs.Prelude.{IfOk};
     ghost use Rattle.yw_adapt.specs.FolderDesk.{folder_named, folder_of, out_of, path_in, path_of, system_of};
@@ -121,6 +119,7 @@ impl<S: System, O: Output> Desk for FolderDesk<S, O> {
         ensures bound { IfOk result (λ n. n < 2 ^ 63) }
         ensures same { IsOpen self.old f → file_of self.new f ≡ file_of self.old f }
         ensures opened { OnOk result (IsOpen self.new f) }
+        ensures locked { ForSome (file_of self.new f) (λ file. IsTrue (S.is_locked file)) }
         ensures other_file { other_of self.new f ≡ other_of self.old f }
         ensures out { out_of self.new ≡ out_of self.old }
         ensures paths { path_of self.new ≡ path_of self.old }
@@ -140,6 +139,7 @@ impl<S: System, O: Output> Desk for FolderDesk<S, O> {
         ensures given { ForSome (told S.holds (file_of self.new f)) (λ held. OnOk result (buf.new ≡ take (length buf.old) (drop at held))) }
         ensures same { IsOpen self.old f → file_of self.new f ≡ file_of self.old f }
         ensures opened { OnOk result (IsOpen self.new f) }
+        ensures locked { ForSome (file_of self.new f) (λ file. IsTrue (S.is_locked file)) }
         ensures other_file { other_of self.new f ≡ other_of self.old f }
         ensures out { out_of self.new ≡ out_of self.old }
         ensures paths { path_of self.new ≡ path_of self.old }
@@ -160,6 +160,7 @@ impl<S: System, O: Output> Desk for FolderDesk<S, O> {
         ensures taken { ForSome (told S.holds (file_of self.new f)) (λ held. OnOk result (take (length bytes.now) (drop at held) ≡ bytes.now)) }
         ensures rest { IsOpen self.old f → TornAt at (length bytes.now) (told S.holds (file_of self.old f)) (told S.holds (file_of self.new f)) }
         ensures opened { OnOk result (IsOpen self.new f) }
+        ensures locked { ForSome (file_of self.new f) (λ file. IsTrue (S.is_locked file)) }
         ensures other_file { other_of self.new f ≡ other_of self.old f }
         ensures out { out_of self.new ≡ out_of self.old }
         ensures paths { path_of self.new ≡ path_of self.old }
@@ -180,6 +181,7 @@ impl<S: System, O: Output> Desk for FolderDesk<S, O> {
         ensures named { OnOk result (ForSome (file_of self.new f) (λ file. IsTrue (S.is_kept file (folder_of self.new f)))) }
         ensures keeps { IsOpen self.old f → told S.holds (file_of self.new f) ≡ told S.holds (file_of self.old f) }
         ensures opened { OnOk result (IsOpen self.new f) }
+        ensures locked { ForSome (file_of self.new f) (λ file. IsTrue (S.is_locked file)) }
         ensures other_file { other_of self.new f ≡ other_of self.old f }
         ensures out { out_of self.new ≡ out_of self.old }
         ensures paths { path_of self.new ≡ path_of self.old }
@@ -193,7 +195,7 @@ impl<S: System, O: Output> Desk for FolderDesk<S, O> {
         }
     }
 
-    /// Hands all of the bytes to the output and flushes them, and else hands a front of them. Fails where a write fails or
+    /// Hands all of the bytes to the output and flushes them, and else hands a prefix of them. Fails where a write fails or
     /// takes no byte, or the flush fails.
     fn say(&mut self, bytes: &[u8]) -> Result<(), Failed>
         ensures handed { Handed (O.contents (out_of self.old)) (O.contents (out_of self.new)) result bytes.now }

@@ -10,8 +10,6 @@ mod folder_desk;
 mod mem_system;
 mod os;
 mod output;
-#[cfg(test)]
-mod script;
 mod slot;
 mod std_source;
 mod system;
@@ -19,7 +17,7 @@ mod system;
 pub use calls::Calls;
 pub use folder_desk::FolderDesk;
 pub use mem_system::{MemFile, MemSystem};
-pub use os::Os;
+pub use os::{Lock, Os};
 pub use output::{Output, Writer};
 pub use std_source::StdSource;
 pub use system::System;

@@ -13,8 +13,8 @@ use std::io::{Error, ErrorKind};
 use std::path::{Path, PathBuf};
 use yw_outside::Failed;
 
-/// A system in memory, for tests. A file is empty when it is opened, and gone when it is closed. A write behind a
-/// file's end fails, and so does a call that is short of memory. Our own.
+/// A system in memory, for tests. A file is empty when it is opened, and gone when it is closed, and no other opening has
+/// its lock. A write past a file's end fails, and so does a call that is short of memory. Our own.
 #[derive(Drop)]
 pub struct MemSystem {
     alloc: Global,
@@ -28,6 +28,7 @@ pub struct MemFile {
     bytes: Vec<u8>,
     synced: Vec<u8>,
     is_kept: bool,
+    is_locked: bool,
 }
 
 impl MemSystem {
@@ -70,6 +71,7 @@ impl MemFile {
             bytes: Vec::new(alloc),
             synced: Vec::new(alloc),
             is_kept: false,
+            is_locked: false,
         })
     }
 
@@ -92,7 +94,7 @@ impl MemFile {
         Ok(count)
     }
 
-    /// Writes the bytes that stand before the end, or behind it all.
+    /// Writes the bytes that stand before the end, or after it all.
     fn write_at(&mut self, at: u64, bytes: &[u8]) -> io::Result<usize>
         requires { 0 < length bytes.now }
         ensures some { IfOk result (λ n. 0 < n) }
@@ -101,6 +103,7 @@ impl MemFile {
         ensures rest { TornAt at (length bytes.now) (Some self.old.bytes.items) (Some self.new.bytes.items) }
         ensures path { self.new.path ≡ self.old.path }
         ensures kept { self.new.is_kept ≡ self.old.is_kept }
+        ensures locked { self.new.is_locked ≡ self.old.is_locked }
         ensures err { IfErr result (λ e. (error_kind e ≡ ErrorKind.OutOfMemory) ⊎ ((error_kind e ≡ ErrorKind.Unsupported) × (length self.old.bytes.items < at))) }
     {
         let at = at as usize;
@@ -124,6 +127,7 @@ impl MemFile {
         ensures bytes { self.new.bytes.items ≡ self.old.bytes.items }
         ensures path { self.new.path ≡ self.old.path }
         ensures kept { self.new.is_kept ≡ self.old.is_kept }
+        ensures locked { self.new.is_locked ≡ self.old.is_locked }
         ensures err { IfErr result (λ e. error_kind e ≡ ErrorKind.OutOfMemory) }
     {
         self.synced.clear();
@@ -146,10 +150,17 @@ impl System for MemSystem {
 
     ghost is_kept = { λ file _. file.is_kept };
 
+    ghost is_locked = { λ file. file.is_locked };
+
     ghost calls = { λ system. system.calls };
 
     fn open(&mut self, at: Path<'_>) -> Result<MemFile, Failed> {
         self.calls.told(MemFile::open(self.alloc, at))
+    }
+
+    fn lock(&mut self, file: &mut MemFile) -> Result<(), Failed> {
+        file.is_locked = true;
+        self.calls.told(Ok(()))
     }
 
     fn len(&mut self, file: &MemFile) -> Result<u64, Failed> {

@@ -4,7 +4,7 @@ ghost use Rattle.std.specs.Prelude.{◌≡◌, ◌<◌, ◌≤◌, ◌^◌, IfEr
 
 use crate::calls::Calls;
 use crate::system::System;
-use std::fs::{OpenFile, OpenOptions};
+use std::fs::{File, OpenFile, OpenOptions};
 use std::io;
 use std::io::ErrorKind;
 use std::os::unix::fs::FileExt;
@@ -43,6 +43,18 @@ impl<R> Os<R> {
     }
 }
 
+/// A file whose exclusive lock can be taken, which its opening then holds until it is closed. Our own.
+pub trait Lock {
+    /// Takes the lock at once, or fails where another opening of the file has it.
+    fn take_lock(&self) -> io::Result<()>;
+}
+
+impl Lock for File {
+    fn take_lock(&self) -> io::Result<()> {
+        self.try_lock().map_err(io::Error::from)
+    }
+}
+
 /// A length that a desk may have. A greater one is the error FileTooLarge.
 fn checked(length: u64) -> io::Result<u64>
     ensures ok { length < 2 ^ 63 → result ≡ Ok length }
@@ -57,7 +69,7 @@ fn checked(length: u64) -> io::Result<u64>
 
 impl<R: Files> System for Os<R>
 where
-    R::File: FileExt,
+    R::File: FileExt + Lock,
 {
     ghost use Rattle.std.specs.Prelude.{None, true};
 
@@ -71,12 +83,18 @@ where
 
     ghost is_kept = { λ _ _. true };
 
+    ghost is_locked = { λ _. true };
+
     ghost calls = { λ os. os.calls };
 
     fn open(&mut self, at: Path<'_>) -> Result<R::File, Failed> {
         let mut how = OpenOptions::new();
         how.read(true).write(true).create(true);
         self.calls.retry(|| how.open(&self.rt, at))
+    }
+
+    fn lock(&mut self, file: &mut R::File) -> Result<(), Failed> {
+        self.calls.retry(|| file.take_lock())
     }
 
     fn len(&mut self, file: &R::File) -> Result<u64, Failed> {

@@ -26,7 +26,7 @@ pub trait Output {
     /// The calls that were made.
     ghost calls: { Self → Calls };
 
-    /// Takes a front of the bytes, and answers how much.
+    /// Takes a prefix of the bytes, and answers how much.
     fn take(&mut self, bytes: &[u8]) -> Result<usize, Failed>
         requires { 0 < length bytes.now }
         ensures some { IfOk result (λ n. 0 < n) }

@@ -5,14 +5,11 @@ ghost use Rattle.std.specs.Path.{path_buf_bytes};
 ghost use Rattle.yw_adapt.specs.Calls.{Counted};
 ghost use Rattle.yw_adapt.specs.Files.{TornAt, told};
 
-#[cfg(test)]
-mod tests;
-
 use crate::system::System;
 use std::path::PathBuf;
 use yw_outside::Failed;
 
-/// A file of a folder, which is opened at the first call on it.
+/// A file of a folder, which is opened at the first call on it and locked while it is open.
 #[derive(Drop)]
 pub struct Slot<S: System> {
     path: PathBuf,
@@ -21,6 +18,7 @@ pub struct Slot<S: System> {
     /// whether the folder was synced since, so that a crash leaves the file in it
     is_kept: bool,
     ghost own: { ForSome file (λ f. ForSome (S.path f) (λ p. p ≡ path_buf_bytes path)) },
+    ghost locked: { ForSome file (λ f. IsTrue (S.is_locked f)) },
     ghost opened: { IsTrue is_kept → IsSome file },
     ghost kept: { IsTrue is_kept → ForSome file (λ f. IsTrue (S.is_kept f (path_buf_bytes folder))) },
 }
@@ -54,6 +52,7 @@ fn write_whole<S: System>(
     ensures rest { TornAt at (length bytes.now) (S.holds file.old) (S.holds file.new) }
     ensures path { S.path file.new ≡ S.path file.old }
     ensures kept { S.is_kept file.new ≡ S.is_kept file.old }
+    ensures locked { S.is_locked file.new ≡ S.is_locked file.old }
     ensures counts { Counted (S.calls system.old).failed (S.calls system.new).failed result }
 {
     let mut done = 0;
@@ -78,7 +77,7 @@ impl<S: System> Slot<S> {
         }
     }
 
-    /// Opens the file where it isn't open yet.
+    /// Opens the file where it isn't open yet, and takes its lock.
     fn open(&mut self, system: &mut S) -> Result<(), Failed>
         ensures opened { OnOk result (IsSome self.new.file) }
         ensures kept_on { IsTrue self.old.is_kept → IsTrue self.new.is_kept }
@@ -88,7 +87,8 @@ impl<S: System> Slot<S> {
         ensures counts { Counted (S.calls system.old).failed (S.calls system.new).failed result }
     {
         if self.file.is_none() {
-            let file = system.open(self.path.as_path())?;
+            let mut file = system.open(self.path.as_path())?;
+            system.lock(&mut file)?;
             system.len(&file)?;
             self.file = Some(file);
         }

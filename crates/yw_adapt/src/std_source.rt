@@ -1,9 +1,6 @@
 // Standard input as a source.
 ghost use Rattle.std.specs.Prelude.{◌≡◌};
 
-#[cfg(test)]
-mod tests;
-
 use crate::calls::Calls;
 use std::io::Read;
 use yw_outside::{Failed, Source};

@@ -29,6 +29,9 @@ pub trait System {
     /// Whether a crash leaves a file in the folder with this path.
     ghost is_kept: { Self.File → List ℕ → Bool };
 
+    /// Whether this opening of a file has its exclusive lock.
+    ghost is_locked: { Self.File → Bool };
+
     /// The calls that were made.
     ghost calls: { Self → Calls };
 
@@ -37,13 +40,20 @@ pub trait System {
         ensures path { IfOk result (λ file. ForSome (path file) (λ p. p ≡ path_bytes at.entry)) }
         ensures counts { Counts (calls self.old) (calls self.new) result };
 
+    /// Takes the file's exclusive lock, and holds it until the file is closed. It fails where another opening of the file
+    /// has it.
+    fn lock(&mut self, file: &mut Self::File) -> Result<(), Failed>
+        ensures locked { OnOk result (IsTrue (is_locked file.new)) }
+        ensures path { path file.new ≡ path file.old }
+        ensures counts { Counts (calls self.old) (calls self.new) result };
+
     /// How many bytes the file has. It fails where they are more than 2^63 - 1.
     fn len(&mut self, file: &Self::File) -> Result<u64, Failed>
         ensures value { ForSome (holds file.now) (λ held. IfOk result (λ n. n ≡ length held)) }
         ensures bound { IfOk result (λ n. n < 2 ^ 63) }
         ensures counts { Counts (calls self.old) (calls self.new) result };
 
-    /// Reads a front of the piece that stands at this offset, and answers how much. It fails at the file's end.
+    /// Reads a prefix of the piece that stands at this offset, and answers how much. It fails at the file's end.
     fn read_at(&mut self, file: &Self::File, at: u64, buf: &mut [u8]) -> Result<usize, Failed>
         requires { 0 < length buf.old }
         ensures some { IfOk result (λ n. 0 < n) }
@@ -51,7 +61,7 @@ pub trait System {
         ensures bytes { ForSome (holds file.now) (λ held. IfOk result (λ n. (at + n < 2 ^ 63) × (take n buf.new ≡ take n (drop at held)))) }
         ensures counts { Counts (calls self.old) (calls self.new) result };
 
-    /// Writes a front of the bytes at this offset, and answers how much. Whatever it answers, no other bytes of the
+    /// Writes a prefix of the bytes at this offset, and answers how much. Whatever it answers, no other bytes of the
     /// file change.
     fn write_at(&mut self, file: &mut Self::File, at: u64, bytes: &[u8]) -> Result<usize, Failed>
         requires some { 0 < length bytes.now }
@@ -62,6 +72,7 @@ pub trait System {
         ensures rest { TornAt at (length bytes.now) (holds file.old) (holds file.new) }
         ensures path { path file.new ≡ path file.old }
         ensures kept { is_kept file.new ≡ is_kept file.old }
+        ensures locked { is_locked file.new ≡ is_locked file.old }
         ensures counts { Counts (calls self.old) (calls self.new) result };
 
     /// Syncs what the file holds and its length to the device.
@@ -70,6 +81,7 @@ pub trait System {
         ensures holds { holds file.new ≡ holds file.old }
         ensures path { path file.new ≡ path file.old }
         ensures kept { is_kept file.new ≡ is_kept file.old }
+        ensures locked { is_locked file.new ≡ is_locked file.old }
         ensures counts { Counts (calls self.old) (calls self.new) result };
 
     /// Syncs the folder with this path, so that a crash leaves the file in it.
@@ -78,5 +90,6 @@ pub trait System {
         ensures synced { synced file.new ≡ synced file.old }
         ensures holds { holds file.new ≡ holds file.old }
         ensures path { path file.new ≡ path file.old }
+        ensures locked { is_locked file.new ≡ is_locked file.old }
         ensures counts { Counts (calls self.old) (calls self.new) result };
 }

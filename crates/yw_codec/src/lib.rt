@@ -7,4 +7,4 @@ mod tests;
 mod write;
 
 pub use read::{CodecFault, read_entry};
-pub use write::write_entry;
+pub use write::{write_entry, write_entry_into};

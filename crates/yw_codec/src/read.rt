@@ -9,7 +9,7 @@ ghost use Rattle.yw_codec.specs.Entries.{name_bytes, text_bytes, is_text, event_
 use byteorder::{BigEndian, ByteOrder};
 use std::alloc::{AllocError, Global};
 use yw_base::{Name, NameFault, NameList, Text};
-use yw_model::{Event, EventList};
+use yw_state::{Event, EventList};
 
 /// Why bytes aren't read as an entry.
 #[derive(Clone, Copy, Debug, PartialEq, Eq)]

@@ -3,16 +3,20 @@ ghost use Rattle.std.specs.Prelude.{◌≡◌, ◌∷◌, [], IfOk, true, length
 ghost use Rattle.std.specs.List.{list_all};
 ghost use Rattle.yw_codec.specs.Entries.{is_writable};
 
-use crate::{CodecFault, read_entry, write_entry};
+use crate::{CodecFault, read_entry, write_entry, write_entry_into};
 use std::alloc::{AllocError, Global};
-use std::test::Fail;
 use yw_base::{Name, NameFault, NameList, Text};
-use yw_model::{Event, EventList};
+use yw_state::{Event, EventList};
 
-// Ann has the role clerk.
-const PERSON: &[u8] = b"\x00\x01\x01\x03ann\x01\x05clerk";
-// The specification s of this text is loaded.
-const LOAD: &[u8] = b"\x00\x01\x02\x01s\x00\x00\x00\x0aname = \"s\"";
+// Ann has the role clerk, as it is appended.
+const PERSON: &[u8] = b"\x00\x00\x00\x0e\x00\x01\x01\x03ann\x01\x05clerk\x00";
+// The specification s of this text is loaded, as it is appended.
+const LOAD: &[u8] = b"\x00\x00\x00\x13\x00\x01\x02\x01s\x00\x00\x00\x0aname = \"s\"\x00";
+// What can stand where the entry of a load ends.
+const BEHIND: &[u8] =
+    b"\x00\x01\x02\x01s\x00\x00\x00\x0aname = \"s\"\x00\x01\x01\x03ann\x01\x05clerk\x00\x07";
+// Two events of one entry, the first with the empty text.
+const TWO: &[u8] = b"\x00\x02\x02\x01s\x00\x00\x00\x00\x01\x03ann\x01\x05clerk";
 
 fn name(alloc: Global, text: &str) -> Result<Name, AllocError> {
     match Name::read(alloc, text) {
@@ -62,151 +66,161 @@ fn is_load_of_s(event: &Event) -> bool {
     }
 }
 
-#[test]
-fn writes_the_format(rt: HostRuntime) -> Result<(), Fail> {
-    let alloc = rt.alloc();
-    let bytes = write_entry(alloc, &person(alloc)?)?;
-    assert_eq!(rt;
-        bytes.as_slice(),
-        b"\x00\x00\x00\x0e\x00\x01\x01\x03ann\x01\x05clerk\x00".as_slice()
-    );
-    let bytes = write_entry(alloc, &load(alloc)?)?;
-    assert_eq!(rt;
-        bytes.as_slice(),
-        b"\x00\x00\x00\x13\x00\x01\x02\x01s\x00\x00\x00\x0aname = \"s\"\x00".as_slice()
-    );
-    Ok(())
+/// The bytes in a buffer that held others before.
+fn written_over(alloc: Global, events: &EventList) -> Result<Vec<u8>, AllocError>
+    requires one { length events.now ≡ 1 }
+    requires writable { list_all is_writable events.now ≡ true }
+{
+    let mut out = Vec::from_slice(alloc, b"what stood here")?;
+    write_entry_into(&mut out, events)?;
+    Ok(out)
+}
+
+fn is_written_over(alloc: Global, events: &EventList, want: &[u8]) -> bool
+    requires one { length events.now ≡ 1 }
+    requires writable { list_all is_writable events.now ≡ true }
+{
+    match written_over(alloc, events) {
+        Ok(bytes) => bytes.as_slice() == want,
+        Err(AllocError) => false,
+    }
+}
+
+/// The events are appended so, whatever the buffer held.
+fn is_written(alloc: Global, events: &EventList, want: &[u8]) -> bool
+    requires one { length events.now ≡ 1 }
+    requires writable { list_all is_writable events.now ≡ true }
+{
+    match write_entry(alloc, events) {
+        Ok(bytes) => bytes.as_slice() == want && is_written_over(alloc, events, want),
+        Err(AllocError) => false,
+    }
+}
+
+fn person_is_written(alloc: Global) -> bool {
+    match person(alloc) {
+        Ok(events) => is_written(alloc, &events, PERSON),
+        Err(AllocError) => false,
+    }
+}
+
+fn load_is_written(alloc: Global) -> bool {
+    match load(alloc) {
+        Ok(events) => is_written(alloc, &events, LOAD),
+        Err(AllocError) => false,
+    }
 }
 
 #[test]
-fn reads_the_entry_at_the_front(rt: HostRuntime) -> Result<(), Fail> {
-    let alloc = rt.alloc();
-    let (events, size) = read_entry(alloc, b"\x00\x01\x01\x03ann\x01\x05clerk\x00\x07")?;
-    assert_eq!(rt; size, 14);
-    assert_eq!(rt; events.len(), 1);
-    for event in events.as_slice() {
-        assert!(rt; is_ann_the_clerk(event));
-    }
-    let (events, size) = read_entry(alloc, LOAD)?;
-    assert_eq!(rt; size, 19);
-    assert_eq!(rt; events.len(), 1);
-    for event in events.as_slice() {
-        assert!(rt; is_load_of_s(event));
-    }
-    Ok(())
+fn writes_the_format(rt: HostRuntime) {
+    assert!(rt; person_is_written(rt.alloc()));
+    assert!(rt; load_is_written(rt.alloc()));
 }
 
-#[test]
-fn reads_one_behind_another(rt: HostRuntime) -> Result<(), Fail> {
-    let alloc = rt.alloc();
-    // Two entries.
-    let bytes =
-        b"\x00\x01\x02\x01s\x00\x00\x00\x0aname = \"s\"\x00\x01\x01\x03ann\x01\x05clerk".as_slice();
-    let (first, size) = read_entry(alloc, bytes)?;
-    assert_eq!(rt; size, 19);
-    for event in first.as_slice() {
-        assert!(rt; is_load_of_s(event));
-    }
-    let (second, size) = read_entry(alloc, &bytes[size..])?;
-    assert_eq!(rt; size, 14);
-    for event in second.as_slice() {
-        assert!(rt; is_ann_the_clerk(event));
-    }
-    // Two events of one entry, the first with the empty text.
-    let bytes = b"\x00\x02\x02\x01s\x00\x00\x00\x00\x01\x03ann\x01\x05clerk".as_slice();
-    let (events, size) = read_entry(alloc, bytes)?;
-    assert_eq!(rt; size, 21);
-    assert_eq!(rt; events.len(), 2);
-    Ok(())
+/// The bytes from a place on.
+fn behind(bytes: &[u8], at: usize) -> &[u8] {
+    if at < bytes.len() { &bytes[at..] } else { b"" }
 }
 
-fn fault(alloc: Global, bytes: &[u8]) -> Option<CodecFault> {
+/// Ann alone is read, of so many bytes from a place on.
+fn reads_person(alloc: Global, bytes: &[u8], at: usize, size: usize) -> bool {
+    match read_entry(alloc, behind(bytes, at)) {
+        Ok((events, read)) => {
+            read == size && events.len() == 1 && events.as_slice().iter().all(is_ann_the_clerk)
+        }
+        Err(_) => false,
+    }
+}
+
+/// The load of s alone is read, of so many bytes from a place on.
+fn reads_load(alloc: Global, bytes: &[u8], at: usize, size: usize) -> bool {
+    match read_entry(alloc, behind(bytes, at)) {
+        Ok((events, read)) => {
+            read == size && events.len() == 1 && events.as_slice().iter().all(is_load_of_s)
+        }
+        Err(_) => false,
+    }
+}
+
+/// So many events are read, of so many bytes at the front.
+fn reads_events(alloc: Global, bytes: &[u8], count: usize, size: usize) -> bool {
     match read_entry(alloc, bytes) {
-        Ok(_) => None,
-        Err(fault) => Some(fault),
+        Ok((events, read)) => read == size && events.len() == count,
+        Err(_) => false,
     }
 }
 
 #[test]
-fn refuses_what_is_no_entry(rt: HostRuntime) -> Result<(), Fail> {
-    let alloc = rt.alloc();
-    assert_eq!(rt; fault(alloc, PERSON), None);
-    assert_eq!(rt; fault(alloc, b""), Some(CodecFault::Bad));
-    // No event, and more than 4,097.
-    assert_eq!(rt; fault(alloc, b"\x00\x00"), Some(CodecFault::Bad));
-    assert_eq!(rt;
-        fault(alloc, b"\x10\x02\x01\x01a\x00"),
-        Some(CodecFault::Bad)
-    );
-    // Another tag.
-    assert_eq!(rt;
-        fault(alloc, b"\x00\x01\x00\x01a\x00"),
-        Some(CodecFault::Bad)
-    );
-    // No name, one that isn't spelled as names are, and one that is cut.
-    assert_eq!(rt;
-        fault(alloc, b"\x00\x01\x01\x00\x00"),
-        Some(CodecFault::Bad)
-    );
-    assert_eq!(rt;
-        fault(alloc, b"\x00\x01\x01\x021a\x00"),
-        Some(CodecFault::Bad)
-    );
-    assert_eq!(rt; fault(alloc, b"\x00\x01\x01\x03an"), Some(CodecFault::Bad));
-    // No count of roles, and fewer roles than it says.
-    assert_eq!(rt; fault(alloc, b"\x00\x01\x01\x01a"), Some(CodecFault::Bad));
-    assert_eq!(rt;
-        fault(alloc, b"\x00\x01\x01\x01a\x02\x01b"),
-        Some(CodecFault::Bad)
-    );
-    Ok(())
+fn reads_one_behind_another(rt: HostRuntime) {
+    assert!(rt; reads_person(rt.alloc(), PERSON, 4, 14));
+    assert!(rt; reads_load(rt.alloc(), LOAD, 4, 19));
+    assert!(rt; reads_load(rt.alloc(), BEHIND, 0, 19));
+    assert!(rt; reads_person(rt.alloc(), BEHIND, 19, 14));
+    assert!(rt; reads_events(rt.alloc(), TWO, 2, 21));
 }
 
+fn is_bad(alloc: Global, bytes: &[u8]) -> bool {
+    matches!(read_entry(alloc, bytes), Err(CodecFault::Bad))
+}
+
+/// What is wrong, and bytes that are no entry.
+type Wrong = (&'static str, &'static [u8]);
+
+fn wrong() -> &'static [Wrong] {
+    &WRONG
+}
+
+const WRONG: [Wrong; 19] = [
+    ("nothing", b""),
+    ("no event", b"\x00\x00"),
+    ("more than 4,097 events", b"\x10\x02\x01\x01a\x00"),
+    ("another tag", b"\x00\x01\x00\x01a\x00"),
+    ("a further tag", b"\x00\x01\x03\x01s\x00\x00\x00\x00"),
+    ("no name", b"\x00\x01\x01\x00\x00"),
+    ("a name that begins with a digit", b"\x00\x01\x01\x021a\x00"),
+    ("a name that is cut", b"\x00\x01\x01\x03an"),
+    ("no count of roles", b"\x00\x01\x01\x01a"),
+    ("fewer roles than counted", b"\x00\x01\x01\x01a\x02\x01b"),
+    (
+        "a text that is cut",
+        b"\x00\x01\x02\x01s\x00\x00\x00\x0aname = \"s",
+    ),
+    ("no text", b"\x00\x01\x02\x01s\x00\x00\x00\x01"),
+    ("a length of three bytes", b"\x00\x01\x02\x01s\x00\x00\x00"),
+    (
+        "a length the other way round",
+        b"\x00\x01\x02\x01s\x01\x00\x00\x00t",
+    ),
+    (
+        "a text that isn't UTF-8",
+        b"\x00\x01\x02\x01s\x00\x00\x00\x01\xff",
+    ),
+    (
+        "half a character",
+        b"\x00\x01\x02\x01s\x00\x00\x00\x01\xc3\xa9",
+    ),
+    (
+        "a loaded name that is a digit",
+        b"\x00\x01\x02\x011\x00\x00\x00\x00",
+    ),
+    (
+        "a second event that is cut",
+        b"\x00\x02\x02\x01s\x00\x00\x00\x00\x01\x03an",
+    ),
+    ("no second event", b"\x00\x02\x02\x01s\x00\x00\x00\x00"),
+];
+
 #[test]
-fn refuses_what_is_no_loaded_text(rt: HostRuntime) -> Result<(), Fail> {
-    let alloc = rt.alloc();
-    assert_eq!(rt; fault(alloc, LOAD), None);
-    // Cut by one byte, and behind the length.
-    assert_eq!(rt;
-        fault(alloc, b"\x00\x01\x02\x01s\x00\x00\x00\x0aname = \"s"),
-        Some(CodecFault::Bad)
+fn refuses_what_is_no_entry(rt: HostRuntime) {
+    for row in wrong() {
+        assert!(rt; is_bad(rt.alloc(), row.1), "with {}", row.0);
+    }
+    assert!(rt;
+        reads_events(
+            rt.alloc(),
+            b"\x00\x01\x02\x01s\x00\x00\x00\x02\xc3\xa9",
+            1,
+            11
+        )
     );
-    assert_eq!(rt;
-        fault(alloc, b"\x00\x01\x02\x01s\x00\x00\x00\x01"),
-        Some(CodecFault::Bad)
-    );
-    // A length of three bytes.
-    assert_eq!(rt;
-        fault(alloc, b"\x00\x01\x02\x01s\x00\x00\x00"),
-        Some(CodecFault::Bad)
-    );
-    // A length that stands the other way round.
-    assert_eq!(rt;
-        fault(alloc, b"\x00\x01\x02\x01s\x01\x00\x00\x00t"),
-        Some(CodecFault::Bad)
-    );
-    // A text that isn't UTF-8, and one that ends within a character.
-    assert_eq!(rt;
-        fault(alloc, b"\x00\x01\x02\x01s\x00\x00\x00\x01\xff"),
-        Some(CodecFault::Bad)
-    );
-    assert_eq!(rt;
-        fault(alloc, b"\x00\x01\x02\x01s\x00\x00\x00\x01\xc3\xa9"),
-        Some(CodecFault::Bad)
-    );
-    assert_eq!(rt;
-        fault(alloc, b"\x00\x01\x02\x01s\x00\x00\x00\x02\xc3\xa9"),
-        None
-    );
-    // A name that isn't spelled as names are.
-    assert_eq!(rt;
-        fault(alloc, b"\x00\x01\x02\x011\x00\x00\x00\x00"),
-        Some(CodecFault::Bad)
-    );
-    // A further tag.
-    assert_eq!(rt;
-        fault(alloc, b"\x00\x01\x03\x01s\x00\x00\x00\x00"),
-        Some(CodecFault::Bad)
-    );
-    Ok(())
 }

@@ -1,5 +1,5 @@
 // An entry as it is appended.
-ghost use Rattle.std.specs.Prelude.{◌≡◌, ◌++◌, ◌∷◌, ◌≤◌, [], List, ℕ, true, IfOk, OnOk, length};
+ghost use Rattle.std.specs.Prelude.{◌≡◌, ◌++◌, ◌∷◌, ◌≤◌, [], List, ℕ, true, IfOk, OnOk, drop, length};
 ghost use Rattle.std.specs.List.{flat_map, list_all};
 ghost use Rattle.byteorder.specs.Endian.{big_bytes};
 ghost use Rattle.yw_base.specs.Spelling.{is_name};
@@ -9,7 +9,10 @@ ghost use Rattle.yw_journal.specs.Records.{IsFramed};
 use byteorder::{BigEndian, ByteOrder};
 use std::alloc::{AllocError, Global};
 use yw_base::{Bytes, Name};
-use yw_model::{Event, EventList};
+use yw_state::{Event, EventList};
+
+// How many bytes an entry has room for before it asks for more memory.
+const ENTRY_ROOM: usize = 128;
 
 fn push_u16(out: &mut Vec<u8>, number: u16) -> Result<(), AllocError>
     ensures { OnOk result (out.new.items ≡ out.old.items ++ big_bytes 2 number) }
@@ -91,32 +94,48 @@ fn push_events(out: &mut Vec<u8>, events: &[Event]) -> Result<(), AllocError>
 }
 
 // The entry without its length.
-fn entry_of(alloc: Global, events: &[Event]) -> Result<Vec<u8>, AllocError>
+#[tactic(auto, unfolding(crate::specs::Entries::entry_bytes))]
+fn push_entry(out: &mut Vec<u8>, events: &[Event]) -> Result<(), AllocError>
     requires some { 1 ≤ length events.now }
     requires few { length events.now ≤ 4097 }
     requires writable { list_all is_writable events.now ≡ true }
-    ensures bytes { IfOk result (λ v. v.items ≡ entry_bytes events.now) }
-    ensures entry { IfOk result (λ v. IsEntry events.now v.items) }
+    ensures bytes { OnOk result (out.new.items ≡ out.old.items ++ entry_bytes events.now) }
+    ensures entry { OnOk result (IsEntry events.now (entry_bytes events.now)) }
 {
-    let mut entry = Vec::new(alloc);
-    push_u16(&mut entry, events.len() as u16)?;
-    push_events(&mut entry, events)?;
-    Ok(entry)
+    push_u16(out, events.len() as u16)?;
+    push_events(out, events)
 }
 
-// A record's length, its bytes, and a closed gate.
-fn frame(alloc: Global, bytes: &[u8]) -> Result<Vec<u8>, AllocError>
-    ensures bytes { IfOk result (λ v. v.items ≡ (big_bytes 4 (length bytes.now) ++ bytes.now) ++ 0 ∷ []) }
-    ensures frame { IfOk result (λ v. IsFramed v.items bytes.now) }
+// Writes in the first four bytes the length of those behind them, and behind these a closed gate.
+fn frame(out: &mut Vec<u8>) -> Result<(), AllocError>
+    requires { 4 ≤ length out.old.items }
+    ensures bytes { OnOk result (out.new.items ≡ (big_bytes 4 (length (drop 4 out.old.items)) ++ drop 4 out.old.items) ++ 0 ∷ []) }
+    ensures frame { OnOk result (IsFramed out.new.items (drop 4 out.old.items)) }
 {
-    let Ok(size) = u32::try_from(bytes.len()) else {
+    let Ok(size) = u32::try_from(out.len() - 4) else {
         return Err(AllocError);
     };
-    let mut out = Vec::new(alloc);
-    push_u32(&mut out, size)?;
-    out.extend_from_slice(bytes)?;
+    BigEndian::write_u32(out.as_mut_slice(), size);
     out.push(0)?;
-    Ok(out)
+    Ok(())
+}
+
+/// Makes of `out` the bytes of an entry as they are appended: the entry's length as a u32, the entry, and a closed gate.
+/// What stood in `out` goes and its room stays, so that one buffer serves many entries. An entry has 1 to 4,097 events,
+/// each a person with at most 64 roles or a load. An `Err` says that no memory was left, or that the length of the entry
+/// or of a text in it doesn't fit a u32; what `out` has then is told nowhere.
+pub fn write_entry_into(out: &mut Vec<u8>, events: &EventList) -> Result<(), AllocError>
+    requires some { 1 ≤ length events.now }
+    requires few { length events.now ≤ 4097 }
+    requires writable { list_all is_writable events.now ≡ true }
+    ensures bytes { OnOk result (out.new.items ≡ framed events.now) }
+    ensures entry { OnOk result (IsEntry events.now (entry_bytes events.now)) }
+    ensures frame { OnOk result (IsFramed out.new.items (entry_bytes events.now)) }
+{
+    out.clear();
+    push_u32(out, 0)?;
+    push_entry(out, events.as_slice())?;
+    frame(out)
 }
 
 /// The bytes of an entry as they are appended: the entry's length as a u32, the entry, and a closed gate. It has 1 to
@@ -130,6 +149,7 @@ pub fn write_entry(alloc: Global, events: &EventList) -> Result<Bytes, AllocErro
     ensures entry { IfOk result (λ _. IsEntry events.now (entry_bytes events.now)) }
     ensures frame { IfOk result (λ b. IsFramed b (entry_bytes events.now)) }
 {
-    let entry = entry_of(alloc, events.as_slice())?;
-    Ok(Bytes::from_vec(frame(alloc, &entry)?))
+    let mut entry = Vec::with_capacity(alloc, ENTRY_ROOM)?;
+    write_entry_into(&mut entry, events)?;
+    Ok(Bytes::from_vec(entry))
 }

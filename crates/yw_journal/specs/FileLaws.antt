@@ -14,7 +14,7 @@ use Rattle.yw_journal.specs.Files.{Content, FileHas, Holds, HasContent, NoneIsLi
 use Rattle.yw_journal.specs.Journal.{IsMadeOf, IsHeldBeside, IsBeforeOrMade, IsBeforeShutOrMade, made, header_bytes, other_file, with_record}
 use Rattle.yw_journal.specs.Records.{AreOpen, IsFramed, IsFramedState}
 
--- the eight bytes at the front
+-- the first eight bytes
 eight : (field rest : List ℕ) → length field ≡ 8 → take 8 (field ++ rest) ≡ field
 eight field rest e = take_at field rest 8 e
 
@@ -85,7 +85,7 @@ module _ (generation count : ℕ) (snapshot head : List ℕ) (is : IsHead genera
       (ap (λ (n : ℕ). nat_le n greatest) generation_reads ∙ le-leb generation greatest is.generation_small))
       (ap (λ (n : ℕ). nat_le n greatest) count_reads ∙ le-leb count greatest is.count_small)
 
--- records behind open gates take as many bytes as they say
+-- records after open gates take as many bytes as they say
 opened_size : (bytes : List ℕ) (records : List (List ℕ)) → AreOpen bytes records → length bytes ≡ records_size records
 opened_size bytes [] are = ap length are
 opened_size bytes (r ∷ rs) are = omega (
@@ -102,7 +102,7 @@ records_size-more : (records : List (List ℕ)) (bytes : List ℕ) → records_s
 records_size-more [] bytes = omega arith
 records_size-more (r ∷ rs) bytes = omega (arith, records_size-more rs bytes)
 
--- with a record more they end behind it
+-- with a record more they end after it
 pub end_with_record : (c : Content) (bytes framed : List ℕ) → IsFramed framed bytes → end_of (with_record c bytes) ≡ end_of c + length framed
 end_with_record c bytes framed is = omega (
   arith,

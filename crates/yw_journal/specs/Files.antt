@@ -12,7 +12,7 @@ use Rattle.yw_journal.specs.Records.{IsFrame, AreOpen, IsAt, IsCutAt}
 abbrev pub magic : List ℕ
 magic = 89 ∷ 87 ∷ 74 ∷ 49 ∷ []
 
--- the greatest generation, and the greatest number of entries behind a snapshot's
+-- the greatest generation, and the greatest number of entries after a snapshot's
 abbrev pub greatest : ℕ
 greatest = 2 ^ 62
 
@@ -66,7 +66,7 @@ higher_unless None None a b = higher a b
 abbrev pub choice : Image → Result (Option File) (File × ℕ)
 choice i = higher_unless (header_damage i.a) (header_damage i.b) i.a i.b
 
--- What stands behind the header: the gate, the snapshot, and up to it all that a record is appended to.
+-- What stands after the header: the gate, the snapshot, and up to it all that a record is appended to.
 pub record Content : Type 0 where
   pub generation : ℕ
   pub count : ℕ
@@ -124,7 +124,7 @@ abbrev pub records_size : List (List ℕ) → ℕ
 records_size [] = 0
 records_size (r ∷ rs) = 5 + length r + records_size rs
 
--- the offset at which the closed gate behind the records ends, and how long a file with this content is at least
+-- the offset at which the closed gate after the records ends, and how long a file with this content is at least
 abbrev pub end_of : Content → ℕ
 end_of c = 30 + length c.snapshot + records_size c.records
 
@@ -139,7 +139,7 @@ abbrev pub LeadsTo : {S : Type 0} → Meaning S → S → List (List ℕ) → S 
 LeadsTo m s [] t = t ≡ s
 LeadsTo {S} m s (r ∷ rs) t = (mid : S) × m.After s r mid × LeadsTo m mid rs t
 
--- a snapshot and entries behind it lead to this state
+-- a snapshot and entries after it lead to this state
 abbrev pub Reaches : {S : Type 0} → Meaning S → List ℕ → List (List ℕ) → S → Type 0
 Reaches {S} m snapshot records s = (start : S) × m.Opens snapshot start × LeadsTo m start records s
 
@@ -155,7 +155,7 @@ head_of file = take (29 + snapshot_size_of file) file
 abbrev pub snapshot_of : List ℕ → List ℕ
 snapshot_of file = take (snapshot_size_of file) (drop 29 file)
 
--- The first damage behind a sound header, with its place: the snapshot passes the end, or it isn't a
+-- The first damage after a sound header, with its place: the snapshot passes the end, or it isn't a
 -- state's bytes; or at one gate after another the gate is missing, or it is open and its record passes the
 -- end or has no meaning in its turn.
 pub record SnapshotIsCut (file : List ℕ) : Type 0 where

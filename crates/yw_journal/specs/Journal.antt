@@ -59,15 +59,15 @@ pub record IsBeforeOrShut (f : File) (old image : Image) : Type 0 where
   pub other : other_in f image ≡ other_in f old
   pub said : image.said ≡ old.said
 
--- the file's gate is as it was; nothing else is touched
-pub record KeepsGate (f : File) (old image : Image) : Type 0 where
+-- the file's first gate byte is as it was; nothing else is touched
+pub record KeepsGateByte (f : File) (old image : Image) : Type 0 where
   pub gate : take 1 (file_in f image) ≡ take 1 (file_in f old)
   pub other : other_in f image ≡ other_in f old
   pub said : image.said ≡ old.said
 
--- behind an open gate stand this header and what follows it
+-- after an open gate stand this header and what follows it
 abbrev pub IsMadeOf : List ℕ → List ℕ → List ℕ → Type 0
-IsMadeOf header framed file = (behind : List ℕ) × (file ≡ 1 ∷ header ++ framed ++ behind)
+IsMadeOf header framed file = (rest : List ℕ) × (file ≡ 1 ∷ header ++ framed ++ rest)
 
 -- the file is as it was, or it isn't live, or it is made; nothing else is touched
 pub record IsBeforeShutOrMade (f : File) (header framed : List ℕ) (old image : Image) : Type 0 where

@@ -20,10 +20,10 @@ pub struct Journal {
     pub file: File,
     /// That file's generation, 1 to 2^62.
     pub generation: u64,
-    /// The offset just behind its last gate, which is closed: 30 to 2^63 bytes.
+    /// The offset just after its last gate, which is closed: 30 to 2^63 bytes.
     pub end: u64,
     /// How long the file may get, in bytes, at most 2^62.
     pub limit: u64,
-    /// How many entries are held: those of the snapshot and the records behind it.
+    /// How many entries are held: those of the snapshot and the records after it.
     pub number: u64,
 }

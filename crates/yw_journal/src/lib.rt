@@ -5,7 +5,5 @@ mod append;
 mod journal;
 mod make;
 mod synced;
-#[cfg(test)]
-mod tests;
 
 pub use journal::{AppendFault, Journal};

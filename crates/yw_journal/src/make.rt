@@ -1,11 +1,11 @@
 // A file made anew.
-ghost use Rattle.std.specs.Prelude.{◌≡◌, ◌≢◌, ◌⊎◌, ◌≤◌, ◌<◌, ◌+◌, ◌^◌, ◌++◌, List, ℕ, IsTrue, IfOk, OnOk, OnErr, Err, true, false, length, slice_index, take};
+ghost use Rattle.std.specs.Prelude.{◌≡◌, ◌≤◌, ◌<◌, ◌+◌, ◌^◌, List, ℕ, IsTrue, IfOk, OnOk, Err, true, false, length};
 ghost use Rattle.yw_outside.specs.declared.image.Image.{Image};
-ghost use Rattle.yw_outside.specs.Causes.{HasCause, Rose};
 ghost use Rattle.yw_outside.specs.Image.{file_in, other_in};
-ghost use Rattle.yw_outside.specs.Moments.{IsSettled, LeavesOnly};
-ghost use Rattle.yw_journal.specs.Files.{Content, FileHas, generation_of, header_damage, is_live};
-ghost use Rattle.yw_journal.specs.Journal.{IsReady, IsCurrent, IsHeldBeside, IsBeforeOrMade, IsBeforeOrShut, IsBeforeShutOrMade, IsMadeOf, KeepsGate, made, header_bytes};
+ghost use Rattle.yw_outside.specs.Since.{LeavesOnly, OfFiles};
+ghost use Rattle.yw_journal.specs.Calls.{Counts, ForSnapshot, HasNoRoom, IsFilledAfter, IsMade, IsMadeOver, IsOpenOrEmpty, IsShut, IsShutOf, Leaves, Rewrites, NonePending, made_journal};
+ghost use Rattle.yw_journal.specs.Files.{generation_of, is_live};
+ghost use Rattle.yw_journal.specs.Journal.{IsReady, IsCurrent, IsBeforeOrMade, IsBeforeOrShut, IsBeforeShutOrMade, KeepsGateByte, made, header_bytes};
 ghost use Rattle.yw_journal.specs.Records.{IsFramedState};
 
 use crate::synced::write_synced;
@@ -28,15 +28,12 @@ fn header(generation: u64, number: u64) -> [u8; HEADER]
 
 // The file is empty, or its gate is open.
 fn is_open<D: Desk>(desk: &mut D, f: File) -> Result<bool, Failed>
-    ensures open { IsTrue (D.tells desk.old) → IfOk result (λ open_. IsTrue open_ → (length (file_in f (D.state desk.old)) ≡ 0) ⊎ (slice_index (file_in f (D.state desk.old)) 0 ≡ 1)) }
-    ensures shut { IsTrue (D.tells desk.old) → IfOk result (λ open_. open_ ≡ false → 1 ≤ length (file_in f (D.state desk.old))) }
-    ensures shut_gate { IsTrue (D.tells desk.old) → IfOk result (λ open_. open_ ≡ false → slice_index (file_in f (D.state desk.old)) 0 ≢ 1) }
+    ensures open { IsTrue (D.tells desk.old) → IfOk result (λ yes. IsTrue yes → IsOpenOrEmpty (file_in f (D.state desk.old))) }
+    ensures shut { IsTrue (D.tells desk.old) → IfOk result (λ yes. yes ≡ false → IsShut (file_in f (D.state desk.old))) }
     ensures state { D.state desk.new ≡ D.state desk.old }
     ensures crash { (c : Image) → D.may_leave desk.new c → D.may_leave desk.old c }
-    ensures any_moment { LeavesOnly D.moment D.left_since desk.old desk.new (D.may_leave desk.old) }
-    ensures tells { D.tells desk.new ≡ D.tells desk.old }
-    ensures cause { HasCause (D.disk_faults desk.old) (D.disk_faults desk.new) result }
-    ensures other_cause { D.say_faults desk.new ≡ D.say_faults desk.old }
+    ensures any_moment { LeavesOnly D.Desk desk.old desk.new (D.may_leave desk.old) }
+    ensures counts { OfFiles D.Desk desk.old desk.new result }
 {
     if desk.len(f)? == 0 {
         return Ok(true);
@@ -48,16 +45,10 @@ fn is_open<D: Desk>(desk: &mut D, f: File) -> Result<bool, Failed>
 
 // Closes the gate of a file, where it isn't closed already.
 fn shut<D: Desk>(desk: &mut D, f: File) -> Result<(), Failed>
-    requires { IsTrue (D.tells desk.old) → IsSettled (D.state desk.old) (D.may_leave desk.old) }
-    ensures some { OnOk result (IsTrue (D.tells desk.old) → 1 ≤ length (file_in f (D.state desk.new))) }
-    ensures gate { OnOk result (IsTrue (D.tells desk.old) → slice_index (file_in f (D.state desk.new)) 0 ≢ 1) }
-    ensures settled { OnOk result (IsTrue (D.tells desk.old) → IsSettled (D.state desk.new) (D.may_leave desk.new)) }
-    ensures other { OnOk result (IsTrue (D.tells desk.old) → other_in f (D.state desk.new) ≡ other_in f (D.state desk.old)) }
-    ensures said { OnOk result (IsTrue (D.tells desk.old) → (D.state desk.new).said ≡ (D.state desk.old).said) }
-    ensures any_moment { IsTrue (D.tells desk.old) → LeavesOnly D.moment D.left_since desk.old desk.new (IsBeforeOrShut f (D.state desk.old)) }
-    ensures tells { D.tells desk.new ≡ D.tells desk.old }
-    ensures cause { HasCause (D.disk_faults desk.old) (D.disk_faults desk.new) result }
-    ensures other_cause { D.say_faults desk.new ≡ D.say_faults desk.old }
+    requires { NonePending D.Desk desk.old }
+    ensures rewrites { OnOk result (Rewrites D.Desk f IsShutOf desk.old desk.new) }
+    ensures any_moment { Leaves D.Desk (IsBeforeOrShut f) desk.old desk.new }
+    ensures counts { OfFiles D.Desk desk.old desk.new result }
 {
     if !is_open(desk, f)? {
         return Ok(());
@@ -65,7 +56,7 @@ fn shut<D: Desk>(desk: &mut D, f: File) -> Result<(), Failed>
     write_synced(desk, f, 0, &[0])
 }
 
-// Writes all behind the gate.
+// Writes all after the gate.
 fn write_rest<D: Desk>(
     desk: &mut D,
     f: File,
@@ -74,15 +65,10 @@ fn write_rest<D: Desk>(
 ) -> Result<(), Failed>
     requires some { IsTrue (D.tells desk.old) → 1 ≤ length (file_in f (D.state desk.old)) }
     requires fits { 21 + length framed.now < 2 ^ 63 }
-    requires settled { IsTrue (D.tells desk.old) → IsSettled (D.state desk.old) (D.may_leave desk.old) }
-    ensures written { OnOk result (IsTrue (D.tells desk.old) → (behind : List ℕ) × (file_in f (D.state desk.new) ≡ take 1 (file_in f (D.state desk.old)) ++ header.now ++ framed.now ++ behind)) }
-    ensures settled { OnOk result (IsTrue (D.tells desk.old) → IsSettled (D.state desk.new) (D.may_leave desk.new)) }
-    ensures other { OnOk result (IsTrue (D.tells desk.old) → other_in f (D.state desk.new) ≡ other_in f (D.state desk.old)) }
-    ensures said { OnOk result (IsTrue (D.tells desk.old) → (D.state desk.new).said ≡ (D.state desk.old).said) }
-    ensures any_moment { IsTrue (D.tells desk.old) → LeavesOnly D.moment D.left_since desk.old desk.new (KeepsGate f (D.state desk.old)) }
-    ensures tells { D.tells desk.new ≡ D.tells desk.old }
-    ensures cause { HasCause (D.disk_faults desk.old) (D.disk_faults desk.new) result }
-    ensures other_cause { D.say_faults desk.new ≡ D.say_faults desk.old }
+    requires settled { NonePending D.Desk desk.old }
+    ensures rewrites { OnOk result (Rewrites D.Desk f (IsFilledAfter header.now framed.now) desk.old desk.new) }
+    ensures any_moment { Leaves D.Desk (KeepsGateByte f) desk.old desk.new }
+    ensures counts { OfFiles D.Desk desk.old desk.new result }
 {
     desk.write(f, 1, header)?;
     write_synced(desk, f, 21, framed)
@@ -96,15 +82,10 @@ fn make_of<D: Desk>(
     framed: &[u8],
 ) -> Result<(), Failed>
     requires fits { 21 + length framed.now < 2 ^ 63 }
-    requires settled { IsTrue (D.tells desk.old) → IsSettled (D.state desk.old) (D.may_leave desk.old) }
-    ensures made { OnOk result (IsTrue (D.tells desk.old) → IsMadeOf header.now framed.now (file_in f (D.state desk.new))) }
-    ensures settled { OnOk result (IsTrue (D.tells desk.old) → IsSettled (D.state desk.new) (D.may_leave desk.new)) }
-    ensures other { OnOk result (IsTrue (D.tells desk.old) → other_in f (D.state desk.new) ≡ other_in f (D.state desk.old)) }
-    ensures said { OnOk result (IsTrue (D.tells desk.old) → (D.state desk.new).said ≡ (D.state desk.old).said) }
-    ensures any_moment { IsTrue (D.tells desk.old) → LeavesOnly D.moment D.left_since desk.old desk.new (IsBeforeShutOrMade f header.now framed.now (D.state desk.old)) }
-    ensures tells { D.tells desk.new ≡ D.tells desk.old }
-    ensures cause { HasCause (D.disk_faults desk.old) (D.disk_faults desk.new) result }
-    ensures other_cause { D.say_faults desk.new ≡ D.say_faults desk.old }
+    requires settled { NonePending D.Desk desk.old }
+    ensures rewrites { OnOk result (Rewrites D.Desk f (IsMadeOver header.now framed.now) desk.old desk.new) }
+    ensures any_moment { Leaves D.Desk (IsBeforeShutOrMade f header.now framed.now) desk.old desk.new }
+    ensures counts { OfFiles D.Desk desk.old desk.new result }
 {
     shut(desk, f)?;
     write_rest(desk, f, header, framed)?;
@@ -113,9 +94,9 @@ fn make_of<D: Desk>(
 
 impl Journal {
     /// Makes the file: this generation and number, a snapshot (its length as a u64, so many bytes, and a closed
-    /// gate) and no record. Its gate is opened last, when all behind it is on the disk. A crash at any moment
+    /// gate) and no record. Its gate is opened last, when all after it is on the disk. A crash at any moment
     /// leaves what the other file holds, or the new file whole, and after `Ok` it leaves the new one. Of what this
-    /// file held before nothing is kept.
+    /// file held before only bytes past the snapshot's gate stay, as they were, and they are no part of its content.
     /// `Full` comes exactly where the file would be longer than the limit, before any call of the desk;
     /// `Disk` only where a call of the files failed. It takes no memory.
     pub fn make<D: Desk>(
@@ -132,31 +113,27 @@ impl Journal {
         requires limited { limit ≤ 2 ^ 62 }
         requires framed { (snapshot : List ℕ) × IsFramedState framed_state.now snapshot }
         requires above { IsTrue (D.tells desk.old) → is_live (other_in file (D.state desk.old)) ≡ true → generation_of (other_in file (D.state desk.old)) < generation }
-        requires settled { IsTrue (D.tells desk.old) → IsSettled (D.state desk.old) (D.may_leave desk.old) }
+        requires settled { NonePending D.Desk desk.old }
 
-        // At Ok the file is made, and nothing else has changed.
-        ensures journal { IfOk result (λ j. j ≡ record { file = file; generation = generation; end = 21 + length framed_state.now; limit = limit; number = number }) }
+        // At Ok the file is made, byte for byte, and nothing else has changed.
+        ensures journal { IfOk result (λ j. j ≡ made_journal file generation number framed_state.now limit) }
         ensures ready { IfOk result IsReady }
-        ensures made { IfOk result (λ j. IsTrue (D.tells desk.old) → (snapshot : List ℕ) → IsFramedState framed_state.now snapshot
-            → FileHas (file_in file (D.state desk.new)) (made generation number snapshot) j.end) }
-        ensures current { IfOk result (λ j. IsTrue (D.tells desk.old) → (c : Content) (snapshot : List ℕ) → IsHeldBeside file c (D.state desk.old) → IsFramedState framed_state.now snapshot
-            → IsCurrent j (made generation number snapshot) (D.state desk.new)) }
-        ensures settled { OnOk result (IsTrue (D.tells desk.old) → IsSettled (D.state desk.new) (D.may_leave desk.new)) }
-        ensures other { OnOk result (IsTrue (D.tells desk.old) → other_in file (D.state desk.new) ≡ other_in file (D.state desk.old)) }
-        ensures said { OnOk result (IsTrue (D.tells desk.old) → (D.state desk.new).said ≡ (D.state desk.old).said) }
+        ensures rewrites { OnOk result (Rewrites D.Desk file
+            (IsMadeOver (header_bytes generation number) framed_state.now) desk.old desk.new) }
+        ensures made { IfOk result (λ j. IsMade D.Desk j framed_state.now desk.old desk.new) }
+        ensures current { IfOk result (λ j. ForSnapshot D.Desk file framed_state.now desk.old (λ c snapshot.
+            IsCurrent j (made generation number snapshot) (D.state desk.new))) }
 
         // A crash at any moment leaves what was held before, or the new file.
-        ensures any_moment { IsTrue (D.tells desk.old) → (c : Content) (snapshot : List ℕ) → IsHeldBeside file c (D.state desk.old) → IsFramedState framed_state.now snapshot
-            → LeavesOnly D.moment D.left_since desk.old desk.new (IsBeforeOrMade file c (made generation number snapshot) (D.state desk.old)) }
+        ensures any_moment { ForSnapshot D.Desk file framed_state.now desk.old (λ c snapshot.
+            LeavesOnly D.Desk desk.old desk.new
+            (IsBeforeOrMade file c (made generation number snapshot) (D.state desk.old))) }
 
-        ensures tells { D.tells desk.new ≡ D.tells desk.old }
-        ensures later { D.disk_faults desk.old ≤ D.disk_faults desk.new }
-        ensures say_faults { D.say_faults desk.new ≡ D.say_faults desk.old }
-
-        // Each other answer has its cause.
-        ensures disk { result ≡ Err AppendFault.Disk → Rose (D.disk_faults desk.old) (D.disk_faults desk.new) }
-        ensures full { (n : ℕ) → result ≡ Err (AppendFault.Full n) → (n ≡ 21 + length framed_state.now) × (limit < n) × (desk.new ≡ desk.old) }
-        ensures fits { limit < 21 + length framed_state.now → result ≡ Err (AppendFault.Full (21 + length framed_state.now)) }
+        // Each other answer has its cause, and no failed call is passed over.
+        ensures counts { Counts D.Desk desk.old desk.new result }
+        ensures full { (n : ℕ) → result ≡ Err (AppendFault.Full n)
+            → HasNoRoom limit 21 framed_state.now n × (desk.new ≡ desk.old) }
+        ensures fits { (n : ℕ) → HasNoRoom limit 21 framed_state.now n → result ≡ Err (AppendFault.Full n) }
     {
         let end = HEADER as u64 + 1 + framed_state.len() as u64;
         if end > limit {

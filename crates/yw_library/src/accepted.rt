@@ -9,9 +9,9 @@ use crate::built::is_built_spec;
 use std::alloc::Global;
 use yw_base::Text;
 use yw_check::{CheckFault, check};
-use yw_model::{Refusal, Rule};
 use yw_read::{ReadFault, read_spec};
 use yw_spec::Spec;
+use yw_state::{Refusal, Rule};
 
 /// A refusal by a rule that has no place. It takes no memory.
 pub fn placeless(alloc: Global, rule: Rule) -> Refusal

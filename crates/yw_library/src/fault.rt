@@ -3,7 +3,7 @@ ghost use Rattle.std.specs.Prelude.{◌≡◌};
 ghost use Rattle.yw_library.specs.declared.fault.LibraryFault.TheVariants.{Memory};
 
 use std::alloc::AllocError;
-use yw_model::Refusal;
+use yw_state::Refusal;
 
 /// Why a specification isn't loaded.
 #[derive(Debug, Drop)]

@@ -22,9 +22,8 @@ use std::alloc::{AllocError, Global};
 use std::marker::Model;
 use std::mem;
 use yw_base::{Items, Name, NameFault, NameList, Text};
-use yw_model::Rule;
 use yw_spec::Spec;
-use yw_state::{Loaded, LoadedList};
+use yw_state::{Loaded, LoadedList, Rule};
 
 /// The persons with their roles, and the specifications that are loaded. Both are found by name without a
 /// scan. A contract sees two lists, and by `state_of` the state that they stand for.

@@ -9,10 +9,33 @@ ghost use Rattle.std.specs.Option.{option_map_or};
 ghost use Rattle.std.specs.Vec.Iter.{into_iter_items};
 
 use std::alloc::AllocError;
+use std::fs::{File, OpenOptions};
+use std::os::fd::AsRawFd;
 use std::process::ExitCode;
 use std::{env, io};
 use yw_adapt::{FolderDesk, StdSource};
 use yw_serve::{Status, serve};
+
+/// The last of the three descriptors that a program is begun with: standard error.
+const LAST_STANDARD: i32 = 2;
+
+/// Fills whichever of the descriptors 0 to 2 is closed with the null device, so that no file of the folder comes to
+/// stand where input is read from or replies go to. They are filled as long as the answer is held. An `Err` says that
+/// the null device couldn't be opened.
+fn fill_descriptors(rt: &HostRuntime) -> io::Result<[Option<File>; 3]> {
+    let mut how = OpenOptions::new();
+    how.read(true).write(true);
+    let mut held = [None, None, None];
+    for place in held.iter_mut() {
+        // It gets the least number that is free.
+        let file = how.open(rt, "/dev/null")?;
+        if file.as_raw_fd() > LAST_STANDARD {
+            break;
+        }
+        *place = Some(file);
+    }
+    Ok(held)
+}
 
 /// The words behind the program's name. An `Err` says that no memory was left.
 fn words_of(rt: &HostRuntime, args: env::Args) -> Result<Vec<String>, AllocError>
@@ -40,6 +63,9 @@ fn behind_first(words: &[String]) -> &[String]
 
 /// Words that can't be read at all have none of the forms.
 fn main(rt: HostRuntime) -> ExitCode {
+    let Ok(_held) = fill_descriptors(&rt) else {
+        return ExitCode::from(Status::Disk as u8);
+    };
     let Ok(args) = env::args(&rt) else {
         return ExitCode::from(Status::Usage as u8);
     };

@@ -23,20 +23,20 @@ use Rattle.yw_state.specs.declared.event.Event.TheVariants as events
 use Rattle.yw_state.specs.declared.rule.Refusal.{Refusal}
 use Rattle.yw_state.specs.declared.rule.Rule.{Rule}
 use Rattle.yw_state.specs.declared.rule.Rule.TheVariants.{NotCommand, NotBuilt, SpecText, SpecShape, SpecExists}
-use Rattle.yw_model.specs.declared.word.Word.{Word}
-use Rattle.yw_model.specs.declared.word.Word.TheVariants as words
+use Rattle.yw_lines.specs.declared.word.Word.{Word}
+use Rattle.yw_lines.specs.declared.word.Word.TheVariants as words
 use Rattle.yw_model.specs.Accepted.{document_in, check_refusal, is_built_spec, JudgesSaid}
 use Rattle.yw_base.specs.Spelling.{is_name}
-use Rattle.yw_model.specs.Fields.{field, only_if, has_members, line_text_of, list_of, name_of, one_of, roles_of}
+use Rattle.yw_lines.specs.Fields.{field, only_if, has_members, line_text_of, list_of, name_of, one_of, roles_of}
 use Rattle.yw_state.specs.Allowed.{are_roles}
-use Rattle.yw_model.specs.Lines.{line_limit}
-use Rattle.yw_model.specs.Meaning.{meaning, text_meaning, value_meaning, word_meaning}
-use Rattle.yw_model.specs.Replies.{done, refused}
+use Rattle.yw_lines.specs.Lines.{line_limit}
+use Rattle.yw_lines.specs.Meaning.{meaning, text_meaning, value_meaning, word_meaning}
+use Rattle.yw_lines.specs.Replies.{done, refused}
 use Rattle.yw_state.specs.Broken.{Breaks, placeless}
 use Rattle.yw_model.specs.Run.{built_words, CanBeAsked, CannotLack, Step, Refuses, MeaningAnswers, Answers}
-use Rattle.yw_model.specs.Shapes.{◌>>=◌, person_shape, load_shape}
-use Rattle.yw_model.specs.Values.{each_of}
-use Rattle.yw_model.specs.Words.{word_in}
+use Rattle.yw_lines.specs.Shapes.{◌>>=◌, person_shape, load_shape}
+use Rattle.yw_lines.specs.Values.{each_of}
+use Rattle.yw_lines.specs.Words.{word_in}
 use Rattle.yw_spec.specs.declared.spec.Spec.{Spec}
 use Rattle.yw_said.proofs.SomeSpec.{says_some}
 use Rattle.yw_state.specs.Automatic.{case_of}
@@ -51,7 +51,7 @@ use Rattle.yw_model.proofs.Alone.{legal_alone}
 use Rattle.yw_model.proofs.Loading.{known_breaks, load_asked, load_leads, new_unbroken, person_asked, person_leads, person_unbroken, unbuilt_unfit, unfit_breaks}
 use Rattle.yw_model.proofs.Judging.{verdict_finds}
 use Rattle.yw_model.proofs.Lacking.{here, follows}
-use Rattle.yw_model.proofs.MeaningLemmas.{meaning-take}
+use Rattle.yw_lines.proofs.MeaningLemmas.{meaning-take}
 
 -- ---- what a line asks, as it is written
 

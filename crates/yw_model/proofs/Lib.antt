@@ -1,5 +1,3 @@
-pub mod LinesLemmas
-pub mod MeaningLemmas
 pub mod Lacking
 pub mod Judging
 pub mod ReadingOnce

@@ -1,14 +1,3 @@
-pub mod Lines
-pub mod Words
-pub mod Identities
-pub mod Values
-pub mod Kinds
-pub mod Primitives
-pub mod Fields
-pub mod Shapes
-pub mod Meaning
-pub mod EventTexts
-pub mod Replies
 pub mod Accepted
 pub mod Texts
 pub mod Run

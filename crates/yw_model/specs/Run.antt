@@ -3,8 +3,8 @@ use Rattle.std.specs.Prelude.{ℕ, ◌+◌, ◌≡◌, List, [], ◌∷◌, ◌+
 use Rattle.yw_model.specs.Texts.{reader}
 use Rattle.yw_state.specs.State.{State}
 use Rattle.yw_state.specs.Legal.{IsLegal}
-use Rattle.yw_model.specs.Meaning.{meaning}
-use Rattle.yw_model.specs.Replies.{done, refused}
+use Rattle.yw_lines.specs.Meaning.{meaning}
+use Rattle.yw_lines.specs.Replies.{done, refused}
 use Rattle.yw_state.specs.Broken.{Breaks, placeless}
 use Rattle.yw_state.specs.declared.rule.Rule.{Rule}
 use Rattle.yw_state.specs.declared.rule.Rule.TheVariants.{NotBuilt}
@@ -15,8 +15,8 @@ use Rattle.yw_state.specs.declared.command.Command.{Command}
 use Rattle.yw_state.specs.declared.command.Command.TheVariants as commands
 use Rattle.yw_state.specs.Allowed.{are_roles}
 use Rattle.yw_state.specs.declared.event.Event.{Event}
-use Rattle.yw_model.specs.declared.word.Word.{Word}
-use Rattle.yw_model.specs.declared.word.Word.TheVariants as words
+use Rattle.yw_lines.specs.declared.word.Word.{Word}
+use Rattle.yw_lines.specs.declared.word.Word.TheVariants as words
 
 -- the words whose commands are built
 abbrev pub built_words : List Word

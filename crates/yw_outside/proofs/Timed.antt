@@ -6,11 +6,11 @@ use Rattle.yw_outside.specs.declared.disk.Disk.{Disk}
 use Rattle.yw_outside.specs.declared.image.Image.{Image}
 use Rattle.yw_outside.specs.declared.log.Call.{Call}
 use Rattle.yw_outside.specs.declared.log.Call.TheVariants.{Look, Write, Sync, Say}
-use Rattle.yw_outside.specs.Disk.{first_of, calls_of, reads_as, moment_of, Adds, Goes}
+use Rattle.yw_outside.specs.Disk.{first_of, calls_of, reads_as, moment_of, left_since_of, may_leave_of, Adds}
 use Rattle.yw_outside.specs.Image.{file_in, Stays, Writes, Speaks}
 use Rattle.yw_outside.specs.Log.{MayLeave, StandsWhole, LeftSince}
 use Rattle.yw_outside.specs.LogLaws.{passes, rests, stays, silent, untorn, whole_write}
-use Rattle.yw_outside.specs.Moments.{After, Passes}
+use Rattle.yw_outside.specs.Moments.{Goes, After, Passes}
 
 module _ (may : Image → List Call → Image → Type 0) (step : Image → Image → Type 0) (old new : Disk) where
   abbrev PassesTo : Image → List Call → Type 0
@@ -29,17 +29,17 @@ module _ {T E : Type 0} (old new : Disk) (r : Result T E) where
   look_crash : (base : Image) (older : List Call) (c : Image) → MayLeave base (Look ∷ older) c → After Stays (MayLeave base older) c
   look_crash base older c h = (c, h, refl)
 
-  pub look_goes : Adds Look old r new → Goes Stays old new
+  pub look_goes : Adds Look old r new → Goes moment_of left_since_of may_leave_of Stays old new
   look_goes = timed MayLeave Stays old new Look stays (look_crash (first_of old) (calls_of old)) r
 
   sync_crash : (f : File) (done : Bool) (base : Image) (older : List Call) (c : Image) → MayLeave base (cond done (Sync f) Look ∷ older) c → After Stays (MayLeave base older) c
   sync_crash f true base older c h = (c, h.0, refl)
   sync_crash f false base older c h = (c, h, refl)
 
-  pub sync_goes : (f : File) (done : Bool) → Adds (cond done (Sync f) Look) old r new → Goes Stays old new
+  pub sync_goes : (f : File) (done : Bool) → Adds (cond done (Sync f) Look) old r new → Goes moment_of left_since_of may_leave_of Stays old new
   sync_goes f done = timed MayLeave Stays old new (cond done (Sync f) Look) stays (sync_crash f done (first_of old) (calls_of old)) r
 
-  pub write_goes : (f : File) (at : ℕ) (bytes : List ℕ) (done : Bool) → Adds (Write f at bytes done) old r new → Goes (Writes f at (length bytes)) old new
+  pub write_goes : (f : File) (at : ℕ) (bytes : List ℕ) (done : Bool) → Adds (Write f at bytes done) old r new → Goes moment_of left_since_of may_leave_of (Writes f at (length bytes)) old new
   write_goes f at bytes done = timed MayLeave (Writes f at (length bytes)) old new (Write f at bytes done) (untorn f at (length bytes)) (λ c h. h) r
 
   say_crash : (bytes : List ℕ) (done : Bool) (base : Image) (older : List Call) (c : Image) → MayLeave base (cond done (Say bytes) Look ∷ older) c → After (Speaks bytes) (MayLeave base older) c
@@ -47,7 +47,7 @@ module _ {T E : Type 0} (old new : Disk) (r : Result T E) where
       (h.0, h.1, record { a = ap (λ (i : Image). i.a) h.2; b = ap (λ (i : Image). i.b) h.2; said = (bytes, [], sym (append-nil bytes), ap (λ (i : Image). i.said) h.2) })
   say_crash bytes false base older c h = (c, h, silent bytes c)
 
-  pub say_goes : (bytes : List ℕ) (done : Bool) → Adds (cond done (Say bytes) Look) old r new → Goes (Speaks bytes) old new
+  pub say_goes : (bytes : List ℕ) (done : Bool) → Adds (cond done (Say bytes) Look) old r new → Goes moment_of left_since_of may_leave_of (Speaks bytes) old new
   say_goes bytes done = timed MayLeave (Speaks bytes) old new (cond done (Say bytes) Look) (silent bytes) (say_crash bytes done (first_of old) (calls_of old)) r
 
   -- where it stands whole at once

@@ -6,7 +6,6 @@ use Rattle.yw_outside.specs.declared.log.Made.{Made}
 use Rattle.yw_outside.specs.declared.disk.Disk.{Disk}
 use Rattle.yw_outside.specs.Counts.{one_more}
 use Rattle.yw_outside.specs.Log.{state_of, calls_in, up_to, MayLeave, LeftSince}
-use Rattle.yw_outside.specs.Moments.{Passes}
 use Rattle.yw_outside.specs.Stored.{at_first}
 
 -- the files at first
@@ -43,10 +42,6 @@ moment_of d = length (calls_of d)
 -- what a crash at some moment from that one on might have left
 abbrev pub left_since_of : Disk → ℕ → Image → Type 0
 left_since_of d = LeftSince (MayLeave (first_of d)) (calls_of d)
-
--- a call that takes this step, or finds no memory
-abbrev pub Goes : (Image → Image → Type 0) → Disk → Disk → Type 0
-Goes step old new = Passes step (moment_of old) (moment_of new) (left_since_of old) (left_since_of new) (may_leave_of old) (may_leave_of new)
 
 -- the calls up to this number, the newest first
 abbrev pub calls_up_to : Disk → ℕ → List Call

@@ -36,19 +36,19 @@ mixed_left base (Say bytes ∷ older) c d p q = (
 )
 
 -- fewer bytes than the write had, at its place
-short_torn : (at n : ℕ) (front old : List ℕ) → at ≤ length old → length front ≤ n → Torn at n old (overwritten old at front)
-short_torn at n front old le few =
+short_torn : (at n : ℕ) (prefix old : List ℕ) → at ≤ length old → length prefix ≤ n → Torn at n old (overwritten old at prefix)
+short_torn at n prefix old le few =
     let head : length (take at old) ≡ at = omega (arith, length-take at old) in
-    let size : length (take at old ++ front) ≡ at + length front = omega (arith, length-append (take at old) front, head) in
+    let size : length (take at old ++ prefix) ≡ at + length prefix = omega (arith, length-append (take at old) prefix, head) in
     record {
-      before = ap (take at) (append_assoc (take at old) front (drop (at + length front) old)) ∙ take_at (take at old) (front ++ drop (at + length front) old) at head;
-      after = in_two (overwritten old at front) ∙ ap (drop (n - length front)) (drop_at (take at old ++ front) (drop (at + length front) old) (at + length front) size) ∙ sym (in_two old);
-      no_shorter = omega (arith, length-append (take at old ++ front) (drop (at + length front) old), size, length-drop (at + length front) old);
-      no_longer = omega (arith, length-append (take at old ++ front) (drop (at + length front) old), size, length-drop (at + length front) old);
+      before = ap (take at) (append_assoc (take at old) prefix (drop (at + length prefix) old)) ∙ take_at (take at old) (prefix ++ drop (at + length prefix) old) at head;
+      after = in_two (overwritten old at prefix) ∙ ap (drop (n - length prefix)) (drop_at (take at old ++ prefix) (drop (at + length prefix) old) (at + length prefix) size) ∙ sym (in_two old);
+      no_shorter = omega (arith, length-append (take at old ++ prefix) (drop (at + length prefix) old), size, length-drop (at + length prefix) old);
+      no_longer = omega (arith, length-append (take at old ++ prefix) (drop (at + length prefix) old), size, length-drop (at + length prefix) old);
     }
   where
-    in_two : (l : List ℕ) → drop (at + n) l ≡ drop (n - length front) (drop (at + length front) l)
-    in_two l = ap (λ (m : ℕ). drop m l) (omega arith) ∙ sym (drop-drop (n - length front) (at + length front) l)
+    in_two : (l : List ℕ) → drop (at + n) l ≡ drop (n - length prefix) (drop (at + length prefix) l)
+    in_two l = ap (λ (m : ℕ). drop m l) (omega arith) ∙ sym (drop-drop (n - length prefix) (at + length prefix) l)
 
 -- no bytes over others leave them
 nothing : (at : ℕ) (l : List ℕ) → stamped l at [] ≡ l
@@ -68,10 +68,10 @@ front_fits (Byte b) bytes done = omega (arith, length-replicate (length bytes) b
 same_torn : (at n : ℕ) (l : List ℕ) → Torn at n l l
 same_torn at n l = record { before = refl; after = refl; no_shorter = omega arith; no_longer = omega arith }
 
-stamped_torn : (at n : ℕ) (front left : List ℕ) → length front ≤ n → Torn at n left (stamped left at front)
-stamped_torn at n front left few =
-    elim (nat_le at (length left)) as (λ b. nat_le at (length left) ≡ b → Torn at n left (cond b (overwritten left at front) left)) [
-      | true ↦ λ e. short_torn at n front left (leb-true at (length left) e) few
+stamped_torn : (at n : ℕ) (prefix left : List ℕ) → length prefix ≤ n → Torn at n left (stamped left at prefix)
+stamped_torn at n prefix left few =
+    elim (nat_le at (length left)) as (λ b. nat_le at (length left) ≡ b → Torn at n left (cond b (overwritten left at prefix) left)) [
+      | true ↦ λ e. short_torn at n prefix left (leb-true at (length left) e) few
       | false ↦ λ e. same_torn at n left
     ] refl
 

@@ -32,7 +32,7 @@ front_of (Byte b) bytes done = replicate (length bytes) b
 
 -- where it begins within what stands already
 abbrev pub stamped : List ℕ → ℕ → List ℕ → List ℕ
-stamped left at front = if nat_le at (length left) then overwritten left at front else left
+stamped left at prefix = if nat_le at (length left) then overwritten left at prefix else left
 
 -- what stands of a file after these calls
 abbrev pub standing : File → Fill → Image → List Call → List ℕ

@@ -39,16 +39,16 @@ pub record Writes (f : File) (at n : ℕ) (old new : Image) : Type 0 where
   pub other : other_in f new ≡ other_in f old
   pub said : new.said ≡ old.said
 
--- a front of the bytes is said
+-- a prefix of the bytes is said
 abbrev pub SaysPart : List ℕ → List ℕ → List ℕ → Type 0
-SaysPart old bytes new = (front : List ℕ) × (back : List ℕ) × (bytes ≡ front ++ back) × (new ≡ old ++ front)
+SaysPart old bytes new = (prefix : List ℕ) × (rest : List ℕ) × (bytes ≡ prefix ++ rest) × (new ≡ old ++ prefix)
 
 pub record Speaks (bytes : List ℕ) (old new : Image) : Type 0 where
   pub a : new.a ≡ old.a
   pub b : new.b ≡ old.b
   pub said : SaysPart old.said bytes new.said
 
--- all is said at Ok, and a front of it else
+-- all is said at Ok, and a prefix of it else
 abbrev pub Says : {T E : Type 0} → List ℕ → List ℕ → Result T E → List ℕ → Type 0
 Says old bytes result new = MatchResult result (λ _. new ≡ old ++ bytes) (λ _. SaysPart old bytes new)
 

@@ -1,6 +1,7 @@
 pub mod Causes
 pub mod Image
 pub mod Moments
+pub mod Since
 pub mod Tells
 pub mod Log
 pub mod LogLaws

@@ -56,12 +56,12 @@ module _ (may : List Call → Image → Type 0) where
 -- a write that stands whole is one of those that a crash may leave of it
 pub whole : (at : ℕ) (bytes old : List ℕ) → at ≤ length old → Torn at (length bytes) old (overwritten old at bytes)
 whole at bytes old le =
-    let front : length (take at old) ≡ at = omega (arith, length-take at old) in
+    let prefix : length (take at old) ≡ at = omega (arith, length-take at old) in
     record {
-      before = ap (take at) (append_assoc (take at old) bytes (drop (at + length bytes) old)) ∙ take_at (take at old) (bytes ++ drop (at + length bytes) old) at front;
-      after = drop_at (take at old ++ bytes) (drop (at + length bytes) old) (at + length bytes) (omega (arith, length-append (take at old) bytes, front));
-      no_shorter = omega (arith, length-append (take at old ++ bytes) (drop (at + length bytes) old), length-append (take at old) bytes, front, length-drop (at + length bytes) old);
-      no_longer = omega (arith, length-append (take at old ++ bytes) (drop (at + length bytes) old), length-append (take at old) bytes, front, length-drop (at + length bytes) old);
+      before = ap (take at) (append_assoc (take at old) bytes (drop (at + length bytes) old)) ∙ take_at (take at old) (bytes ++ drop (at + length bytes) old) at prefix;
+      after = drop_at (take at old ++ bytes) (drop (at + length bytes) old) (at + length bytes) (omega (arith, length-append (take at old) bytes, prefix));
+      no_shorter = omega (arith, length-append (take at old ++ bytes) (drop (at + length bytes) old), length-append (take at old) bytes, prefix, length-drop (at + length bytes) old);
+      no_longer = omega (arith, length-append (take at old ++ bytes) (drop (at + length bytes) old), length-append (take at old) bytes, prefix, length-drop (at + length bytes) old);
     }
 
 pub whole_write : (f : File) (at : ℕ) (bytes : List ℕ) (i : Image) → at ≤ length (file_in f i) → Writes f at (length bytes) i (with_file f (overwritten (file_in f i) at bytes) i)

@@ -16,6 +16,11 @@ pub record Passes (step : Image → Image → Type 0) (before now : ℕ) (past s
   pub within : (t : ℕ) (c : Image) → t ≤ before → since t c → past t c ⊎ After step old c
   pub keeps : (t : ℕ) (c : Image) → t ≤ before → past t c → since t c
 
+-- A call of a desk that takes this step. The desk was `old` and is `new`.
+abbrev pub Goes : {D : Type 0} → (D → ℕ) → (D → ℕ → Image → Type 0) → (D → Image → Type 0) → (Image → Image → Type 0) → D → D → Type 0
+Goes moment left_since may_leave step old new =
+    Passes step (moment old) (moment new) (left_since old) (left_since new) (may_leave old) (may_leave new)
+
 -- a crash leaves of this file what a read gives
 abbrev pub IsDurable : File → Image → (Image → Type 0) → Type 0
 IsDurable f state outcomes = (c : Image) → outcomes c → file_in f c ≡ file_in f state
@@ -24,10 +29,3 @@ IsDurable f state outcomes = (c : Image) → outcomes c → file_in f c ≡ file
 pub record IsSettled (state : Image) (outcomes : Image → Type 0) : Type 0 where
   pub a : IsDurable A state outcomes
   pub b : IsDurable B state outcomes
-
--- A crash at any moment since old leaves what has P.
-pub record LeavesOnly {D : Type 0} (moment : D → ℕ) (left_since : D → ℕ → Image → Type 0) (old new : D) (P : Image → Type 0) : Type 0 where
-  pub later : moment old ≤ moment new
-  pub each : (c : Image) → left_since new (moment old) c → P c
-  -- for a run that began earlier
-  pub before : (t : ℕ) (c : Image) → t ≤ moment old → left_since new t c → left_since old t c ⊎ P c

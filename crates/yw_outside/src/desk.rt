@@ -16,7 +16,7 @@ pub trait Desk {
     ghost use Rattle.yw_outside.specs.declared.image.Image.{Image};
     ghost use Rattle.yw_outside.specs.Causes.{HasCause};
     ghost use Rattle.yw_outside.specs.Image.{file_in, Stays, Writes, Written, Speaks, Says};
-    ghost use Rattle.yw_outside.specs.Moments.{Passes, IsDurable};
+    ghost use Rattle.yw_outside.specs.Moments.{Goes, IsDurable};
 
     /// Whether it tells what it holds.
     ghost tells: { Self → Bool };
@@ -45,7 +45,7 @@ pub trait Desk {
         ensures bound { IfOk result (λ n. n < 2 ^ 63) }
         ensures tells { tells self.new ≡ tells self.old }
         ensures state { state self.new ≡ state self.old }
-        ensures time { Passes Stays (moment self.old) (moment self.new) (left_since self.old) (left_since self.new) (may_leave self.old) (may_leave self.new) }
+        ensures time { Goes moment left_since may_leave Stays self.old self.new }
         ensures cause { HasCause (disk_faults self.old) (disk_faults self.new) result }
         ensures other_cause { say_faults self.new ≡ say_faults self.old };
 
@@ -55,7 +55,7 @@ pub trait Desk {
         ensures bytes { IsTrue (tells self.old) → OnOk result (buf.new ≡ take (length buf.old) (drop at (file_in f (state self.old)))) }
         ensures tells { tells self.new ≡ tells self.old }
         ensures state { state self.new ≡ state self.old }
-        ensures time { Passes Stays (moment self.old) (moment self.new) (left_since self.old) (left_since self.new) (may_leave self.old) (may_leave self.new) }
+        ensures time { Goes moment left_since may_leave Stays self.old self.new }
         ensures cause { HasCause (disk_faults self.old) (disk_faults self.new) result }
         ensures other_cause { say_faults self.new ≡ say_faults self.old };
 
@@ -66,7 +66,7 @@ pub trait Desk {
         requires fits { at + length bytes.now < 2 ^ 63 }
         ensures written { IsTrue (tells self.old) → Written f at bytes.now (state self.old) result (state self.new) }
         ensures tells { tells self.new ≡ tells self.old }
-        ensures time { Passes (Writes f at (length bytes.now)) (moment self.old) (moment self.new) (left_since self.old) (left_since self.new) (may_leave self.old) (may_leave self.new) }
+        ensures time { Goes moment left_since may_leave (Writes f at (length bytes.now)) self.old self.new }
         ensures cause { HasCause (disk_faults self.old) (disk_faults self.new) result }
         ensures other_cause { say_faults self.new ≡ say_faults self.old };
 
@@ -75,17 +75,17 @@ pub trait Desk {
         ensures durable { OnOk result (IsDurable f (state self.old) (may_leave self.new)) }
         ensures tells { tells self.new ≡ tells self.old }
         ensures state { state self.new ≡ state self.old }
-        ensures time { Passes Stays (moment self.old) (moment self.new) (left_since self.old) (left_since self.new) (may_leave self.old) (may_leave self.new) }
+        ensures time { Goes moment left_since may_leave Stays self.old self.new }
         ensures cause { HasCause (disk_faults self.old) (disk_faults self.new) result }
         ensures other_cause { say_faults self.new ≡ say_faults self.old };
 
-    /// Adds bytes to the output, all of them at `Ok`, and else a front of them.
+    /// Adds bytes to the output, all of them at `Ok`, and else a prefix of them.
     fn say(&mut self, bytes: &[u8]) -> Result<(), Failed>
         ensures said { IsTrue (tells self.old) → Says (state self.old).said bytes.now result (state self.new).said }
         ensures files_a { (state self.new).a ≡ (state self.old).a }
         ensures files_b { (state self.new).b ≡ (state self.old).b }
         ensures tells { tells self.new ≡ tells self.old }
-        ensures time { Passes (Speaks bytes.now) (moment self.old) (moment self.new) (left_since self.old) (left_since self.new) (may_leave self.old) (may_leave self.new) }
+        ensures time { Goes moment left_since may_leave (Speaks bytes.now) self.old self.new }
         ensures cause { HasCause (say_faults self.old) (say_faults self.new) result }
         ensures other_cause { disk_faults self.new ≡ disk_faults self.old };
 

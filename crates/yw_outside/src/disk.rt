@@ -36,7 +36,8 @@ fn bytes_in<'a>(a: &'a Stored, b: &'a Stored, f: File) -> &'a [u8]
 impl Disk {
     ghost use Rattle.std.specs.Prelude.{if◌then◌else◌, [], IfOk, length};
     ghost use Rattle.yw_outside.specs.Image.{Stays, Writes, Speaks};
-    ghost use Rattle.yw_outside.specs.Disk.{first_of, log_of, calls_up_to, reads_as, Adds, Goes};
+    ghost use Rattle.yw_outside.specs.Disk.{first_of, log_of, calls_up_to, reads_as, moment_of, left_since_of, may_leave_of, Adds};
+    ghost use Rattle.yw_outside.specs.Moments.{Goes};
     ghost use Rattle.yw_outside.specs.Fills.{image_by};
 
     /// These files, no output and no calls. It takes no memory.
@@ -132,7 +133,7 @@ impl Disk {
     /// A look at a file, or a call that failed and did nothing.
     pub fn look(&mut self) -> Result<(), AllocError>
         ensures adds { Adds Call.Look self.old result self.new }
-        ensures time { Goes Stays self.old self.new }
+        ensures time { Goes moment_of left_since_of may_leave_of Stays self.old self.new }
     {
         self.keep_look()
     }
@@ -140,7 +141,7 @@ impl Disk {
     /// A sync, which succeeds or fails.
     pub fn sync(&mut self, f: File, done: bool) -> Result<(), AllocError>
         ensures adds { Adds (if done then Call.Sync f else Call.Look) self.old result self.new }
-        ensures time { Goes Stays self.old self.new }
+        ensures time { Goes moment_of left_since_of may_leave_of Stays self.old self.new }
     {
         if done {
             self.keep_sync(f)
@@ -160,7 +161,7 @@ impl Disk {
     ) -> Result<(), AllocError>
         requires { at ≤ length (file_in f (reads_as self.old)) }
         ensures adds { Adds (Call.Write f at bytes.now done) self.old result self.new }
-        ensures time { Goes (Writes f at (length bytes.now)) self.old self.new }
+        ensures time { Goes moment_of left_since_of may_leave_of (Writes f at (length bytes.now)) self.old self.new }
     {
         self.keep_write(alloc, f, at, bytes, done)
     }
@@ -168,7 +169,7 @@ impl Disk {
     /// A `say`, which says all, or fails and says nothing.
     pub fn say(&mut self, alloc: Global, bytes: &[u8], done: bool) -> Result<(), AllocError>
         ensures adds { Adds (if done then Call.Say bytes.now else Call.Look) self.old result self.new }
-        ensures time { Goes (Speaks bytes.now) self.old self.new }
+        ensures time { Goes moment_of left_since_of may_leave_of (Speaks bytes.now) self.old self.new }
     {
         if done {
             self.keep_say(alloc, bytes)

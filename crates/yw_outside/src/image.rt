@@ -16,7 +16,7 @@ pub enum Fill {
     Old,
     /// What a read gives.
     New,
-    /// Of each write in turn the first half of its bytes, rounded down. A write that begins behind what
+    /// Of each write in turn the first half of its bytes, rounded down. A write that begins past what
     /// then stands leaves nothing.
     Half,
     /// This byte, over the whole of each range, up to the last byte written.

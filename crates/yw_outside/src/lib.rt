@@ -12,8 +12,6 @@ mod never_source;
 mod replay;
 mod source;
 mod stored;
-#[cfg(test)]
-mod tests;
 
 pub use desk::{Desk, File};
 pub use image::{Fill, Image};

@@ -117,7 +117,6 @@ pub fn answer(
     ensures answer { IsOk result ↔ ((told ≡ false) × IsOk kept) }
     ensures cause { HasCause faults.old faults.new result }
     ensures fails { FailsWhereTold told short.old short.new result }
-    ensures ok_counts { OnOk result (faults.new ≡ faults.old) }
 {
     let kept = kept.is_ok();
     if !kept {

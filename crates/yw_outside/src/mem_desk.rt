@@ -98,7 +98,7 @@ impl Desk for MemDesk {
     ghost use Rattle.yw_outside.specs.Log.{state_of, MayLeave};
     ghost use Rattle.yw_outside.specs.LogLaws as laws;
     ghost use Rattle.yw_outside.specs.MemDesk.{first_of, calls_of, reads_as, may_leave_of, moment_of, left_since_of, disk_faults_of, say_faults_of, is_told, short_of, GoesOn};
-    ghost use Rattle.yw_outside.specs.Moments.{Passes, IsDurable};
+    ghost use Rattle.yw_outside.specs.Moments.{Goes, IsDurable};
 
     ghost tells = { λ _. true };
 
@@ -126,7 +126,7 @@ impl Desk for MemDesk {
         ensures value { IfOk result (λ n. n ≡ length (file_in f (reads_as self.old))) }
         ensures bound { IfOk result (λ n. n < 2 ^ 63) }
         ensures state { reads_as self.new ≡ reads_as self.old }
-        ensures time { Passes Stays (moment_of self.old) (moment_of self.new) (left_since_of self.old) (left_since_of self.new) (may_leave_of self.old) (may_leave_of self.new) }
+        ensures time { Goes moment_of left_since_of may_leave_of Stays self.old self.new }
         ensures cause { HasCause (disk_faults_of self.old) (disk_faults_of self.new) result }
         ensures other_cause { say_faults_of self.new ≡ say_faults_of self.old }
         ensures fails { FailsWhereTold (is_told self.old) (short_of self.old) (short_of self.new) result }
@@ -142,7 +142,7 @@ impl Desk for MemDesk {
         requires { at + length buf.old ≤ length (file_in f (reads_as self.old)) }
         ensures bytes { OnOk result (buf.new ≡ take (length buf.old) (drop at (file_in f (reads_as self.old)))) }
         ensures state { reads_as self.new ≡ reads_as self.old }
-        ensures time { Passes Stays (moment_of self.old) (moment_of self.new) (left_since_of self.old) (left_since_of self.new) (may_leave_of self.old) (may_leave_of self.new) }
+        ensures time { Goes moment_of left_since_of may_leave_of Stays self.old self.new }
         ensures cause { HasCause (disk_faults_of self.old) (disk_faults_of self.new) result }
         ensures other_cause { say_faults_of self.new ≡ say_faults_of self.old }
         ensures fails { FailsWhereTold (is_told self.old) (short_of self.old) (short_of self.new) result }
@@ -161,7 +161,7 @@ impl Desk for MemDesk {
         requires within { at ≤ length (file_in f (reads_as self.old)) }
         requires fits { at + length bytes.now < 2 ^ 63 }
         ensures written { Written f at bytes.now (reads_as self.old) result (reads_as self.new) }
-        ensures time { Passes (Writes f at (length bytes.now)) (moment_of self.old) (moment_of self.new) (left_since_of self.old) (left_since_of self.new) (may_leave_of self.old) (may_leave_of self.new) }
+        ensures time { Goes moment_of left_since_of may_leave_of (Writes f at (length bytes.now)) self.old self.new }
         ensures cause { HasCause (disk_faults_of self.old) (disk_faults_of self.new) result }
         ensures other_cause { say_faults_of self.new ≡ say_faults_of self.old }
         ensures fails { FailsWhereTold (is_told self.old) (short_of self.old) (short_of self.new) result }
@@ -176,7 +176,7 @@ impl Desk for MemDesk {
     fn sync(&mut self, f: File) -> Result<(), Failed>
         ensures durable { OnOk result (IsDurable f (reads_as self.old) (may_leave_of self.new)) }
         ensures state { reads_as self.new ≡ reads_as self.old }
-        ensures time { Passes Stays (moment_of self.old) (moment_of self.new) (left_since_of self.old) (left_since_of self.new) (may_leave_of self.old) (may_leave_of self.new) }
+        ensures time { Goes moment_of left_since_of may_leave_of Stays self.old self.new }
         ensures cause { HasCause (disk_faults_of self.old) (disk_faults_of self.new) result }
         ensures other_cause { say_faults_of self.new ≡ say_faults_of self.old }
         ensures fails { FailsWhereTold (is_told self.old) (short_of self.old) (short_of self.new) result }
@@ -191,7 +191,7 @@ impl Desk for MemDesk {
         ensures said { Says (reads_as self.old).said bytes.now result (reads_as self.new).said }
         ensures files_a { (reads_as self.new).a ≡ (reads_as self.old).a }
         ensures files_b { (reads_as self.new).b ≡ (reads_as self.old).b }
-        ensures time { Passes (Speaks bytes.now) (moment_of self.old) (moment_of self.new) (left_since_of self.old) (left_since_of self.new) (may_leave_of self.old) (may_leave_of self.new) }
+        ensures time { Goes moment_of left_since_of may_leave_of (Speaks bytes.now) self.old self.new }
         ensures cause { HasCause (say_faults_of self.old) (say_faults_of self.new) result }
         ensures other_cause { disk_faults_of self.new ≡ disk_faults_of self.old }
         ensures fails { FailsWhereTold (is_told self.old) (short_of self.old) (short_of self.new) result }

@@ -1,7 +1,7 @@
 // A source in memory that fails where it is told to.
 ghost use Rattle.std.specs.Prelude.{◌≡◌, ◌≤◌, Some, vec_len, drop};
 
-use crate::source::copy_front;
+use crate::source::copy_prefix;
 use crate::{Failed, Source};
 
 /// Gives its bytes in pieces, and fails at the reads that it is told.
@@ -77,7 +77,7 @@ impl Source for MemSource {
             self.faults = self.faults.saturating_add(1);
             return Err(Failed);
         }
-        let count = copy_front(&self.bytes[self.at..], self.most, buf);
+        let count = copy_prefix(&self.bytes[self.at..], self.most, buf);
         self.at += count;
         self.piece = count;
         Ok(count)

@@ -55,7 +55,7 @@ impl Desk for NeverDesk {
     ghost use Rattle.yw_outside.specs.Log.{StandsWhole};
     ghost use Rattle.yw_outside.specs.LogLaws as laws;
     ghost use Rattle.yw_outside.specs.NeverDesk.{first_of, calls_of, reads_as, may_leave_of, moment_of, left_since_of, disk_faults_of, say_faults_of, short_of};
-    ghost use Rattle.yw_outside.specs.Moments.{Passes, IsDurable};
+    ghost use Rattle.yw_outside.specs.Moments.{Goes, IsDurable};
 
     ghost tells = { λ _. true };
 
@@ -83,7 +83,7 @@ impl Desk for NeverDesk {
     fn len(&mut self, f: File) -> Result<u64, Failed>
         ensures value { IfOk result (λ n. n ≡ length (file_in f (reads_as self.old))) }
         ensures bound { IfOk result (λ n. n < 2 ^ 63) }
-        ensures time { Passes Stays (moment_of self.old) (moment_of self.new) (left_since_of self.old) (left_since_of self.new) (may_leave_of self.old) (may_leave_of self.new) }
+        ensures time { Goes moment_of left_since_of may_leave_of Stays self.old self.new }
         ensures never { IsOk result }
         ensures same { self.new ≡ self.old }
     {
@@ -94,7 +94,7 @@ impl Desk for NeverDesk {
     fn read(&mut self, f: File, at: u64, buf: &mut [u8]) -> Result<(), Failed>
         requires { at + length buf.old ≤ length (file_in f (reads_as self.old)) }
         ensures bytes { OnOk result (buf.new ≡ take (length buf.old) (drop at (file_in f (reads_as self.old)))) }
-        ensures time { Passes Stays (moment_of self.old) (moment_of self.new) (left_since_of self.old) (left_since_of self.new) (may_leave_of self.old) (may_leave_of self.new) }
+        ensures time { Goes moment_of left_since_of may_leave_of Stays self.old self.new }
         ensures never { IsOk result }
         ensures same { self.new ≡ self.old }
     {
@@ -109,11 +109,10 @@ impl Desk for NeverDesk {
         requires within { at ≤ length (file_in f (reads_as self.old)) }
         requires fits { at + length bytes.now < 2 ^ 63 }
         ensures written { Written f at bytes.now (reads_as self.old) result (reads_as self.new) }
-        ensures time { Passes (Writes f at (length bytes.now)) (moment_of self.old) (moment_of self.new) (left_since_of self.old) (left_since_of self.new) (may_leave_of self.old) (may_leave_of self.new) }
+        ensures time { Goes moment_of left_since_of may_leave_of (Writes f at (length bytes.now)) self.old self.new }
         ensures cause { HasCause (disk_faults_of self.old) (disk_faults_of self.new) result }
         ensures other_cause { say_faults_of self.new ≡ say_faults_of self.old }
         ensures short { HasCause (short_of self.old) (short_of self.new) result }
-        ensures none_short { OnOk result (short_of self.new ≡ short_of self.old) }
         ensures nothing { OnErr result (reads_as self.new ≡ reads_as self.old) }
     {
         let kept = self.disk.write(self.alloc, f, at, bytes, true);
@@ -123,7 +122,7 @@ impl Desk for NeverDesk {
     /// Never fails.
     fn sync(&mut self, f: File) -> Result<(), Failed>
         ensures durable { OnOk result (IsDurable f (reads_as self.old) (may_leave_of self.new)) }
-        ensures time { Passes Stays (moment_of self.old) (moment_of self.new) (left_since_of self.old) (left_since_of self.new) (may_leave_of self.old) (may_leave_of self.new) }
+        ensures time { Goes moment_of left_since_of may_leave_of Stays self.old self.new }
         ensures never { IsOk result }
         ensures same { self.new ≡ self.old }
     {
@@ -135,11 +134,10 @@ impl Desk for NeverDesk {
         ensures said { Says (reads_as self.old).said bytes.now result (reads_as self.new).said }
         ensures files_a { (reads_as self.new).a ≡ (reads_as self.old).a }
         ensures files_b { (reads_as self.new).b ≡ (reads_as self.old).b }
-        ensures time { Passes (Speaks bytes.now) (moment_of self.old) (moment_of self.new) (left_since_of self.old) (left_since_of self.new) (may_leave_of self.old) (may_leave_of self.new) }
+        ensures time { Goes moment_of left_since_of may_leave_of (Speaks bytes.now) self.old self.new }
         ensures cause { HasCause (say_faults_of self.old) (say_faults_of self.new) result }
         ensures other_cause { disk_faults_of self.new ≡ disk_faults_of self.old }
         ensures short { HasCause (short_of self.old) (short_of self.new) result }
-        ensures none_short { OnOk result (short_of self.new ≡ short_of self.old) }
         ensures nothing { OnErr result (reads_as self.new ≡ reads_as self.old) }
     {
         let kept = self.disk.say(self.alloc, bytes, true);

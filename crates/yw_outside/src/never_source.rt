@@ -1,7 +1,7 @@
 // A source that never fails.
 ghost use Rattle.std.specs.Prelude.{◌≡◌, ◌≤◌, Some, vec_len, drop};
 
-use crate::source::copy_front;
+use crate::source::copy_prefix;
 use crate::{Failed, Source};
 
 /// Holds its bytes and never fails. Its count of faults is the constant 0.
@@ -54,7 +54,7 @@ impl Source for NeverSource {
 
         ensures never { IsOk result }
     {
-        let count = copy_front(&self.bytes[self.at..], usize::MAX, buf);
+        let count = copy_prefix(&self.bytes[self.at..], usize::MAX, buf);
         self.at += count;
         self.piece = count;
         Ok(count)

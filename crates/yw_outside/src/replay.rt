@@ -87,7 +87,7 @@ fn contents(alloc: Global, base: &[u8], f: File, log: &[Made]) -> Result<Vec<u8>
 }
 
 // What stands in the place of the bytes of a write.
-fn front(alloc: Global, fill: Fill, bytes: &[u8], done: bool) -> Result<Vec<u8>, AllocError>
+fn prefix(alloc: Global, fill: Fill, bytes: &[u8], done: bool) -> Result<Vec<u8>, AllocError>
     ensures { IfOk result (λ v. v.items ≡ front_of fill bytes.now done) }
 {
     match fill {
@@ -104,11 +104,11 @@ fn front(alloc: Global, fill: Fill, bytes: &[u8], done: bool) -> Result<Vec<u8>,
     }
 }
 
-fn stamp(left: &mut Vec<u8>, at: usize, front: &[u8]) -> Result<(), AllocError>
-    ensures { OnOk result (left.new.items ≡ stamped left.old.items at front.now) }
+fn stamp(left: &mut Vec<u8>, at: usize, prefix: &[u8]) -> Result<(), AllocError>
+    ensures { OnOk result (left.new.items ≡ stamped left.old.items at prefix.now) }
 {
     if at <= left.len() {
-        overwrite(left, at, front)
+        overwrite(left, at, prefix)
     } else {
         Ok(())
     }
@@ -132,8 +132,8 @@ fn leave(
             done,
         } => {
             if *file == f {
-                let front = front(alloc, fill, bytes.as_slice(), *done)?;
-                stamp(left, *at as usize, &front)
+                let prefix = prefix(alloc, fill, bytes.as_slice(), *done)?;
+                stamp(left, *at as usize, &prefix)
             } else {
                 Ok(())
             }

@@ -31,12 +31,12 @@ pub trait Source {
         ensures cause { HasCause (faults self.old) (faults self.new) result };
 }
 
-/// Copies bytes from the front, at most so many, and answers how many.
-pub(crate) fn copy_front(bytes: &[u8], most: usize, buf: &mut [u8]) -> usize
+/// Copies the first bytes, at most so many, and answers how many.
+pub(crate) fn copy_prefix(bytes: &[u8], most: usize, buf: &mut [u8]) -> usize
     requires { 1 ≤ most }
     ensures within { result ≤ length bytes.now }
     ensures fits { result ≤ length buf.new }
-    ensures front { bytes.now ≡ take result buf.new ++ drop result bytes.now }
+    ensures prefix { bytes.now ≡ take result buf.new ++ drop result bytes.now }
     ensures end { result ≡ 0 → 0 < length buf.new → bytes.now ≡ [] }
     ensures most { result ≤ most }
 {

@@ -4,7 +4,8 @@ use Rattle.std.proofs.lemmas.List.{append-nil}
 use Rattle.yw_outside.specs.declared.desk.File.{File}
 use Rattle.yw_outside.specs.declared.image.Image.{Image}
 use Rattle.yw_outside.specs.Image.{SaysPart, file_in, other_in}
-use Rattle.yw_outside.specs.Moments.{IsSettled, LeavesOnly}
+use Rattle.yw_outside.specs.Moments.{IsSettled}
+use Rattle.yw_outside.specs.Since.{LeavesOnly}
 use Rattle.yw_journal.specs.Files.{Content}
 use Rattle.yw_journal.specs.Journal.{IsCurrent}
 use Rattle.yw_journal.specs.declared.journal.Journal.{Journal}
@@ -14,6 +15,7 @@ use Rattle.yw_model.specs.Run.{Step, taken_by, said_by}
 use Rattle.yw_model.proofs.RunLemmas.{said_by-append}
 use Rattle.yw_serve.specs.Session.{with_steps, file_after, HasRoom, IsIn, IsBetween, IsAtWork, OfSteps, AreDone}
 use Rattle.yw_serve.proofs.Written.{with_steps-none, with_steps-append, file_after-steps, room_for_both}
+use Rattle.yw_outside.specs.declared.desk.Desk.{Ghosts}
 
 said_further : (old said : List ℕ) (steps more : List Step) → said ≡ old ++ said_by steps → said ++ said_by more ≡ old ++ said_by (steps ++ more)
 said_further old said steps more e = ap (λ (bs : List ℕ). bs ++ said_by more) e ∙ append_assoc old (said_by steps) (said_by more) ∙ ap (λ (bs : List ℕ). old ++ bs) (sym (said_by-append steps more))
@@ -63,51 +65,51 @@ of_no_steps f c steps i h = record {
   other = refl;
 }
 
-module _ {D : Type 0} (moment : D → ℕ) (left_since : D → ℕ → Image → Type 0) (state : D → Image) (may_leave : D → Image → Type 0) where
+module _ {D : Type 0} (g : Ghosts D) where
   -- nothing is done where nothing is pending
-  pub leaves_nothing : (d : D) (P : Image → Type 0) → IsSettled (state d) (may_leave d) → ((i : Image) → may_leave d i → i.said ≡ (state d).said) → ((i : Image) → left_since d (moment d) i → may_leave d i)
-      → P (state d) → LeavesOnly moment left_since d d P
-  leaves_nothing d P settled said only here = started moment left_since d P (λ i left. subst P (sym (settled_is (state d) (may_leave d) settled said i (only i left))) here)
+  pub leaves_nothing : (d : D) (P : Image → Type 0) → IsSettled (g.state d) (g.may_leave d) → ((i : Image) → g.may_leave d i → i.said ≡ (g.state d).said) → ((i : Image) → g.left_since d (g.moment d) i → g.may_leave d i)
+      → P (g.state d) → LeavesOnly g d d P
+  leaves_nothing d P settled said only here = started g d P (λ i left. subst P (sym (settled_is (g.state d) (g.may_leave d) settled said i (only i left))) here)
 
-  pub nothing_done : (d : D) (c : Content) (journal : Journal) → IsSettled (state d) (may_leave d) → ((i : Image) → may_leave d i → i.said ≡ (state d).said) → ((i : Image) → left_since d (moment d) i → may_leave d i)
-      → IsCurrent journal c (state d) → AreDone moment left_since state may_leave c [] journal d d
+  pub nothing_done : (d : D) (c : Content) (journal : Journal) → IsSettled (g.state d) (g.may_leave d) → ((i : Image) → g.may_leave d i → i.said ≡ (g.state d).said) → ((i : Image) → g.left_since d (g.moment d) i → g.may_leave d i)
+      → IsCurrent journal c (g.state d) → AreDone g c [] journal d d
   nothing_done d c journal settled said only current = record {
-    file = subst (λ (x : Content). IsCurrent journal x (state d)) (sym (with_steps-none c)) current;
+    file = subst (λ (x : Content). IsCurrent journal x (g.state d)) (sym (with_steps-none c)) current;
     room = inl refl;
     bytes = refl;
     other = refl;
-    said = sym (append-nil (state d).said);
+    said = sym (append-nil (g.state d).said);
     settled = settled;
-    moments = leaves_nothing d (OfSteps journal.file c [] (state d)) settled said only (of_no_steps journal.file c [] (state d) (journal.end, current.holds));
+    moments = leaves_nothing d (OfSteps journal.file c [] (g.state d)) settled said only (of_no_steps journal.file c [] (g.state d) (journal.end, current.holds));
   }
 
   -- steps and then more
   pub done_both : (c : Content) (steps more : List Step) (first last : Journal) (old mid new : D) → last.file ≡ first.file → last.limit ≡ first.limit
-      → AreDone moment left_since state may_leave c steps first old mid → AreDone moment left_since state may_leave (with_steps c steps) more last mid new
-      → AreDone moment left_since state may_leave c (steps ++ more) last old new
+      → AreDone g c steps first old mid → AreDone g (with_steps c steps) more last mid new
+      → AreDone g c (steps ++ more) last old new
   done_both c steps more first last old mid new same limit one two =
-      let other : other_in last.file (state mid) ≡ other_in last.file (state old) = subst (λ (f : File). other_in f (state mid) ≡ other_in f (state old)) (sym same) one.other in
+      let other : other_in last.file (g.state mid) ≡ other_in last.file (g.state old) = subst (λ (f : File). other_in f (g.state mid) ≡ other_in f (g.state old)) (sym same) one.other in
       record {
-        file = subst (λ (x : Content). IsCurrent last x (state new)) (with_steps-append c steps more) two.file;
+        file = subst (λ (x : Content). IsCurrent last x (g.state new)) (with_steps-append c steps more) two.file;
         room = room_for_both last.limit c steps more (subst (λ (n : ℕ). HasRoom n c steps) (sym limit) one.room) two.room;
-        bytes = file_after-steps (file_in last.file (state old)) (file_in last.file (state mid)) (file_in last.file (state new)) c steps more
-            (subst (λ (f : File). file_in f (state mid) ≡ file_after (file_in f (state old)) c (taken_by steps)) (sym same) one.bytes) two.bytes;
+        bytes = file_after-steps (file_in last.file (g.state old)) (file_in last.file (g.state mid)) (file_in last.file (g.state new)) c steps more
+            (subst (λ (f : File). file_in f (g.state mid) ≡ file_after (file_in f (g.state old)) c (taken_by steps)) (sym same) one.bytes) two.bytes;
         other = two.other ∙ other;
-        said = two.said ∙ said_further (state old).said (state mid).said steps more one.said;
+        said = two.said ∙ said_further (g.state old).said (g.state mid).said steps more one.said;
         settled = two.settled;
-        moments = and_then moment left_since old mid new (OfSteps last.file c (steps ++ more) (state old)) (OfSteps last.file (with_steps c steps) more (state mid))
-            (weakened moment left_since old mid (OfSteps first.file c steps (state old)) (OfSteps last.file c (steps ++ more) (state old)) one.moments
-            (λ i o. of_steps_longer last.file c steps more (state old) i (subst (λ (f : File). OfSteps f c steps (state old) i) (sym same) o)))
+        moments = and_then g old mid new (OfSteps last.file c (steps ++ more) (g.state old)) (OfSteps last.file (with_steps c steps) more (g.state mid))
+            (weakened g old mid (OfSteps first.file c steps (g.state old)) (OfSteps last.file c (steps ++ more) (g.state old)) one.moments
+            (λ i o. of_steps_longer last.file c steps more (g.state old) i (subst (λ (f : File). OfSteps f c steps (g.state old) i) (sym same) o)))
             two.moments
-            (λ i o. of_steps_behind last.file c steps more (state old) (state mid) i other one.said o);
+            (λ i o. of_steps_behind last.file c steps more (g.state old) (g.state mid) i other one.said o);
       }
 
   -- steps that are done, and then some at work
-  pub leaves_behind : (c : Content) (steps work : List Step) (journal : Journal) (old mid new : D) → AreDone moment left_since state may_leave c steps journal old mid
-      → LeavesOnly moment left_since mid new (OfSteps journal.file (with_steps c steps) work (state mid)) → LeavesOnly moment left_since old new (OfSteps journal.file c (steps ++ work) (state old))
+  pub leaves_behind : (c : Content) (steps work : List Step) (journal : Journal) (old mid new : D) → AreDone g c steps journal old mid
+      → LeavesOnly g mid new (OfSteps journal.file (with_steps c steps) work (g.state mid)) → LeavesOnly g old new (OfSteps journal.file c (steps ++ work) (g.state old))
   leaves_behind c steps work journal old mid new one two =
-      and_then moment left_since old mid new (OfSteps journal.file c (steps ++ work) (state old)) (OfSteps journal.file (with_steps c steps) work (state mid))
-      (weakened moment left_since old mid (OfSteps journal.file c steps (state old)) (OfSteps journal.file c (steps ++ work) (state old)) one.moments
-      (λ i o. of_steps_longer journal.file c steps work (state old) i o))
+      and_then g old mid new (OfSteps journal.file c (steps ++ work) (g.state old)) (OfSteps journal.file (with_steps c steps) work (g.state mid))
+      (weakened g old mid (OfSteps journal.file c steps (g.state old)) (OfSteps journal.file c (steps ++ work) (g.state old)) one.moments
+      (λ i o. of_steps_longer journal.file c steps work (g.state old) i o))
       two
-      (λ i o. of_steps_behind journal.file c steps work (state old) (state mid) i one.other one.said o)
+      (λ i o. of_steps_behind journal.file c steps work (g.state old) (g.state mid) i one.other one.said o)

@@ -3,14 +3,15 @@ use Rattle.std.proofs.Common.{◌≡◌, ◌≤◌, ◌<◌, ℕ, ◌+◌, List,
 use Rattle.std.proofs.lemmas.List.{append-nil, take_all, take-append-le}
 use Rattle.std.proofs.lemmas.Bool.{cases_lt}
 use Rattle.yw_outside.specs.declared.image.Image.{Image}
-use Rattle.yw_outside.specs.Moments.{IsSettled, LeavesOnly}
+use Rattle.yw_outside.specs.Moments.{IsSettled}
+use Rattle.yw_outside.specs.Since.{LeavesOnly}
 use Rattle.yw_journal.specs.Files.{Content}
 use Rattle.yw_journal.specs.Journal.{IsCurrent}
 use Rattle.yw_journal.specs.declared.journal.Journal.{Journal}
-use Rattle.yw_model.specs.Lines.{newline, HasNoNewline, whole_lines, last_part, last_line, all_lines}
+use Rattle.yw_lines.specs.Lines.{newline, HasNoNewline, whole_lines, last_part, last_line, all_lines}
 use Rattle.yw_state.specs.State.{State}
 use Rattle.yw_model.specs.Run.{Step, Answers, Run}
-use Rattle.yw_model.proofs.LinesLemmas.{whole_lines-append, whole_lines-newline, last_part-newline, whole_lines-part, last_part-part}
+use Rattle.yw_lines.proofs.LinesLemmas.{whole_lines-append, whole_lines-newline, last_part-newline, whole_lines-part, last_part-part}
 use Rattle.yw_model.proofs.Answering.{Answers-take}
 use Rattle.yw_model.proofs.RunLemmas.{Run-one, Run-append, has_run}
 use Rattle.yw_serve.specs.declared.session.Session.{Session}
@@ -21,6 +22,7 @@ use Rattle.yw_serve.specs.Session.{state_of, with_steps, OfSteps, AreDone, Answe
 use Rattle.yw_serve.proofs.KeptLemmas.{kept_is, kept_over}
 use Rattle.yw_serve.proofs.Written.{with_steps-none, with_steps-append}
 use Rattle.yw_serve.proofs.Doing.{of_no_steps, nothing_done, done_both, leaves_nothing}
+use Rattle.yw_outside.specs.declared.desk.Desk.{Ghosts}
 
 -- to cut before more is added and to cut after it
 take_cut : {A : Type 0} (k : ℕ) (xs ys : List A) → take k (take k xs ++ ys) ≡ take k (xs ++ ys)
@@ -50,18 +52,18 @@ one_last_line : (k : ℕ) (ws : List (List ℕ)) (p front : List ℕ) → front 
 one_last_line k ws [] front e some = absurd (omega (arith, ap length e, length-take {A = ℕ} k []))
 one_last_line k ws (b ∷ bs) front e some = refl
 
-module _ {D : Type 0} (moment : D → ℕ) (left_since : D → ℕ → Image → Type 0) (state : D → Image) (may_leave : D → Image → Type 0) where
+module _ {D : Type 0} (g : Ghosts D) where
   -- nothing is pending at a desk, and the journal's file has this content
   pub record IsReadyAt (c : Content) (journal : Journal) (d : D) : Type 0 where
-    pub settled : IsSettled (state d) (may_leave d)
-    pub said : (i : Image) → may_leave d i → i.said ≡ (state d).said
-    pub only : (i : Image) → left_since d (moment d) i → may_leave d i
-    pub current : IsCurrent journal c (state d)
+    pub settled : IsSettled (g.state d) (g.may_leave d)
+    pub said : (i : Image) → g.may_leave d i → i.said ≡ (g.state d).said
+    pub only : (i : Image) → g.left_since d (g.moment d) i → g.may_leave d i
+    pub current : IsCurrent journal c (g.state d)
 
-  pub none_done : (c : Content) (journal : Journal) (d : D) → IsReadyAt c journal d → AreDone moment left_since state may_leave c [] journal d d
-  none_done c journal d r = nothing_done moment left_since state may_leave d c journal r.settled r.said r.only r.current
+  pub none_done : (c : Content) (journal : Journal) (d : D) → IsReadyAt c journal d → AreDone g c [] journal d d
+  none_done c journal d r = nothing_done g d c journal r.settled r.said r.only r.current
 
-  pub goes_nowhere : (c : Content) (session : Session) (taken : List ℕ) (d : D) → IsReadyAt c session.journal d → IsAtByte session taken → GoesOn moment left_since state may_leave c session session taken [] d d
+  pub goes_nowhere : (c : Content) (session : Session) (taken : List ℕ) (d : D) → IsReadyAt c session.journal d → IsAtByte session taken → GoesOn g c session session taken [] d d
   goes_nowhere c session taken d r at = record {
     answers = record {
       lines = [];
@@ -75,9 +77,9 @@ module _ {D : Type 0} (moment : D → ℕ) (left_since : D → ℕ → Image →
   }
 
   module _ (c : Content) (a b : Session) (taken p : List ℕ) (old mid new : D) (same : b.journal.file ≡ a.journal.file) (limit : b.journal.limit ≡ a.journal.limit)
-      (first : GoesOn moment left_since state may_leave c a b taken p old mid) where
-    pub goes_further : (z : Session) (q : List ℕ) → z.journal.file ≡ b.journal.file → z.journal.limit ≡ b.journal.limit → GoesOn moment left_since state may_leave (with_steps c first.answers.steps) b z (taken ++ p) q mid new
-        → GoesOn moment left_since state may_leave c a z taken (p ++ q) old new
+      (first : GoesOn g c a b taken p old mid) where
+    pub goes_further : (z : Session) (q : List ℕ) → z.journal.file ≡ b.journal.file → z.journal.limit ≡ b.journal.limit → GoesOn g (with_steps c first.answers.steps) b z (taken ++ p) q mid new
+        → GoesOn g c a z taken (p ++ q) old new
     goes_further z q file limit_too next =
         let whole : taken ++ (p ++ q) ≡ (taken ++ p) ++ q = sym (append_assoc taken p q) in
         record {
@@ -87,7 +89,7 @@ module _ {D : Type 0} (moment : D → ℕ) (left_since : D → ℕ → Image →
             steps = first.answers.steps ++ next.answers.steps;
             run = Run-append (state_of a) a.number first.answers.lines first.answers.steps (state_of b) next.answers.lines next.answers.steps (state_of z) first.answers.run
                 (subst (λ (n : ℕ). Run (state_of b) n next.answers.lines next.answers.steps (state_of z)) first.number next.answers.run);
-            are_done = done_both moment left_since state may_leave c first.answers.steps next.answers.steps b.journal z.journal old mid new file limit_too first.answers.are_done next.answers.are_done;
+            are_done = done_both g c first.answers.steps next.answers.steps b.journal z.journal old mid new file limit_too first.answers.are_done next.answers.are_done;
           };
           at = next.at ∙ ap (λ (bs : List ℕ). kept_of (last_part bs)) (append_assoc taken p q);
           number = next.number ∙ ap (λ n. n + length next.answers.lines) first.number ∙ summed a.number first.answers.lines next.answers.lines;
@@ -96,8 +98,8 @@ module _ {D : Type 0} (moment : D → ℕ) (left_since : D → ℕ → Image →
         summed : (n : ℕ) (xs ys : List (List ℕ)) → n + length xs + length ys ≡ n + length (xs ++ ys)
         summed n xs ys = omega (arith, length-append xs ys)
 
-    pub stops_further : (stop : Stop) (all : List (List ℕ)) → StopsWithin moment left_since state may_leave (with_steps c first.answers.steps) stop b (whole_lines (taken ++ p)) all mid new
-        → StopsWithin moment left_since state may_leave c stop a (whole_lines taken) all old new
+    pub stops_further : (stop : Stop) (all : List (List ℕ)) → StopsWithin g (with_steps c first.answers.steps) stop b (whole_lines (taken ++ p)) all mid new
+        → StopsWithin g c stop a (whole_lines taken) all old new
     stops_further stop all s =
         let steps = first.answers.steps in
         let place : b.number + length s.lines ≡ a.number + length (first.answers.lines ++ s.lines) = omega (arith, first.number, length-append first.answers.lines s.lines) in
@@ -113,20 +115,20 @@ module _ {D : Type 0} (moment : D → ℕ) (left_since : D → ℕ → Image →
               (subst (λ (n : ℕ). Run (state_of b) n s.lines s.steps s.reached) first.number s.run);
           mid = s.mid;
           journal = s.journal;
-          are_done = done_both moment left_since state may_leave c steps s.steps b.journal s.journal old mid s.mid s.file s.limit first.answers.are_done s.are_done;
+          are_done = done_both g c steps s.steps b.journal s.journal old mid s.mid s.file s.limit first.answers.are_done s.are_done;
           work = s.work;
           after = s.after;
           run_on = subst (λ (n : ℕ). Run s.reached n s.next s.work s.after) place s.run_on;
           goes_on = has_run s.after (a.number + length (first.answers.lines ++ s.lines) + length s.next) s.later;
-          moments = subst (λ (x : Content). LeavesOnly moment left_since s.mid new (OfSteps s.journal.file x s.work (state s.mid))) (with_steps-append c steps s.steps) s.moments;
-          why = subst (λ (x : Content). Why state x stop s.journal s.work s.mid new) (with_steps-append c steps s.steps) s.why;
+          moments = subst (λ (x : Content). LeavesOnly g s.mid new (OfSteps s.journal.file x s.work (g.state s.mid))) (with_steps-append c steps s.steps) s.moments;
+          why = subst (λ (x : Content). Why g x stop s.journal s.work s.mid new) (with_steps-append c steps s.steps) s.why;
           limit = s.limit ∙ limit;
           file = s.file ∙ same;
         }
 
   -- where it stopped it has stopped short of the lines of more bytes too
   pub stops_short : (c : Content) (stop : Stop) (a : Session) (done : List (List ℕ)) (taken bytes all : List ℕ) (old new : D) → all ≡ taken ++ bytes
-      → StopsWithin moment left_since state may_leave c stop a done (whole_lines taken) old new → StopsWithin moment left_since state may_leave c stop a done (whole_lines all) old new
+      → StopsWithin g c stop a done (whole_lines taken) old new → StopsWithin g c stop a done (whole_lines all) old new
   stops_short c stop a done taken bytes all old new e s =
       let extra = whole_lines (last_part taken ++ bytes) in
       record {
@@ -152,7 +154,7 @@ module _ {D : Type 0} (moment : D → ℕ) (left_since : D → ℕ → Image →
       }
 
   -- no memory is left before anything was done for these lines
-  pub stops_before : (c : Content) (a : Session) (done all more : List (List ℕ)) (d : D) → IsReadyAt c a.journal d → all ≡ done ++ more → StopsWithin moment left_since state may_leave c Memory a done all d d
+  pub stops_before : (c : Content) (a : Session) (done all more : List (List ℕ)) (d : D) → IsReadyAt c a.journal d → all ≡ done ++ more → StopsWithin g c Memory a done all d d
   stops_before c a done all more d r e = record {
     lines = [];
     next = [];
@@ -168,8 +170,8 @@ module _ {D : Type 0} (moment : D → ℕ) (left_since : D → ℕ → Image →
     after = state_of a;
     run_on = refl;
     goes_on = has_run (state_of a) (a.number + 0 + 0) more;
-    moments = leaves_nothing moment left_since state may_leave d (OfSteps a.journal.file (with_steps c []) [] (state d)) r.settled r.said r.only
-        (subst (λ (x : Content). OfSteps a.journal.file x [] (state d) (state d)) (sym (with_steps-none c)) (of_no_steps a.journal.file c [] (state d) (a.journal.end, r.current.holds)));
+    moments = leaves_nothing g d (OfSteps a.journal.file (with_steps c []) [] (g.state d)) r.settled r.said r.only
+        (subst (λ (x : Content). OfSteps a.journal.file x [] (g.state d) (g.state d)) (sym (with_steps-none c)) (of_no_steps a.journal.file c [] (g.state d) (a.journal.end, r.current.holds)));
     why = refl;
     limit = refl;
     file = refl;
@@ -177,20 +179,20 @@ module _ {D : Type 0} (moment : D → ℕ) (left_since : D → ℕ → Image →
 
   -- the same, of a stop that says so
   pub stops_nowhere : (c : Content) (stop : Stop) (a : Session) (done all more : List (List ℕ)) (old new : D) → IsReadyAt c a.journal old → all ≡ done ++ more → stop ≡ Memory → new ≡ old
-      → StopsWithin moment left_since state may_leave c stop a done all old new
+      → StopsWithin g c stop a done all old new
   stops_nowhere c stop a done all more old new r e is same =
-      subst (λ (x : Stop). StopsWithin moment left_since state may_leave c x a done all old new) (sym is)
-      (subst (λ (x : D). StopsWithin moment left_since state may_leave c Memory a done all old x) (sym same) (stops_before c a done all more old r e))
+      subst (λ (x : Stop). StopsWithin g c x a done all old new) (sym is)
+      (subst (λ (x : D). StopsWithin g c Memory a done all old x) (sym same) (stops_before c a done all more old r e))
 
   pub stops_at_line : (c : Content) (a : Session) (taken part : List ℕ) (d : D) → IsReadyAt c a.journal d → HasNoNewline part
-      → StopsWithin moment left_since state may_leave c Memory a (whole_lines taken) (whole_lines (taken ++ (part ++ newline ∷ []))) d d
+      → StopsWithin g c Memory a (whole_lines taken) (whole_lines (taken ++ (part ++ newline ∷ []))) d d
   stops_at_line c a taken part d r none = stops_before c a (whole_lines taken) _ ((last_part taken ++ part) ∷ []) d r (line_ends taken part none)
 
   -- it stopped at the line that comes behind the done ones
   stops_in : (c : Content) (stop : Stop) (a : Session) (done all : List (List ℕ)) (line : List ℕ) (old new : D) → IsReadyAt c a.journal old → all ≡ done ++ line ∷ []
       → (step : Step) (after : State) → Answers (state_of a) a.number line step after
-      → LeavesOnly moment left_since old new (OfSteps a.journal.file c (step ∷ []) (state old)) → Why state c stop a.journal (step ∷ []) old new
-      → StopsWithin moment left_since state may_leave c stop a done all old new
+      → LeavesOnly g old new (OfSteps a.journal.file c (step ∷ []) (g.state old)) → Why g c stop a.journal (step ∷ []) old new
+      → StopsWithin g c stop a done all old new
   stops_in c stop a done all line old new r e step after answers moments why = record {
     lines = [];
     next = line ∷ [];
@@ -206,8 +208,8 @@ module _ {D : Type 0} (moment : D → ℕ) (left_since : D → ℕ → Image →
     after = after;
     run_on = subst (λ (n : ℕ). Run (state_of a) n (line ∷ []) (step ∷ []) after) (omega arith) (Run-one (state_of a) a.number line step after answers);
     goes_on = has_run after (a.number + 0 + 1) [];
-    moments = subst (λ (x : Content). LeavesOnly moment left_since old new (OfSteps a.journal.file x (step ∷ []) (state old))) (sym (with_steps-none c)) moments;
-    why = subst (λ (x : Content). Why state x stop a.journal (step ∷ []) old new) (sym (with_steps-none c)) why;
+    moments = subst (λ (x : Content). LeavesOnly g old new (OfSteps a.journal.file x (step ∷ []) (g.state old))) (sym (with_steps-none c)) moments;
+    why = subst (λ (x : Content). Why g x stop a.journal (step ∷ []) old new) (sym (with_steps-none c)) why;
     limit = refl;
     file = refl;
   }
@@ -217,7 +219,7 @@ module _ {D : Type 0} (moment : D → ℕ) (left_since : D → ℕ → Image →
     kept_so_far : mid.front.items ≡ kept_of (last_part taken ++ part)
     kept_so_far = front ∙ ap (λ (bs : List ℕ). kept_of (bs ++ part)) at ∙ take_cut most_kept (last_part taken) part
 
-    pub goes_by_part : IsReadyAt c mid.journal old → GoesOn moment left_since state may_leave c before mid taken part old old
+    pub goes_by_part : IsReadyAt c mid.journal old → GoesOn g c before mid taken part old old
     goes_by_part r = record {
       answers = record {
         lines = [];
@@ -236,7 +238,7 @@ module _ {D : Type 0} (moment : D → ℕ) (left_since : D → ℕ → Image →
         (subst (λ (n : ℕ). Answers (state_of mid) n (kept_of (last_part taken ++ part)) step t) number
         (subst (λ (l : List ℕ). Answers (state_of mid) mid.number l step t) kept_so_far a)))
 
-    pub goes_by_line : (now : Session) → EndsLine moment left_since state may_leave c mid now old new → GoesOn moment left_since state may_leave c before now taken (part ++ newline ∷ []) old new
+    pub goes_by_line : (now : Session) → EndsLine g c mid now old new → GoesOn g c before now taken (part ++ newline ∷ []) old new
     goes_by_line now e = record {
       answers = record {
         lines = (last_part taken ++ part) ∷ [];
@@ -249,16 +251,16 @@ module _ {D : Type 0} (moment : D → ℕ) (left_since : D → ℕ → Image →
       number = e.number ∙ ap (λ n. n + 1) number;
     }
 
-    pub stops_in_line : (stop : Stop) → IsReadyAt c before.journal old → CutsLine moment left_since state may_leave c stop mid old new
-        → StopsWithin moment left_since state may_leave c stop before (whole_lines taken) (whole_lines (taken ++ (part ++ newline ∷ []))) old new
+    pub stops_in_line : (stop : Stop) → IsReadyAt c before.journal old → CutsLine g c stop mid old new
+        → StopsWithin g c stop before (whole_lines taken) (whole_lines (taken ++ (part ++ newline ∷ []))) old new
     stops_in_line stop r (inl none) = stops_nowhere c stop before (whole_lines taken) _ ((last_part taken ++ part) ∷ []) old new r (line_ends taken part none_in) none.0 none.1
     stops_in_line stop r (inr e) = stops_in c stop before (whole_lines taken) _ (last_part taken ++ part) old new r (line_ends taken part none_in) e.step e.after (line_answered e.step e.after e.answers)
-        (subst (λ (j : Journal). LeavesOnly moment left_since old new (OfSteps j.file c (e.step ∷ []) (state old))) journal e.moments)
-        (subst (λ (j : Journal). Why state c stop j (e.step ∷ []) old new) journal e.why)
+        (subst (λ (j : Journal). LeavesOnly g old new (OfSteps j.file c (e.step ∷ []) (g.state old))) journal e.moments)
+        (subst (λ (j : Journal). Why g c stop j (e.step ∷ []) old new) journal e.why)
 
   module _ (c : Content) (before : Session) (taken : List ℕ) (at : IsAtByte before taken) (old : D) (r : IsReadyAt c before.journal old) where
     -- nothing follows the last newline
-    pub ends_without_line : before.front.items ≡ [] → AnswersOn moment left_since state may_leave c before (whole_lines taken) (all_lines taken) (state_of before) before.journal old old
+    pub ends_without_line : before.front.items ≡ [] → AnswersOn g c before (whole_lines taken) (all_lines taken) (state_of before) before.journal old old
     ends_without_line e = record {
       lines = [];
       split = no_last_line most_kept (whole_lines taken) (last_part taken) (omega (arith, kept_is)) (sym at ∙ e);
@@ -274,8 +276,8 @@ module _ {D : Type 0} (moment : D → ℕ) (left_since : D → ℕ → Image →
       last_answered : (step : Step) (t : State) → Answers (state_of before) before.number before.front.items step t → Answers (state_of before) before.number (last_part taken) step t
       last_answered step t a = answered_as_kept (state_of before) before.number (last_part taken) step t (subst (λ (l : List ℕ). Answers (state_of before) before.number l step t) at a)
 
-      pub ends_with_line : (now : Session) → EndsLine moment left_since state may_leave c before now old new
-          → AnswersOn moment left_since state may_leave c before (whole_lines taken) (all_lines taken) (state_of now) now.journal old new
+      pub ends_with_line : (now : Session) → EndsLine g c before now old new
+          → AnswersOn g c before (whole_lines taken) (all_lines taken) (state_of now) now.journal old new
       ends_with_line now e = record {
         lines = last_part taken ∷ [];
         split = last_line_split;
@@ -284,6 +286,6 @@ module _ {D : Type 0} (moment : D → ℕ) (left_since : D → ℕ → Image →
         are_done = e.are_done;
       }
 
-      pub stops_in_last : (stop : Stop) → CutsLine moment left_since state may_leave c stop before old new → StopsWithin moment left_since state may_leave c stop before (whole_lines taken) (all_lines taken) old new
+      pub stops_in_last : (stop : Stop) → CutsLine g c stop before old new → StopsWithin g c stop before (whole_lines taken) (all_lines taken) old new
       stops_in_last stop (inl none) = stops_nowhere c stop before (whole_lines taken) _ (last_part taken ∷ []) old new r last_line_split none.0 none.1
       stops_in_last stop (inr e) = stops_in c stop before (whole_lines taken) _ (last_part taken) old new r last_line_split e.step e.after (last_answered e.step e.after e.answers) e.moments e.why

@@ -2,7 +2,8 @@
 use Rattle.std.proofs.Common.{◌≡◌, ◌⊎◌, ℕ, ◌+◌, ◌<◌, List, [], ◌∷◌, ◌++◌, map, Bool, true, false, Option, None, inl, inr, ⊎_elim, refl, sym, ap, ◌∙◌, subst, arith, append_assoc, take, drop, take-append-drop}
 use Rattle.std.proofs.lemmas.List.{append-nil}
 use Rattle.yw_outside.specs.Image.{SaysPart, Speaks, other_in}
-use Rattle.yw_outside.specs.Moments.{After, LeavesOnly}
+use Rattle.yw_outside.specs.Moments.{After}
+use Rattle.yw_outside.specs.Since.{LeavesOnly}
 use Rattle.yw_outside.specs.declared.desk.File.{File}
 use Rattle.yw_outside.specs.declared.desk.File.TheVariants.{A, B}
 use Rattle.yw_outside.specs.declared.image.Image.{Image}
@@ -10,7 +11,7 @@ use Rattle.yw_outside.specs.Tells.{Tells}
 use Rattle.yw_journal.specs.Files.{Content, HasContent, Holds, IsLesser, generation_of, header_damage, is_live}
 use Rattle.yw_journal.specs.FileLaws.{content_generation, content_live}
 use Rattle.yw_codec.specs.Entries.{entry_bytes}
-use Rattle.yw_model.specs.Lines as input
+use Rattle.yw_lines.specs.Lines as input
 use Rattle.yw_model.specs.Run.{Step, Run, taken_by, said_by}
 use Rattle.yw_state.specs.State.{State}
 use Rattle.yw_serve.specs.Damage.{HoldNow, meaning}
@@ -26,7 +27,7 @@ use Rattle.yw_serve.specs.declared.top.Status.{Status}
 use Rattle.yw_serve.specs.declared.top.Status.TheVariants.{Ok, Findings, Usage, Disk, Memory, Read, Write, Damaged, Full, InputLimit}
 use Rattle.yw_journal.proofs.Images.{settled_is}
 use Rattle.yw_journal.proofs.Passing.{and_then, weakened}
-use Rattle.yw_model.proofs.LinesLemmas.{whole_lines-append}
+use Rattle.yw_lines.proofs.LinesLemmas.{whole_lines-append}
 use Rattle.yw_model.proofs.RunLemmas.{Run-append}
 use Rattle.yw_serve.proofs.Doing.{leaves_behind}
 use Rattle.yw_serve.proofs.Telling.{holds_same, same_other}
@@ -34,6 +35,7 @@ use Rattle.yw_serve.proofs.OpenLaws.{held_once, held_or_damaged}
 use Rattle.yw_serve.proofs.Meant.{run_meant}
 use Rattle.yw_serve.proofs.OpenEnds.{opening_leaves, part_leaves}
 use Rattle.yw_serve.proofs.OpenRecords.{LeadsTo-append}
+use Rattle.yw_outside.specs.declared.desk.Desk.{Ghosts}
 
 -- A journal goes on in file A.
 
@@ -73,10 +75,10 @@ held_after f c s i n all steps t j h run is other = record {
   alone = ap is_live (subst (λ (g : File). other_in g j ≡ other_in g i) (in_file_a f c s i j steps h is other) other) ∙ h.alone;
 }
 
-module _ {D : Type 0} (moment : D → ℕ) (left_since : D → ℕ → Image → Type 0) (state : D → Image) (may_leave : D → Image → Type 0) where
+module _ {D : Type 0} (g : Ghosts D) where
   -- a run that ended with Ok serves all lines
   served_from : (old new : D) (full_at limit : ℕ) (bytes : List ℕ) (left : Option (List ℕ)) (piece : ℕ)
-      → RunsFrom moment left_since state may_leave (λ c s opened. RunEnds moment left_since state may_leave Ok c s full_at limit bytes left piece opened new) old → Serves state may_leave (input.lines bytes true) old new
+      → RunsFrom g (λ c s opened. RunEnds g Ok c s full_at limit bytes left piece opened new) old → Serves g (input.lines bytes true) old new
   served_from old new full_at limit bytes left piece from =
       let a = from.ends.answered in
       let d = a.are_done in record {
@@ -87,15 +89,15 @@ module _ {D : Type 0} (moment : D → ℕ) (left_since : D → ℕ → Image →
         reached = a.reached;
         run = a.run;
         now = with_steps from.c a.steps;
-        holds = held_after a.journal.file from.c from.s (state from.opened) 1 (input.lines bytes true) a.steps a.reached (state new) from.holds a.run (a.journal.end, d.file.holds) d.other;
+        holds = held_after a.journal.file from.c from.s (g.state from.opened) 1 (input.lines bytes true) a.steps a.reached (g.state new) from.holds a.run (a.journal.end, d.file.holds) d.other;
         settled = d.settled;
         said = d.said ∙ ap (λ (bs : List ℕ). bs ++ said_by a.steps) from.said;
       }
 
   pub served : (status : Status) (old new : D) (full_at limit : ℕ) (bytes : List ℕ) (left : Option (List ℕ)) (piece : ℕ) (Unread : Type 0) → status ≡ Ok
-      → (OpeningEnds moment left_since state may_leave status old new × Unread)
-      ⊎ RunsFrom moment left_since state may_leave (λ c s opened. RunEnds moment left_since state may_leave status c s full_at limit bytes left piece opened new) old
-      → Serves state may_leave (input.lines bytes true) old new
+      → (OpeningEnds g status old new × Unread)
+      ⊎ RunsFrom g (λ c s opened. RunEnds g status c s full_at limit bytes left piece opened new) old
+      → Serves g (input.lines bytes true) old new
   served Ok old new full_at limit bytes left piece Unread e ends = ⊎_elim (λ none. absurd none.0) (served_from old new full_at limit bytes left piece) ends
   served Findings old new full_at limit bytes left piece Unread e ends = cc
   served Usage old new full_at limit bytes left piece Unread e ends = cc
@@ -189,46 +191,46 @@ ended_none (b ∷ bs) piece e = cc
 not_ended : (rest : List ℕ) → false ≡ true → rest ≡ []
 not_ended rest e = absurd (false_true e)
 
-module _ {D : Type 0} (moment : D → ℕ) (left_since : D → ℕ → Image → Type 0) (state : D → Image) (may_leave : D → Image → Type 0) (said_by_now : (d : D) (k : Image) → may_leave d k → k.said ≡ (state d).said) where
-  module _ (c : Content) (s : State) (opened : D) (h : HoldNow c s (state opened)) (bytes : List ℕ) where
+module _ {D : Type 0} (g : Ghosts D) (said_by_now : (d : D) (k : Image) → g.may_leave d k → k.said ≡ (g.state d).said) where
+  module _ (c : Content) (s : State) (opened : D) (h : HoldNow c s (g.state opened)) (bytes : List ℕ) where
     abbrev Front : Image → Type 0
-    Front = HoldsFront s (input.lines bytes true) (state opened).said
+    Front = HoldsFront s (input.lines bytes true) (g.state opened).said
 
     -- where lines of a front of the bytes are answered
-    all_left : (full_at : ℕ) (some more : List (List ℕ)) (new : D) → input.lines bytes true ≡ some ++ more → AllAnswered moment left_since state may_leave c s full_at some opened new → LeavesOnly moment left_since opened new Front
+    all_left : (full_at : ℕ) (some more : List (List ℕ)) (new : D) → input.lines bytes true ≡ some ++ more → AllAnswered g c s full_at some opened new → LeavesOnly g opened new Front
     all_left full_at some more new e a =
-        weakened moment left_since opened new (OfSteps a.journal.file c a.steps (state opened)) Front a.are_done.moments
-        (λ k o. front_of_more s (input.lines bytes true) some more (state opened).said k e (front_held a.journal.file c s (state opened) some a.steps a.reached k h a.run o))
+        weakened g opened new (OfSteps a.journal.file c a.steps (g.state opened)) Front a.are_done.moments
+        (λ k o. front_of_more s (input.lines bytes true) some more (g.state opened).said k e (front_held a.journal.file c s (g.state opened) some a.steps a.reached k h a.run o))
 
     -- where some of them are
-    some_left : (full_at : ℕ) (stop : Stop) (sure some more : List (List ℕ)) (new : D) → input.lines bytes true ≡ some ++ more → SomeAnswered moment left_since state may_leave c s full_at stop sure some opened new
-        → LeavesOnly moment left_since opened new Front
+    some_left : (full_at : ℕ) (stop : Stop) (sure some more : List (List ℕ)) (new : D) → input.lines bytes true ≡ some ++ more → SomeAnswered g c s full_at stop sure some opened new
+        → LeavesOnly g opened new Front
     some_left full_at stop sure some more new e a =
         let steps = a.steps ++ a.work in
         let known = (sure ++ a.extra) ++ a.next in
         let run : Run s 1 known steps a.after = Run-append s 1 (sure ++ a.extra) a.steps a.reached a.next a.work a.after a.run a.run_on in
         let split : input.lines bytes true ≡ known ++ (a.later ++ more) =
         e ∙ ap (λ (ls : List (List ℕ)). ls ++ more) (a.split ∙ sym (append_assoc (sure ++ a.extra) a.next a.later)) ∙ append_assoc known a.later more in
-        weakened moment left_since opened new (OfSteps a.journal.file c steps (state opened)) Front (leaves_behind moment left_since state may_leave c a.steps a.work a.journal opened a.mid new a.are_done a.moments)
-        (λ k o. front_of_more s (input.lines bytes true) known (a.later ++ more) (state opened).said k split (front_held a.journal.file c s (state opened) known steps a.after k h run o))
+        weakened g opened new (OfSteps a.journal.file c steps (g.state opened)) Front (leaves_behind g c a.steps a.work a.journal opened a.mid new a.are_done a.moments)
+        (λ k o. front_of_more s (input.lines bytes true) known (a.later ++ more) (g.state opened).said k split (front_held a.journal.file c s (g.state opened) known steps a.after k h run o))
 
     module _ (full_at limit : ℕ) (left : Option (List ℕ)) (piece : ℕ) where
-      short_left : (stop : Stop) (new : D) → EndsShort moment left_since state may_leave c s full_at limit stop bytes left piece opened new → LeavesOnly moment left_since opened new Front
+      short_left : (stop : Stop) (new : D) → EndsShort g c s full_at limit stop bytes left piece opened new → LeavesOnly g opened new Front
       short_left stop new z =
           let f = lines_of_front bytes z.taken z.rest (has_ended z.rest piece) z.takes.split (ended_none z.rest piece) in
           some_left full_at stop (input.whole_lines (before_piece z.taken piece)) (input.lines z.taken (has_ended z.rest piece)) f.0 new f.1 z.answered
 
       -- while it is said that a file has no room, the answered lines are held
-      notice_left : (n : ℕ) (mid : D) (k : Image) → EndsShort moment left_since state may_leave c s full_at limit (stops.Full n) bytes left piece opened mid → After (Speaks (full_line n)) (may_leave mid) k → Front k
+      notice_left : (n : ℕ) (mid : D) (k : Image) → EndsShort g c s full_at limit (stops.Full n) bytes left piece opened mid → After (Speaks (full_line n)) (g.may_leave mid) k → Front k
       notice_left n mid k z after_notice =
           let a = z.answered in
           let f = lines_of_front bytes z.taken z.rest (has_ended z.rest piece) z.takes.split (ended_none z.rest piece) in
           let d = after_notice.0 in
-          let here : d ≡ state a.mid = settled_is (state a.mid) (may_leave a.mid) a.are_done.settled (said_by_now a.mid) d (subst (λ (x : D). may_leave x d) a.why.0 after_notice.1) in
-          let speaks : Speaks (full_line n) (state a.mid) k = subst (λ (x : Image). Speaks (full_line n) x k) here after_notice.2 in
+          let here : d ≡ g.state a.mid = settled_is (g.state a.mid) (g.may_leave a.mid) a.are_done.settled (said_by_now a.mid) d (subst (λ (x : D). g.may_leave x d) a.why.0 after_notice.1) in
+          let speaks : Speaks (full_line n) (g.state a.mid) k = subst (λ (x : Image). Speaks (full_line n) x k) here after_notice.2 in
           let file = a.journal.file in
           let answered = input.whole_lines (before_piece z.taken piece) ++ a.extra in
-          front_of_more s (input.lines bytes true) (input.lines z.taken (has_ended z.rest piece)) f.0 (state opened).said k f.1 (record {
+          front_of_more s (input.lines bytes true) (input.lines z.taken (has_ended z.rest piece)) f.0 (g.state opened).said k f.1 (record {
             lines = answered;
             more = a.next ++ a.later;
             split = a.split;
@@ -236,17 +238,17 @@ module _ {D : Type 0} (moment : D → ℕ) (left_since : D → ℕ → Image →
             reached = a.reached;
             run = a.run;
             now = with_steps c a.steps;
-            holds = held_after file c s (state opened) 1 answered a.steps a.reached k h a.run
-                (a.journal.end, holds_same file (with_steps c a.steps) a.journal.end (state a.mid) k speaks.a speaks.b a.are_done.file.holds) (same_other file (state a.mid) k speaks.a speaks.b ∙ a.are_done.other);
+            holds = held_after file c s (g.state opened) 1 answered a.steps a.reached k h a.run
+                (a.journal.end, holds_same file (with_steps c a.steps) a.journal.end (g.state a.mid) k speaks.a speaks.b a.are_done.file.holds) (same_other file (g.state a.mid) k speaks.a speaks.b ∙ a.are_done.other);
             told = inr (inr (record { length = n; part = subst (λ (bs : List ℕ). SaysPart bs (full_line n) k.said) a.are_done.said speaks.said }));
           })
 
-      told_left : (n : ℕ) (mid new : D) → EndsShort moment left_since state may_leave c s full_at limit (stops.Full n) bytes left piece opened mid → Tells moment left_since state may_leave (full_line n) mid new
-          → LeavesOnly moment left_since opened new Front
+      told_left : (n : ℕ) (mid new : D) → EndsShort g c s full_at limit (stops.Full n) bytes left piece opened mid → Tells g (full_line n) mid new
+          → LeavesOnly g opened new Front
       told_left n mid new z told =
-          and_then moment left_since opened mid new Front (After (Speaks (full_line n)) (may_leave mid)) (short_left (stops.Full n) mid z) told.moments (λ k a. notice_left n mid k z a)
+          and_then g opened mid new Front (After (Speaks (full_line n)) (g.may_leave mid)) (short_left (stops.Full n) mid z) told.moments (λ k a. notice_left n mid k z a)
 
-      run_left : (status : Status) (new : D) → RunEnds moment left_since state may_leave status c s full_at limit bytes left piece opened new → LeavesOnly moment left_since opened new Front
+      run_left : (status : Status) (new : D) → RunEnds g status c s full_at limit bytes left piece opened new → LeavesOnly g opened new Front
       run_left Ok new e = all_left full_at (input.lines bytes true) [] new (sym (append-nil (input.lines bytes true))) e.answered
       run_left Read new e = let f = lines_of_front bytes e.taken e.rest false e.takes.split (not_ended e.rest) in all_left full_at (input.lines e.taken false) f.0 new f.1 e.answered
       run_left InputLimit new e =
@@ -254,7 +256,7 @@ module _ {D : Type 0} (moment : D → ℕ) (left_since : D → ℕ → Image →
           all_left full_at (input.lines (take limit bytes) false) f.0 new f.1 e.answered
       run_left Disk new e = short_left stops.Disk new e
       run_left Memory new (inl z) = short_left stops.Memory new z
-      run_left Memory new (inr z) = subst (λ (x : D). LeavesOnly moment left_since opened x Front) (sym z.said) (short_left (stops.Full z.length) z.mid z.short)
+      run_left Memory new (inr z) = subst (λ (x : D). LeavesOnly g opened x Front) (sym z.said) (short_left (stops.Full z.length) z.mid z.short)
       run_left Write new (inl z) = short_left stops.Write new z
       run_left Write new (inr z) = told_left z.length z.mid new z.short z.said
       run_left Full new e = told_left e.length e.mid new e.short e.said.tells
@@ -262,19 +264,19 @@ module _ {D : Type 0} (moment : D → ℕ) (left_since : D → ℕ → Image →
       run_left Usage new e = absurd e
       run_left Damaged new e = absurd e
 
-  module _ (c : Content) (s : State) (old : D) (h : HoldNow c s (state old)) (reads : may_leave old (state old)) (bytes : List ℕ) where
+  module _ (c : Content) (s : State) (old : D) (h : HoldNow c s (g.state old)) (reads : g.may_leave old (g.state old)) (bytes : List ℕ) where
     -- what the opening leaves, or a front of the lines
     abbrev OpeningOrFront : Image → Type 0
-    OpeningOrFront k = LeftByOpening (may_leave old) (state old) k ⊎ HoldsFront s (input.lines bytes true) (state old).said k
+    OpeningOrFront k = LeftByOpening (g.may_leave old) (g.state old) k ⊎ HoldsFront s (input.lines bytes true) (g.state old).said k
 
-    opening_left : (status : Status) (new : D) → OpeningEnds moment left_since state may_leave status old new → LeavesOnly moment left_since old new OpeningOrFront
+    opening_left : (status : Status) (new : D) → OpeningEnds g status old new → LeavesOnly g old new OpeningOrFront
     opening_left Disk new e =
-        weakened moment left_since old new (LeftByOpening (may_leave old) (state old)) OpeningOrFront (part_leaves moment left_since state may_leave old new (said_by_now old) reads e) (λ k l. inl l)
+        weakened g old new (LeftByOpening (g.may_leave old) (g.state old)) OpeningOrFront (part_leaves g old new (said_by_now old) reads e) (λ k l. inl l)
     opening_left Memory new (inl e) =
-        weakened moment left_since old new (LeftByOpening (may_leave old) (state old)) OpeningOrFront (part_leaves moment left_since state may_leave old new (said_by_now old) reads e) (λ k l. inl l)
-    opening_left Memory new (inr e) = absurd (held_or_damaged (state old) c s e.file e.place h e.damaged)
-    opening_left Write new e = absurd (held_or_damaged (state old) c s e.file e.place h e.damaged)
-    opening_left Damaged new e = absurd (held_or_damaged (state old) c s e.file e.place h e.damaged)
+        weakened g old new (LeftByOpening (g.may_leave old) (g.state old)) OpeningOrFront (part_leaves g old new (said_by_now old) reads e) (λ k l. inl l)
+    opening_left Memory new (inr e) = absurd (held_or_damaged (g.state old) c s e.file e.place h e.damaged)
+    opening_left Write new e = absurd (held_or_damaged (g.state old) c s e.file e.place h e.damaged)
+    opening_left Damaged new e = absurd (held_or_damaged (g.state old) c s e.file e.place h e.damaged)
     opening_left Ok new e = absurd e
     opening_left Findings new e = absurd e
     opening_left Usage new e = absurd e
@@ -283,15 +285,15 @@ module _ {D : Type 0} (moment : D → ℕ) (left_since : D → ℕ → Image →
     opening_left InputLimit new e = absurd e
 
     pub crash_left : (status : Status) (new : D) (full_at limit : ℕ) (left : Option (List ℕ)) (piece : ℕ) (Unread : Type 0)
-        → (OpeningEnds moment left_since state may_leave status old new × Unread)
-        ⊎ RunsFrom moment left_since state may_leave (λ k t opened. RunEnds moment left_since state may_leave status k t full_at limit bytes left piece opened new) old
-        → LeavesOnly moment left_since old new OpeningOrFront
+        → (OpeningEnds g status old new × Unread)
+        ⊎ RunsFrom g (λ k t opened. RunEnds g status k t full_at limit bytes left piece opened new) old
+        → LeavesOnly g old new OpeningOrFront
     crash_left status new full_at limit left piece Unread (inl e) = opening_left status new e.0
     crash_left status new full_at limit left piece Unread (inr from) =
         let all = input.lines bytes true in
-        let same : s ≡ from.s = held_once (state old) c from.before s from.s h from.held in
-        and_then moment left_since old from.opened new OpeningOrFront (HoldsFront from.s all (state from.opened).said)
-        (weakened moment left_since old from.opened (LeftByOpening (may_leave old) (state old)) OpeningOrFront
-        (opening_leaves moment left_since state may_leave old from.opened (said_by_now old) reads from.opening) (λ k l. inl l))
+        let same : s ≡ from.s = held_once (g.state old) c from.before s from.s h from.held in
+        and_then g old from.opened new OpeningOrFront (HoldsFront from.s all (g.state from.opened).said)
+        (weakened g old from.opened (LeftByOpening (g.may_leave old) (g.state old)) OpeningOrFront
+        (opening_leaves g old from.opened (said_by_now old) reads from.opening) (λ k l. inl l))
         (run_left from.c from.s from.opened from.holds bytes full_at limit left piece status new from.ends)
-        (λ k front. inr (subst (λ (t : State). HoldsFront t all (state old).said k) (sym same) (subst (λ (bs : List ℕ). HoldsFront from.s all bs k) from.said front)))
+        (λ k front. inr (subst (λ (t : State). HoldsFront t all (g.state old).said k) (sym same) (subst (λ (bs : List ℕ). HoldsFront from.s all bs k) from.said front)))

@@ -14,6 +14,7 @@ pub mod OpenLooked
 pub mod OpenEnds
 pub mod WordsLemmas
 pub mod OpenLaws
+pub mod FaultLemmas
 pub mod ServedLemmas
 pub mod Meant
 pub mod HeadlineLemmas

@@ -8,8 +8,8 @@ use Rattle.byteorder.specs.Endian.{big_bytes}
 use Rattle.yw_base.specs.Spelling.{is_name, are_distinct}
 use Rattle.yw_journal.specs.Files.{LeadsTo}
 use Rattle.yw_codec.specs.Entries.{IsEntry, entry_bytes, is_event, is_text, text_end}
-use Rattle.yw_model.specs.Lines.{line_limit}
-use Rattle.yw_model.specs.Meaning as lines
+use Rattle.yw_lines.specs.Lines.{line_limit}
+use Rattle.yw_lines.specs.Meaning as lines
 use Rattle.yw_state.specs.Broken.{placeless}
 use Rattle.yw_model.specs.Run.{Entry, Step, built_words, Accepts, Refuses, FoundAnswers, MeaningAnswers, Run, taken_by}
 use Rattle.yw_model.specs.Texts.{reader}

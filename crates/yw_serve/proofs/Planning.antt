@@ -2,10 +2,10 @@
 use Rattle.std.proofs.Common.{◌≡◌, ℕ, List, [], ◌∷◌, ◌++◌, true, Option, None, Some, Result, Ok, Err, refl, sym, subst}
 use Rattle.yw_codec.specs.Entries.{entry_bytes}
 use Rattle.yw_journal.specs.Records.{IsFramed}
-use Rattle.yw_model.specs.Replies.{done, refused}
+use Rattle.yw_lines.specs.Replies.{done, refused}
 use Rattle.yw_state.specs.Broken.{Breaks, placeless}
 use Rattle.yw_model.specs.Run.{Entry, Step, built_words, CanBeAsked, MeaningAnswers}
-use Rattle.yw_model.specs.Meaning.{meaning}
+use Rattle.yw_lines.specs.Meaning.{meaning}
 use Rattle.yw_model.specs.Texts.{reader}
 use Rattle.yw_model.proofs.Alone.{legal_alone}
 use Rattle.yw_state.specs.Automatic.{case_of}

@@ -6,11 +6,11 @@ use Rattle.std.proofs.lemmas.Bool.Decides.{eqb_tells}
 use Rattle.std.proofs.Math.Seq.{take-append-add}
 use Rattle.std.specs.Io.KnownBytes.{Consumes, Keeps, IsAtEnd}
 use Rattle.yw_outside.specs.declared.image.Image.{Image}
-use Rattle.yw_outside.specs.Moments.{LeavesOnly}
+use Rattle.yw_outside.specs.Since.{LeavesOnly}
 use Rattle.yw_outside.proofs.Reading.{consumed, still_left, at_end}
 use Rattle.yw_journal.specs.Files.{Content}
 use Rattle.yw_journal.specs.declared.journal.Journal.{Journal}
-use Rattle.yw_model.specs.Lines.{whole_lines, all_lines, lines}
+use Rattle.yw_lines.specs.Lines.{whole_lines, all_lines, lines}
 use Rattle.yw_model.specs.Run.{Run}
 use Rattle.yw_state.specs.State.{State}
 use Rattle.yw_model.proofs.RunLemmas.{Run-append, has_run}
@@ -23,6 +23,7 @@ use Rattle.yw_serve.specs.Reading.{HasAnswered, HasRead}
 use Rattle.yw_serve.proofs.Written.{with_steps-append}
 use Rattle.yw_serve.proofs.Doing.{done_both}
 use Rattle.yw_serve.proofs.Going.{IsReadyAt, none_done, stops_short}
+use Rattle.yw_outside.specs.declared.desk.Desk.{Ghosts}
 
 -- one piece more of all bytes is taken
 takes_more : (bytes taken rest piece later : List ℕ) (old new : Option (List ℕ)) → Takes bytes taken rest old → new ≡ Some later → rest ≡ piece ++ later → Takes bytes (taken ++ piece) later new
@@ -35,20 +36,20 @@ not_ended : (l : List ℕ) (k : ℕ) → 0 < k → has_ended l k ≡ false
 not_ended [] k more = elim (eqb_tells k 0) [ inl same ↦ absurd (omega (arith, same.1)) | inr other ↦ other.0 ]
 not_ended (b ∷ bs) k more = refl
 
-module _ {D : Type 0} (moment : D → ℕ) (left_since : D → ℕ → Image → Type 0) (state : D → Image) (may_leave : D → Image → Type 0) (c : Content) (s : State) (start : D) where
+module _ {D : Type 0} (g : Ghosts D) (c : Content) (s : State) (start : D) where
   pub read_nothing : (session : Session) (limit : ℕ) (bytes : List ℕ) (left : Option (List ℕ)) → left ≡ Some bytes → session.front.items ≡ [] → session.number ≡ 1 → state_of session ≡ s
-      → IsReadyAt moment left_since state may_leave c session.journal start → HasRead moment left_since state may_leave c s session limit 0 bytes left start start
+      → IsReadyAt g c session.journal start → HasRead g c s session limit 0 bytes left start start
   read_nothing session limit bytes left e front number same ready = record {
     taken = [];
     rest = bytes;
     takes = record { split = refl; still = e };
     counted = refl;
-    answered = subst (λ (bs : List ℕ). HasAnswered moment left_since state may_leave c s session bs start start) (sym (take_all limit [] (omega arith)))
-        (record { steps = []; run = same; are_done = none_done moment left_since state may_leave c session.journal start ready; at = front ∙ sym (take_all most_kept [] (omega arith)); number = number });
+    answered = subst (λ (bs : List ℕ). HasAnswered g c s session bs start start) (sym (take_all limit [] (omega arith)))
+        (record { steps = []; run = same; are_done = none_done g c session.journal start ready; at = front ∙ sym (take_all most_kept [] (omega arith)); number = number });
   }
 
-  answered_on : (before now : Session) (taken piece : List ℕ) (mid new : D) → now.journal.file ≡ before.journal.file → now.journal.limit ≡ before.journal.limit → (h : HasAnswered moment left_since state may_leave c s before taken start mid)
-      → GoesOn moment left_since state may_leave (with_steps c h.steps) before now taken piece mid new → HasAnswered moment left_since state may_leave c s now (taken ++ piece) start new
+  answered_on : (before now : Session) (taken piece : List ℕ) (mid new : D) → now.journal.file ≡ before.journal.file → now.journal.limit ≡ before.journal.limit → (h : HasAnswered g c s before taken start mid)
+      → GoesOn g (with_steps c h.steps) before now taken piece mid new → HasAnswered g c s now (taken ++ piece) start new
   answered_on before now taken piece mid new file limit h go =
       let more = go.answers.lines in
       record {
@@ -56,7 +57,7 @@ module _ {D : Type 0} (moment : D → ℕ) (left_since : D → ℕ → Image →
         run = subst (λ (ls : List (List ℕ)). Run s 1 ls (h.steps ++ go.answers.steps) (state_of now)) (sym go.answers.split)
             (Run-append s 1 (whole_lines taken) h.steps (state_of before) more go.answers.steps (state_of now) h.run
             (subst (λ (n : ℕ). Run (state_of before) n more go.answers.steps (state_of now)) h.number go.answers.run));
-        are_done = done_both moment left_since state may_leave c h.steps go.answers.steps before.journal now.journal start mid new file limit h.are_done go.answers.are_done;
+        are_done = done_both g c h.steps go.answers.steps before.journal now.journal start mid new file limit h.are_done go.answers.are_done;
         at = go.at;
         number = go.number ∙ ap (λ n. n + length more) h.number ∙ summed (whole_lines taken) more ∙ ap (λ (ls : List (List ℕ)). 1 + length ls) (sym go.answers.split);
       }
@@ -66,15 +67,15 @@ module _ {D : Type 0} (moment : D → ℕ) (left_since : D → ℕ → Image →
 
   -- it stopped within the lines of the bytes taken since
   short : (stop : Stop) (session : Session) (limit piece : ℕ) (bytes seen taken rest : List ℕ) (left : Option (List ℕ)) (mid new : D)
-      → Takes bytes taken rest left → length taken ≤ limit + 1 → (h : HasAnswered moment left_since state may_leave c s session seen start mid) → seen ≡ before_piece taken piece
-      → StopsWithin moment left_since state may_leave (with_steps c h.steps) stop session (whole_lines seen) (lines taken (has_ended rest piece)) mid new
-      → EndsShort moment left_since state may_leave c s session.journal.limit limit stop bytes left piece start new
+      → Takes bytes taken rest left → length taken ≤ limit + 1 → (h : HasAnswered g c s session seen start mid) → seen ≡ before_piece taken piece
+      → StopsWithin g (with_steps c h.steps) stop session (whole_lines seen) (lines taken (has_ended rest piece)) mid new
+      → EndsShort g c s session.journal.limit limit stop bytes left piece start new
   short stop session limit piece bytes seen taken rest left mid new t within h e z = record {
     taken = taken;
     rest = rest;
     takes = t;
     within = within;
-    answered = subst (λ (bs : List ℕ). SomeAnswered moment left_since state may_leave c s session.journal.limit stop (whole_lines bs) (lines taken (has_ended rest piece)) start new) e (record {
+    answered = subst (λ (bs : List ℕ). SomeAnswered g c s session.journal.limit stop (whole_lines bs) (lines taken (has_ended rest piece)) start new) e (record {
       extra = z.lines;
       next = z.next;
       later = z.later;
@@ -84,13 +85,13 @@ module _ {D : Type 0} (moment : D → ℕ) (left_since : D → ℕ → Image →
       run = Run-append s 1 (whole_lines seen) h.steps (state_of session) z.lines z.steps z.reached h.run (subst (λ (n : ℕ). Run (state_of session) n z.lines z.steps z.reached) h.number z.run);
       mid = z.mid;
       journal = z.journal;
-      are_done = done_both moment left_since state may_leave c h.steps z.steps session.journal z.journal start mid z.mid z.file z.limit h.are_done z.are_done;
+      are_done = done_both g c h.steps z.steps session.journal z.journal start mid z.mid z.file z.limit h.are_done z.are_done;
       work = z.work;
       after = z.after;
       run_on = subst (λ (n : ℕ). Run z.reached n z.next z.work z.after) (ap (λ n. n + length z.lines) h.number ∙ summed (whole_lines seen) z.lines) z.run_on;
       goes_on = has_run z.after (1 + length (whole_lines seen ++ z.lines) + length z.next) z.later;
-      moments = subst (λ (x : Content). LeavesOnly moment left_since z.mid new (OfSteps z.journal.file x z.work (state z.mid))) (with_steps-append c h.steps z.steps) z.moments;
-      why = subst (λ (x : Content). Why state x stop z.journal z.work z.mid new) (with_steps-append c h.steps z.steps) z.why;
+      moments = subst (λ (x : Content). LeavesOnly g z.mid new (OfSteps z.journal.file x z.work (g.state z.mid))) (with_steps-append c h.steps z.steps) z.moments;
+      why = subst (λ (x : Content). Why g x stop z.journal z.work z.mid new) (with_steps-append c h.steps z.steps) z.why;
       limited = z.limit;
     });
   }
@@ -99,8 +100,8 @@ module _ {D : Type 0} (moment : D → ℕ) (left_since : D → ℕ → Image →
       summed xs ys = omega (arith, length-append xs ys)
 
   -- more came than the limit allows
-  pub read_past : (session : Session) (limit count : ℕ) (bytes : List ℕ) (left : Option (List ℕ)) (new : D) → HasRead moment left_since state may_leave c s session limit count bytes left start new
-      → limit < count → count ≤ limit + 1 → EndsPast moment left_since state may_leave c s session.journal.limit limit bytes left start new
+  pub read_past : (session : Session) (limit count : ℕ) (bytes : List ℕ) (left : Option (List ℕ)) (new : D) → HasRead g c s session limit count bytes left start new
+      → limit < count → count ≤ limit + 1 → EndsPast g c s session.journal.limit limit bytes left start new
   read_past session limit count bytes left new h more most =
       let exact : length h.taken ≡ limit + 1 = omega (arith, h.counted) in
       let all : take (limit + 1) bytes ≡ h.taken = ap (take (limit + 1)) h.takes.split ∙ take_at h.taken h.rest (limit + 1) exact in
@@ -109,16 +110,16 @@ module _ {D : Type 0} (moment : D → ℕ) (left_since : D → ℕ → Image →
       record {
         past = omega (arith, exact, ap length h.takes.split, length-append h.taken h.rest);
         takes = subst (λ (bs : List ℕ). Takes bytes bs (drop (limit + 1) bytes) left) (sym all) (subst (λ (bs : List ℕ). Takes bytes h.taken bs left) (sym rest) h.takes);
-        answered = subst (λ (bs : List ℕ). AllAnswered moment left_since state may_leave c s session.journal.limit (whole_lines bs) start new) (sym front)
+        answered = subst (λ (bs : List ℕ). AllAnswered g c s session.journal.limit (whole_lines bs) start new) (sym front)
             (record { steps = h.answered.steps; reached = state_of session; run = h.answered.run; journal = session.journal; limited = refl; are_done = h.answered.are_done });
       }
 
-  module _ (session : Session) (limit count : ℕ) (bytes : List ℕ) (left new_left : Option (List ℕ)) (mid : D) (h : HasRead moment left_since state may_leave c s session limit count bytes left start mid) (within : count ≤ limit) where
-    pub all_answered : HasAnswered moment left_since state may_leave c s session h.taken start mid
-    all_answered = subst (λ (bs : List ℕ). HasAnswered moment left_since state may_leave c s session bs start mid) (take_all limit h.taken (omega (arith, h.counted))) h.answered
+  module _ (session : Session) (limit count : ℕ) (bytes : List ℕ) (left new_left : Option (List ℕ)) (mid : D) (h : HasRead g c s session limit count bytes left start mid) (within : count ≤ limit) where
+    pub all_answered : HasAnswered g c s session h.taken start mid
+    all_answered = subst (λ (bs : List ℕ). HasAnswered g c s session bs start mid) (take_all limit h.taken (omega (arith, h.counted))) h.answered
 
     -- nothing could be read
-    pub read_failed : Keeps left new_left → EndsBetween moment left_since state may_leave c s session.journal.limit limit bytes new_left start mid
+    pub read_failed : Keeps left new_left → EndsBetween g c s session.journal.limit limit bytes new_left start mid
     read_failed keeps = record {
       taken = h.taken;
       rest = h.rest;
@@ -136,8 +137,8 @@ module _ {D : Type 0} (moment : D → ℕ) (left_since : D → ℕ → Image →
           (whole, record { split = whole ∙ sym (append-nil h.taken); still = e.1 ∙ ap Some none })
 
       pub read_all : (t : State) (journal : Journal) (new : D) → journal.file ≡ session.journal.file → journal.limit ≡ session.journal.limit
-          → AnswersOn moment left_since state may_leave (with_steps c all_answered.steps) session (whole_lines h.taken) (all_lines h.taken) t journal mid new
-          → EndsWhole moment left_since state may_leave c s session.journal.limit limit bytes new_left start new
+          → AnswersOn g (with_steps c all_answered.steps) session (whole_lines h.taken) (all_lines h.taken) t journal mid new
+          → EndsWhole g c s session.journal.limit limit bytes new_left start new
       read_all t journal new file limit_too a =
           let whole = all_taken.0 in
           let steps = all_answered.steps ++ a.steps in
@@ -146,18 +147,18 @@ module _ {D : Type 0} (moment : D → ℕ) (left_since : D → ℕ → Image →
           record {
             within = omega (arith, ap length whole, h.counted);
             takes = subst (λ (bs : List ℕ). Takes bytes bs [] new_left) (sym whole) all_taken.1;
-            answered = subst (λ (bs : List ℕ). AllAnswered moment left_since state may_leave c s session.journal.limit (all_lines bs) start new) (sym whole)
-                (record { steps = steps; reached = t; run = run; journal = journal; limited = limit_too; are_done = done_both moment left_since state may_leave c all_answered.steps a.steps session.journal journal start mid new file limit_too all_answered.are_done a.are_done });
+            answered = subst (λ (bs : List ℕ). AllAnswered g c s session.journal.limit (all_lines bs) start new) (sym whole)
+                (record { steps = steps; reached = t; run = run; journal = journal; limited = limit_too; are_done = done_both g c all_answered.steps a.steps session.journal journal start mid new file limit_too all_answered.are_done a.are_done });
           }
 
       pub stopped_at_end : (stop : Stop) (piece : ℕ) (new : D) → piece ≡ 0
-          → StopsWithin moment left_since state may_leave (with_steps c all_answered.steps) stop session (whole_lines h.taken) (all_lines h.taken) mid new
-          → EndsShort moment left_since state may_leave c s session.journal.limit limit stop bytes new_left piece start new
+          → StopsWithin g (with_steps c all_answered.steps) stop session (whole_lines h.taken) (all_lines h.taken) mid new
+          → EndsShort g c s session.journal.limit limit stop bytes new_left piece start new
       stopped_at_end stop piece new zero z =
           let same : lines h.taken (has_ended [] piece) ≡ all_lines h.taken = ap (λ n. lines h.taken (n == 0)) zero in
           short stop session limit piece bytes h.taken h.taken [] new_left mid new all_taken.1 (omega (arith, h.counted)) all_answered
           (sym (take_all (length h.taken - piece) h.taken (omega arith)))
-          (subst (λ (ls : List (List ℕ)). StopsWithin moment left_since state may_leave (with_steps c all_answered.steps) stop session (whole_lines h.taken) ls mid new) (sym same) z)
+          (subst (λ (ls : List (List ℕ)). StopsWithin g (with_steps c all_answered.steps) stop session (whole_lines h.taken) ls mid new) (sym same) z)
 
     module _ (room : List ℕ) (n kept : ℕ) (fits : n ≤ length room) (most : n ≤ limit - count + 1) (some : kept ≡ min n (limit - count)) (eats : Consumes left new_left (take n room)) where
       piece : List ℕ
@@ -188,25 +189,25 @@ module _ {D : Type 0} (moment : D → ℕ) (left_since : D → ℕ → Image →
           let whole : limit ≡ length h.taken + (limit - count) = omega (arith, h.counted) in
           ap (λ k. take k (h.taken ++ piece)) whole ∙ take-append-add h.taken piece (limit - count) ∙ ap (λ (bs : List ℕ). h.taken ++ bs) (sym kept_of_piece)
 
-      pub read_on : (next : Session) (new : D) → next.journal.file ≡ session.journal.file → next.journal.limit ≡ session.journal.limit → GoesOn moment left_since state may_leave (with_steps c all_answered.steps) session next h.taken (take kept room) mid new
-          → HasRead moment left_since state may_leave c s next limit (count + n) bytes new_left start new
+      pub read_on : (next : Session) (new : D) → next.journal.file ≡ session.journal.file → next.journal.limit ≡ session.journal.limit → GoesOn g (with_steps c all_answered.steps) session next h.taken (take kept room) mid new
+          → HasRead g c s next limit (count + n) bytes new_left start new
       read_on next new file limit_too go = record {
         taken = h.taken ++ piece;
         rest = later.0;
         takes = now_taken;
         counted = length-append h.taken piece ∙ ap (λ k. k + length piece) h.counted ∙ ap (λ k. count + k) length_piece;
-        answered = subst (λ (bs : List ℕ). HasAnswered moment left_since state may_leave c s next bs start new) (sym within_limit) (answered_on session next h.taken (take kept room) mid new file limit_too all_answered go);
+        answered = subst (λ (bs : List ℕ). HasAnswered g c s next bs start new) (sym within_limit) (answered_on session next h.taken (take kept room) mid new file limit_too all_answered go);
       }
 
       pub stopped_in_piece : (stop : Stop) (count_now : ℕ) (new : D) → count_now ≡ n → 0 < n
-          → StopsWithin moment left_since state may_leave (with_steps c all_answered.steps) stop session (whole_lines h.taken) (whole_lines (h.taken ++ take kept room)) mid new
-          → EndsShort moment left_since state may_leave c s session.journal.limit limit stop bytes new_left count_now start new
+          → StopsWithin g (with_steps c all_answered.steps) stop session (whole_lines h.taken) (whole_lines (h.taken ++ take kept room)) mid new
+          → EndsShort g c s session.journal.limit limit stop bytes new_left count_now start new
       stopped_in_piece stop count_now new is more z =
           let taken : List ℕ = h.taken ++ piece in
           let long : length taken ≡ count + n = length-append h.taken piece ∙ ap (λ k. k + length piece) h.counted ∙ ap (λ k. count + k) length_piece in
           let earlier : h.taken ≡ before_piece taken count_now = sym (ap (λ k. take k taken) (omega (arith, long, h.counted)) ∙ take_at h.taken piece (length h.taken) refl) in
           let split : taken ≡ (h.taken ++ take kept room) ++ drop limit taken = sym (ap (λ (bs : List ℕ). bs ++ drop limit taken) (sym within_limit) ∙ take-append-drop limit taken) in
-          let cut = stops_short moment left_since state may_leave (with_steps c all_answered.steps) stop session (whole_lines h.taken) (h.taken ++ take kept room) (drop limit taken) taken mid new split z in
+          let cut = stops_short g (with_steps c all_answered.steps) stop session (whole_lines h.taken) (h.taken ++ take kept room) (drop limit taken) taken mid new split z in
           let open_end : lines taken (has_ended later.0 count_now) ≡ whole_lines taken = ap (lines taken) (not_ended later.0 count_now (omega arith)) in
           short stop session limit count_now bytes h.taken taken later.0 new_left mid new now_taken (omega (arith, long)) all_answered earlier
-          (subst (λ (ls : List (List ℕ)). StopsWithin moment left_since state may_leave (with_steps c all_answered.steps) stop session (whole_lines h.taken) ls mid new) (sym open_end) cut)
+          (subst (λ (ls : List (List ℕ)). StopsWithin g (with_steps c all_answered.steps) stop session (whole_lines h.taken) ls mid new) (sym open_end) cut)

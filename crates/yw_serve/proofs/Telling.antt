@@ -6,7 +6,8 @@ use Rattle.yw_outside.specs.declared.desk.File.TheVariants.{A, B}
 use Rattle.yw_outside.specs.declared.image.Image.{Image}
 use Rattle.yw_outside.specs.Image.{SaysPart, Speaks, file_in, other_in}
 use Rattle.yw_outside.specs.LogLaws.{silent}
-use Rattle.yw_outside.specs.Moments.{After, Passes, IsSettled, LeavesOnly}
+use Rattle.yw_outside.specs.Moments.{After, Passes, IsSettled}
+use Rattle.yw_outside.specs.Since.{LeavesOnly}
 use Rattle.yw_journal.specs.Files.{Content, Holds, IsLesser, FileHas}
 use Rattle.yw_journal.specs.Journal.{IsCurrent, IsBeforeOrAfter, with_record}
 use Rattle.yw_journal.specs.declared.journal.Journal.{Journal}
@@ -16,6 +17,7 @@ use Rattle.yw_codec.specs.Entries.{entry_bytes}
 use Rattle.yw_model.specs.Run.{Entry, Step, said_by, taken_by}
 use Rattle.yw_serve.specs.Session.{file_after, HasRoom, with_steps, IsIn, OfSteps, AreDone}
 use Rattle.yw_serve.proofs.Written.{with_none, with_one, with_steps-none}
+use Rattle.yw_outside.specs.declared.desk.Desk.{Ghosts}
 
 nothing_said : (old reply new : List ℕ) → new ≡ old → SaysPart old reply new
 nothing_said old reply new e = ([], reply, refl, e ∙ sym (append-nil old))
@@ -72,44 +74,44 @@ pub of_telling : (f : File) (c : Content) (step : Step) (end : ℕ) (old mid i :
 of_telling f c step end old mid i h said other s =
     at_work f c step old i (end, holds_same f (with_steps c (step ∷ [])) end mid i s.a s.b h) (subst (λ (bs : List ℕ). SaysPart bs step.reply i.said) said s.said) (same_other f mid i s.a s.b ∙ other)
 
-module _ {D : Type 0} (moment : D → ℕ) (left_since : D → ℕ → Image → Type 0) where
+module _ {D : Type 0} (g : Ghosts D) where
   pub told : (old new : D) (state : Image) (may_old may_new : Image → Type 0) (text : List ℕ) → IsSettled state may_old → ((i : Image) → may_old i → i.said ≡ state.said)
-      → ((i : Image) → left_since old (moment old) i → may_old i) → Passes (Speaks text) (moment old) (moment new) (left_since old) (left_since new) may_old may_new
-      → LeavesOnly moment left_since old new (Speaks text state)
+      → ((i : Image) → g.left_since old (g.moment old) i → may_old i) → Passes (Speaks text) (g.moment old) (g.moment new) (g.left_since old) (g.left_since new) may_old may_new
+      → LeavesOnly g old new (Speaks text state)
   told old new state may_old may_new text settled said now time =
       let only = settled_is state may_old settled said in
-      goes_on moment left_since old old new (Speaks text) may_old may_new (Speaks text state)
-      (started moment left_since old (Speaks text state) (λ i left. subst (λ (d : Image). Speaks text state d) (sym (only i (now i left))) (silent text state)))
+      goes_on g old old new (Speaks text) may_old may_new (Speaks text state)
+      (started g old (Speaks text state) (λ i left. subst (λ (d : Image). Speaks text state d) (sym (only i (now i left))) (silent text state)))
       time (λ i a. subst (λ (d : Image). Speaks text d i) (only a.0 a.1) a.2)
 
-module _ {D : Type 0} (moment : D → ℕ) (left_since : D → ℕ → Image → Type 0) (state : D → Image) (may_leave : D → Image → Type 0)
+module _ {D : Type 0} (g : Ghosts D)
     (c : Content) (step : Step) (journal : Journal) (old mid new : D) (text : List ℕ) (reply : text ≡ step.reply)
-    (current : IsCurrent journal (with_steps c (step ∷ [])) (state mid)) (unsaid : (state mid).said ≡ (state old).said) (other : other_in journal.file (state mid) ≡ other_in journal.file (state old))
-    (first : LeavesOnly moment left_since old mid (OfSteps journal.file c (step ∷ []) (state old))) (second : LeavesOnly moment left_since mid new (Speaks text (state mid))) where
+    (current : IsCurrent journal (with_steps c (step ∷ [])) (g.state mid)) (unsaid : (g.state mid).said ≡ (g.state old).said) (other : other_in journal.file (g.state mid) ≡ other_in journal.file (g.state old))
+    (first : LeavesOnly g old mid (OfSteps journal.file c (step ∷ []) (g.state old))) (second : LeavesOnly g mid new (Speaks text (g.state mid))) where
   -- a reply that is said, or a front of it, behind its entry
-  pub leaves_telling : LeavesOnly moment left_since old new (OfSteps journal.file c (step ∷ []) (state old))
-  leaves_telling = and_then moment left_since old mid new (OfSteps journal.file c (step ∷ []) (state old)) (Speaks text (state mid)) first second
-      (λ i s. of_telling journal.file c step journal.end (state old) (state mid) i current.holds unsaid other (subst (λ (t : List ℕ). Speaks t (state mid) i) reply s))
+  pub leaves_telling : LeavesOnly g old new (OfSteps journal.file c (step ∷ []) (g.state old))
+  leaves_telling = and_then g old mid new (OfSteps journal.file c (step ∷ []) (g.state old)) (Speaks text (g.state mid)) first second
+      (λ i s. of_telling journal.file c step journal.end (g.state old) (g.state mid) i current.holds unsaid other (subst (λ (t : List ℕ). Speaks t (g.state mid) i) reply s))
 
-  pub done_by_telling : HasRoom journal.limit c (step ∷ []) → file_in journal.file (state mid) ≡ file_after (file_in journal.file (state old)) c (taken_by (step ∷ [])) → (state new).a ≡ (state mid).a → (state new).b ≡ (state mid).b → (state new).said ≡ (state mid).said ++ text → IsSettled (state new) (may_leave new)
-      → AreDone moment left_since state may_leave c (step ∷ []) journal old new
+  pub done_by_telling : HasRoom journal.limit c (step ∷ []) → file_in journal.file (g.state mid) ≡ file_after (file_in journal.file (g.state old)) c (taken_by (step ∷ [])) → (g.state new).a ≡ (g.state mid).a → (g.state new).b ≡ (g.state mid).b → (g.state new).said ≡ (g.state mid).said ++ text → IsSettled (g.state new) (g.may_leave new)
+      → AreDone g c (step ∷ []) journal old new
   done_by_telling room bytes a b said settled = record {
     room = room;
-    bytes = same_file journal.file (state mid) (state new) a b ∙ bytes;
-    file = record { holds = holds_same journal.file (with_steps c (step ∷ [])) journal.end (state mid) (state new) a b current.holds; generation = current.generation; number = current.number };
-    other = same_other journal.file (state mid) (state new) a b ∙ other;
-    said = said ∙ ap (λ (bs : List ℕ). bs ++ text) unsaid ∙ ap (λ (bs : List ℕ). (state old).said ++ bs) (reply ∙ sym (said_by-one step));
+    bytes = same_file journal.file (g.state mid) (g.state new) a b ∙ bytes;
+    file = record { holds = holds_same journal.file (with_steps c (step ∷ [])) journal.end (g.state mid) (g.state new) a b current.holds; generation = current.generation; number = current.number };
+    other = same_other journal.file (g.state mid) (g.state new) a b ∙ other;
+    said = said ∙ ap (λ (bs : List ℕ). bs ++ text) unsaid ∙ ap (λ (bs : List ℕ). (g.state old).said ++ bs) (reply ∙ sym (said_by-one step));
     settled = settled;
     moments = leaves_telling;
   }
 
 -- a text that is said, or a front of it, behind what a crash might have left before
-module _ {D : Type 0} (moment : D → ℕ) (left_since : D → ℕ → Image → Type 0) where
-  pub told_after : (old new : D) (may_old may_new : Image → Type 0) (text : List ℕ) → ((i : Image) → left_since old (moment old) i → may_old i)
-      → Passes (Speaks text) (moment old) (moment new) (left_since old) (left_since new) may_old may_new → LeavesOnly moment left_since old new (After (Speaks text) may_old)
+module _ {D : Type 0} (g : Ghosts D) where
+  pub told_after : (old new : D) (may_old may_new : Image → Type 0) (text : List ℕ) → ((i : Image) → g.left_since old (g.moment old) i → may_old i)
+      → Passes (Speaks text) (g.moment old) (g.moment new) (g.left_since old) (g.left_since new) may_old may_new → LeavesOnly g old new (After (Speaks text) may_old)
   told_after old new may_old may_new text now time =
-      goes_on moment left_since old old new (Speaks text) may_old may_new (After (Speaks text) may_old)
-      (started moment left_since old (After (Speaks text) may_old) (λ i left. (i, now i left, silent text i)))
+      goes_on g old old new (Speaks text) may_old may_new (After (Speaks text) may_old)
+      (started g old (After (Speaks text) may_old) (λ i left. (i, now i left, silent text i)))
       time (λ i a. a)
 
 -- before a step that takes nothing

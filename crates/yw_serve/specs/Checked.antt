@@ -8,6 +8,7 @@ use Rattle.yw_verdict.specs.declared.verdict.Verdict.{Verdict}
 use Rattle.yw_verdict.specs.declared.verdict.Verdict.TheVariants as verdicts
 use Rattle.yw_serve.specs.declared.top.Status.{Status}
 use Rattle.yw_serve.specs.declared.top.Status.TheVariants.{Ok, Findings, Usage, Disk, Memory, Read, Write, Damaged, Full, InputLimit}
+use Rattle.yw_outside.specs.declared.desk.Desk.{Ghosts}
 
 abbrev pub status_of : Verdict → Status
 status_of verdicts.Accepted = Ok
@@ -17,12 +18,12 @@ status_of verdicts.Read = Read
 status_of verdicts.Write = Write
 
 -- The status is that of a verdict on these bytes, which was said; nothing else may be found of them.
-pub record Checks {D : Type 0} (moment : D → ℕ) (left_since : D → ℕ → Image → Type 0) (state : D → Image) (may_leave : D → Image → Type 0)
+pub record Checks {D : Type 0} (g : Ghosts D)
     (status : Status) (bytes : List ℕ) (left : Option (List ℕ)) (old new : D) : Type 0 where
   pub verdict : Verdict
   pub is : status ≡ status_of verdict
-  pub ends : Ends moment left_since state may_leave verdict bytes old new
-  pub only : (finding : Finding) → IsFound bytes finding → Says moment left_since state may_leave verdict finding old new
+  pub ends : Ends g verdict bytes old new
+  pub only : (finding : Finding) → IsFound bytes finding → Says g verdict finding old new
   pub takes : Takes verdict bytes left
 
 -- the statuses that the words `check` may end with

@@ -5,15 +5,16 @@ use Rattle.yw_outside.specs.declared.image.Image.{Image}
 use Rattle.yw_journal.specs.Files.{Content}
 use Rattle.yw_journal.specs.Journal.{IsReady, IsCurrent}
 use Rattle.yw_journal.specs.declared.journal.Journal.{Journal}
+use Rattle.yw_outside.specs.declared.desk.Desk.{Ghosts}
 
 -- The journal stands for what the desk's files hold, where it tells them, and nothing is pending.
-pub record Stands {D : Type 0} (tells : D → Bool) (state : D → Image) (may_leave : D → Image → Type 0) (journal : Journal) (desk : D) : Type 0 where
+pub record Stands {D : Type 0} (g : Ghosts D) (journal : Journal) (desk : D) : Type 0 where
   pub ready : IsReady journal
-  pub current : IsTrue (tells desk) → (c : Content) × IsCurrent journal c (state desk)
-  pub settled : IsTrue (tells desk) → IsSettled (state desk) (may_leave desk)
+  pub current : IsTrue (g.tells desk) → (c : Content) × IsCurrent journal c (g.state desk)
+  pub settled : IsTrue (g.tells desk) → IsSettled (g.state desk) (g.may_leave desk)
 
 -- It tells as it did, and no count of faults has fallen.
-pub record KeepsCounts {D : Type 0} (tells : D → Bool) (disk_faults say_faults : D → ℕ) (old new : D) : Type 0 where
-  pub telling : tells new ≡ tells old
-  pub disk : disk_faults old ≤ disk_faults new
-  pub say : say_faults old ≤ say_faults new
+pub record KeepsCounts {D : Type 0} (g : Ghosts D) (old new : D) : Type 0 where
+  pub telling : g.tells new ≡ g.tells old
+  pub disk : g.disk_faults old ≤ g.disk_faults new
+  pub say : g.say_faults old ≤ g.say_faults new

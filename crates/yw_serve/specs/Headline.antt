@@ -8,20 +8,21 @@ use Rattle.yw_model.specs.Run.{Step, Run, said_by}
 use Rattle.yw_state.specs.State.{State}
 use Rattle.yw_serve.specs.Damage.{HoldNow}
 use Rattle.yw_serve.specs.Notices.{full_line}
+use Rattle.yw_outside.specs.declared.desk.Desk.{Ghosts}
 
 -- The files held a state, a run over all lines leads from it to another, which they hold now and after a crash, and all replies of the
 -- run are said.
-pub record Serves {D : Type 0} (state : D → Image) (may_leave : D → Image → Type 0) (all : List (List ℕ)) (old new : D) : Type 0 where
+pub record Serves {D : Type 0} (g : Ghosts D) (all : List (List ℕ)) (old new : D) : Type 0 where
   pub s : State
   pub before : Content
-  pub held : HoldNow before s (state old)
+  pub held : HoldNow before s (g.state old)
   pub steps : List Step
   pub reached : State
   pub run : Run s 1 all steps reached
   pub now : Content
-  pub holds : HoldNow now reached (state new)
-  pub settled : IsSettled (state new) (may_leave new)
-  pub said : (state new).said ≡ (state old).said ++ said_by steps
+  pub holds : HoldNow now reached (g.state new)
+  pub settled : IsSettled (g.state new) (g.may_leave new)
+  pub said : (g.state new).said ≡ (g.state old).said ++ said_by steps
 
 -- The replies of all steps but the last are said, and a front of its own.
 pub record IsReplying (steps : List Step) (old now : List ℕ) : Type 0 where

@@ -1,6 +1,6 @@
 -- How much of a line is kept.
 use Rattle.std.specs.Prelude.{ℕ, ◌+◌, List, take}
-use Rattle.yw_model.specs.Lines.{line_limit}
+use Rattle.yw_lines.specs.Lines.{line_limit}
 
 -- of a line that is too long, one byte more than the limit
 unfoldable pub most_kept : ℕ

@@ -11,3 +11,4 @@ pub mod Notices
 pub mod Served
 pub mod Headline
 pub mod Checked
+pub mod Faults

@@ -1,7 +1,7 @@
 -- The two lines that are said beside replies: a damage of the files, and a file that has no room.
 use Rattle.std.specs.Prelude.{ℕ, List, codes}
 use Rattle.serde_json.specs.Data.{Data, unsigned, number, string, object, no_members, member}
-use Rattle.yw_model.specs.Replies.{line_of}
+use Rattle.yw_lines.specs.Replies.{line_of}
 use Rattle.yw_outside.specs.declared.desk.File.{File}
 use Rattle.yw_outside.specs.declared.desk.File.TheVariants.{A, B}
 

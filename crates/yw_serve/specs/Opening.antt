@@ -1,8 +1,9 @@
 -- What the opening of the files finds and leaves.
-use Rattle.std.specs.Prelude.{◌≡◌, ◌≢◌, ◌⊎◌, ℕ, ◌+◌, ◌≤◌, List, [], ◌∷◌, ◌++◌, length, take, drop, Bool, true, false, Option, None, MatchOption, Result, MatchResult}
+use Rattle.std.specs.Prelude.{◌≡◌, ◌≢◌, ◌⊎◌, ℕ, ◌+◌, ◌≤◌, List, [], ◌∷◌, ◌++◌, length, take, drop, Bool, true, false, Option, None, MatchOption, Result, Ok, Err, MatchResult}
 use Rattle.std.specs.Int.{w32, from_be_bytes}
 use Rattle.yw_outside.specs.Causes.{Rose}
-use Rattle.yw_outside.specs.Moments.{IsSettled, LeavesOnly}
+use Rattle.yw_outside.specs.Moments.{IsSettled}
+use Rattle.yw_outside.specs.Since.{LeavesOnly}
 use Rattle.yw_outside.specs.declared.desk.File.{File}
 use Rattle.yw_outside.specs.declared.desk.File.TheVariants.{A}
 use Rattle.yw_outside.specs.declared.image.Image.{Image}
@@ -22,25 +23,32 @@ use Rattle.yw_serve.specs.declared.opening.OpenFault.TheVariants.{Disk, Damaged,
 use Rattle.yw_serve.specs.declared.opening.Opened.{Opened}
 use Rattle.yw_serve.specs.declared.opening_entries.Gate.{Gate}
 use Rattle.yw_serve.specs.declared.opening_entries.Gate.TheVariants.{Closed, Open, Cut}
+use Rattle.yw_outside.specs.declared.desk.Desk.{Ghosts}
 
 abbrev pub opened_state : Opened → State
 opened_state opened = library.state_of opened.library
 
 -- Only reads and syncs came between two states of a desk: it holds what it held, and a crash leaves nothing new.
-pub record OnlyLooked {D : Type 0} (moment : D → ℕ) (left_since : D → ℕ → Image → Type 0) (state : D → Image) (may_leave : D → Image → Type 0)
-    (tells : D → Bool) (disk_faults say_faults : D → ℕ) (old new : D) : Type 0 where
-  pub same : state new ≡ state old
-  pub crash : (c : Image) → may_leave new c → may_leave old c
-  pub moments : LeavesOnly moment left_since old new (may_leave old)
-  pub telling : tells new ≡ tells old
-  pub disk : disk_faults old ≤ disk_faults new
-  pub say : say_faults new ≡ say_faults old
+pub record OnlyLooked {D : Type 0} (g : Ghosts D) (old new : D) : Type 0 where
+  pub same : g.state new ≡ g.state old
+  pub crash : (c : Image) → g.may_leave new c → g.may_leave old c
+  pub moments : LeavesOnly g old new (g.may_leave old)
+  pub telling : g.tells new ≡ g.tells old
+  pub disk : g.disk_faults old ≤ g.disk_faults new
+  pub say : g.say_faults new ≡ g.say_faults old
 
--- Why the opening fails: a call of the files failed, or this damage was found, or no memory was left.
+-- Why the opening fails: a call of the files failed, or this damage was found, or no memory was left, and no call had failed.
 abbrev pub HasFaultCause : (File → ℕ → Type 0) → ℕ → ℕ → OpenFault → Type 0
 HasFaultCause found before now Disk = Rose before now
-HasFaultCause found before now (Damaged f place) = found f place
-HasFaultCause found before now Memory = Unit {0}
+HasFaultCause found before now (Damaged f place) = found f place × (now ≡ before)
+HasFaultCause found before now Memory = now ≡ before
+
+-- how the count of the files' faults stands after an opening: it rose under Disk, and is what it was else
+abbrev pub OpenFaults : {D T : Type 0} → Ghosts D → Result T OpenFault → D → D → Type 0
+OpenFaults g (Ok opened) old new = g.disk_faults new ≡ g.disk_faults old
+OpenFaults g (Err Disk) old new = Rose (g.disk_faults old) (g.disk_faults new)
+OpenFaults g (Err (Damaged f place)) old new = g.disk_faults new ≡ g.disk_faults old
+OpenFaults g (Err Memory) old new = g.disk_faults new ≡ g.disk_faults old
 
 -- A file's length and its first 30 bytes, where it is live.
 pub record IsHeadOf (file : List ℕ) (head : Head) : Type 0 where
@@ -129,18 +137,18 @@ pub record LeftBehindSyncs (i k : Image) : Type 0 where
   pub said : k.said ≡ i.said
 
 -- The files aren't synced yet: they are as they were, and a crash leaves what it might have left before.
-pub record IsUnsynced {D : Type 0} (moment : D → ℕ) (left_since : D → ℕ → Image → Type 0) (state : D → Image) (may_leave : D → Image → Type 0) (old new : D) : Type 0 where
-  pub same : state new ≡ state old
-  pub moments : LeavesOnly moment left_since old new (may_leave old)
+pub record IsUnsynced {D : Type 0} (g : Ghosts D) (old new : D) : Type 0 where
+  pub same : g.state new ≡ g.state old
+  pub moments : LeavesOnly g old new (g.may_leave old)
 
 -- First the files are synced, as they were. Up to then a crash leaves what it might have left before, and from then on the files as they
 -- were, or file A being begun.
-pub record OpensBy {D : Type 0} (moment : D → ℕ) (left_since : D → ℕ → Image → Type 0) (state : D → Image) (may_leave : D → Image → Type 0) (old new : D) : Type 0 where
+pub record OpensBy {D : Type 0} (g : Ghosts D) (old new : D) : Type 0 where
   pub synced : D
-  pub same : state synced ≡ state old
-  pub settled : IsSettled (state synced) (may_leave synced)
-  pub before : LeavesOnly moment left_since old synced (may_leave old)
-  pub behind : LeavesOnly moment left_since synced new (LeftBehindSyncs (state old))
+  pub same : g.state synced ≡ g.state old
+  pub settled : IsSettled (g.state synced) (g.may_leave synced)
+  pub before : LeavesOnly g old synced (g.may_leave old)
+  pub behind : LeavesOnly g synced new (LeftBehindSyncs (g.state old))
 
 -- The content that was found goes on, and not one byte of file A has changed; or no file was live, and file A is begun.
 abbrev pub GoesOnOrBegins : Content → Content → Image → Image → Type 0

@@ -2,7 +2,7 @@
 use Rattle.std.specs.Prelude.{◌≡◌, ℕ, List, [], ◌∷◌, true, Option, Some, None}
 use Rattle.yw_codec.specs.Entries.{entry_bytes, framed}
 use Rattle.yw_journal.specs.Records.{IsFramed}
-use Rattle.yw_model.specs.Replies.{done, refused}
+use Rattle.yw_lines.specs.Replies.{done, refused}
 use Rattle.yw_state.specs.Broken.{placeless}
 use Rattle.yw_model.specs.Run.{Entry, Step, Answers, CommandAnswers}
 use Rattle.yw_state.specs.declared.command.Command.{Command}

@@ -1,7 +1,8 @@
 -- How far a session has come: which lines are answered, what the files hold of them at each moment, and what is kept of the next line.
 use Rattle.std.specs.Prelude.{◌≡◌, ◌⊎◌, ℕ, ◌+◌, ◌<◌, ◌≤◌, List, [], ◌∷◌, ◌++◌, length, map}
 use Rattle.yw_outside.specs.Image.{SaysPart, file_in, other_in}
-use Rattle.yw_outside.specs.Moments.{IsSettled, LeavesOnly}
+use Rattle.yw_outside.specs.Moments.{IsSettled}
+use Rattle.yw_outside.specs.Since.{LeavesOnly}
 use Rattle.yw_outside.specs.declared.desk.File.{File}
 use Rattle.yw_outside.specs.declared.image.Image.{Image}
 use Rattle.yw_journal.specs.Files.{Content, Holds, end_of}
@@ -9,13 +10,14 @@ use Rattle.yw_journal.specs.Journal.{IsCurrent, appended}
 use Rattle.yw_journal.specs.declared.journal.Journal.{Journal}
 use Rattle.yw_codec.specs.Entries.{entry_bytes, framed}
 use Rattle.yw_library.specs.Holdings as library
-use Rattle.yw_model.specs.Lines.{whole_lines, last_part}
+use Rattle.yw_lines.specs.Lines.{whole_lines, last_part}
 use Rattle.yw_state.specs.State.{State}
 use Rattle.yw_model.specs.Run.{Entry, Step, Answers, Run, HasRun, taken_by, said_by}
 use Rattle.yw_serve.specs.Kept.{kept_of}
 use Rattle.yw_serve.specs.declared.session.Session.{Session}
 use Rattle.yw_serve.specs.declared.session.Stop.{Stop}
 use Rattle.yw_serve.specs.declared.session.Stop.TheVariants.{Disk, Write, Memory, Full}
+use Rattle.yw_outside.specs.declared.desk.Desk.{Ghosts}
 
 abbrev pub state_of : Session → State
 state_of session = library.state_of session.library
@@ -64,38 +66,38 @@ pub record OfSteps (f : File) (c : Content) (steps : List Step) (old i : Image) 
 
 -- These steps are done between two states of a desk: their entries are held and had room, not one other byte of a file has changed, their
 -- replies are said, nothing is pending, and a crash at any moment of it leaves some of them.
-pub record AreDone {D : Type 0} (moment : D → ℕ) (left_since : D → ℕ → Image → Type 0) (state : D → Image) (may_leave : D → Image → Type 0)
+pub record AreDone {D : Type 0} (g : Ghosts D)
     (c : Content) (steps : List Step) (journal : Journal) (old new : D) : Type 0 where
-  pub file : IsCurrent journal (with_steps c steps) (state new)
+  pub file : IsCurrent journal (with_steps c steps) (g.state new)
   pub room : HasRoom journal.limit c steps
-  pub bytes : file_in journal.file (state new) ≡ file_after (file_in journal.file (state old)) c (taken_by steps)
-  pub other : other_in journal.file (state new) ≡ other_in journal.file (state old)
-  pub said : (state new).said ≡ (state old).said ++ said_by steps
-  pub settled : IsSettled (state new) (may_leave new)
-  pub moments : LeavesOnly moment left_since old new (OfSteps journal.file c steps (state old))
+  pub bytes : file_in journal.file (g.state new) ≡ file_after (file_in journal.file (g.state old)) c (taken_by steps)
+  pub other : other_in journal.file (g.state new) ≡ other_in journal.file (g.state old)
+  pub said : (g.state new).said ≡ (g.state old).said ++ said_by steps
+  pub settled : IsSettled (g.state new) (g.may_leave new)
+  pub moments : LeavesOnly g old new (OfSteps journal.file c steps (g.state old))
 
 -- Of all lines those behind the done ones are answered, the state is then t and the journal is this.
-pub record AnswersOn {D : Type 0} (moment : D → ℕ) (left_since : D → ℕ → Image → Type 0) (state : D → Image) (may_leave : D → Image → Type 0)
+pub record AnswersOn {D : Type 0} (g : Ghosts D)
     (c : Content) (session : Session) (done all : List (List ℕ)) (t : State) (journal : Journal) (old new : D) : Type 0 where
   pub lines : List (List ℕ)
   pub split : all ≡ done ++ lines
   pub steps : List Step
   pub run : Run (state_of session) session.number lines steps t
-  pub are_done : AreDone moment left_since state may_leave c steps journal old new
+  pub are_done : AreDone g c steps journal old new
 
 -- Why a session ended at a line, of which this may come, behind content c: for want of memory or of room, before anything was done for it,
 -- or within the calls of the desk, and then there was room. Where a reply wasn't said whole, its entry is held.
-abbrev pub Why : {D : Type 0} → (D → Image) → Content → Stop → Journal → List Step → D → D → Type 0
-Why state c Memory journal work old new = new ≡ old
-Why state c (Full n) journal work old new =
+abbrev pub Why : {D : Type 0} → Ghosts D → Content → Stop → Journal → List Step → D → D → Type 0
+Why g c Memory journal work old new = new ≡ old
+Why g c (Full n) journal work old new =
     (new ≡ old) × (entry : Entry) × (step : Step) × (later : List Step) × (work ≡ step ∷ later) × (step.taken ≡ entry ∷ [])
     × (n ≡ journal.end + length (framed entry)) × (journal.limit < n)
-Why state c Disk journal work old new = HasRoom journal.limit c work
-Why state c Write journal work old new =
-    HasRoom journal.limit c work × (file_in journal.file (state new) ≡ file_after (file_in journal.file (state old)) c (taken_by work))
+Why g c Disk journal work old new = HasRoom journal.limit c work
+Why g c Write journal work old new =
+    HasRoom journal.limit c work × (file_in journal.file (g.state new) ≡ file_after (file_in journal.file (g.state old)) c (taken_by work))
 
 -- Of the lines behind the done ones some are answered, and the session stopped at the next.
-pub record StopsWithin {D : Type 0} (moment : D → ℕ) (left_since : D → ℕ → Image → Type 0) (state : D → Image) (may_leave : D → Image → Type 0)
+pub record StopsWithin {D : Type 0} (g : Ghosts D)
     (c : Content) (stop : Stop) (session : Session) (done all : List (List ℕ)) (old new : D) : Type 0 where
   pub lines : List (List ℕ)
   -- the line at work, or none where nothing was found out of it
@@ -107,15 +109,15 @@ pub record StopsWithin {D : Type 0} (moment : D → ℕ) (left_since : D → ℕ
   pub run : Run (state_of session) session.number lines steps reached
   pub mid : D
   pub journal : Journal
-  pub are_done : AreDone moment left_since state may_leave c steps journal old mid
+  pub are_done : AreDone g c steps journal old mid
   -- what comes of the line at work
   pub work : List Step
   pub after : State
   pub run_on : Run reached (session.number + length lines) next work after
   -- and something comes of the further lines
   pub goes_on : HasRun after (session.number + length lines + length next) later
-  pub moments : LeavesOnly moment left_since mid new (OfSteps journal.file (with_steps c steps) work (state mid))
-  pub why : Why state (with_steps c steps) stop journal work mid new
+  pub moments : LeavesOnly g mid new (OfSteps journal.file (with_steps c steps) work (g.state mid))
+  pub why : Why g (with_steps c steps) stop journal work mid new
   pub limit : journal.limit ≡ session.journal.limit
   pub file : journal.file ≡ session.journal.file
 
@@ -124,30 +126,30 @@ abbrev pub IsAtByte : Session → List ℕ → Type 0
 IsAtByte session taken = session.front.items ≡ kept_of (last_part taken)
 
 -- With this piece behind the bytes taken, the lines that it ends are answered, and what it has of the next is kept.
-pub record GoesOn {D : Type 0} (moment : D → ℕ) (left_since : D → ℕ → Image → Type 0) (state : D → Image) (may_leave : D → Image → Type 0)
+pub record GoesOn {D : Type 0} (g : Ghosts D)
     (c : Content) (before now : Session) (taken piece : List ℕ) (old new : D) : Type 0 where
-  pub answers : AnswersOn moment left_since state may_leave c before (whole_lines taken) (whole_lines (taken ++ piece)) (state_of now) now.journal old new
+  pub answers : AnswersOn g c before (whole_lines taken) (whole_lines (taken ++ piece)) (state_of now) now.journal old new
   pub at : IsAtByte now (taken ++ piece)
   pub number : now.number ≡ before.number + length answers.lines
 
 -- The line that is kept is answered, and the next begins.
-pub record EndsLine {D : Type 0} (moment : D → ℕ) (left_since : D → ℕ → Image → Type 0) (state : D → Image) (may_leave : D → Image → Type 0)
+pub record EndsLine {D : Type 0} (g : Ghosts D)
     (c : Content) (before now : Session) (old new : D) : Type 0 where
   pub step : Step
   pub answers : Answers (state_of before) before.number before.front.items step (state_of now)
-  pub are_done : AreDone moment left_since state may_leave c (step ∷ []) now.journal old new
+  pub are_done : AreDone g c (step ∷ []) now.journal old new
   pub front : now.front.items ≡ []
   pub number : now.number ≡ before.number + 1
 
 -- The session stopped at the line that is kept, of which this comes.
-pub record CutsStep {D : Type 0} (moment : D → ℕ) (left_since : D → ℕ → Image → Type 0) (state : D → Image) (may_leave : D → Image → Type 0)
+pub record CutsStep {D : Type 0} (g : Ghosts D)
     (c : Content) (stop : Stop) (before : Session) (old new : D) : Type 0 where
   pub step : Step
   pub after : State
   pub answers : Answers (state_of before) before.number before.front.items step after
-  pub moments : LeavesOnly moment left_since old new (OfSteps before.journal.file c (step ∷ []) (state old))
-  pub why : Why state c stop before.journal (step ∷ []) old new
+  pub moments : LeavesOnly g old new (OfSteps before.journal.file c (step ∷ []) (g.state old))
+  pub why : Why g c stop before.journal (step ∷ []) old new
 
 -- It stopped there, or no memory was left to find out what comes of the line.
-abbrev pub CutsLine : {D : Type 0} → (D → ℕ) → (D → ℕ → Image → Type 0) → (D → Image) → (D → Image → Type 0) → Content → Stop → Session → D → D → Type 0
-CutsLine m l v y c stop before old new = ((stop ≡ Memory) × (new ≡ old)) ⊎ CutsStep m l v y c stop before old new
+abbrev pub CutsLine : {D : Type 0} → Ghosts D → Content → Stop → Session → D → D → Type 0
+CutsLine g c stop before old new = ((stop ≡ Memory) × (new ≡ old)) ⊎ CutsStep g c stop before old new

@@ -1,14 +1,15 @@
 // The answer to each line when it has ended.
 ghost use Rattle.std.specs.Prelude.{◌≡◌, ◌≢◌, ◌+◌, ◌<◌, ◌≤◌, ◌^◌, ◌∷◌, ◌++◌, List, [], ℕ, length, IfErr, Err, OnOk, OnErr, IsTrue};
-ghost use Rattle.yw_model.specs.Lines.{newline, HasNoNewline, whole_lines, all_lines};
+ghost use Rattle.yw_lines.specs.Lines.{newline, HasNoNewline, whole_lines, all_lines};
 ghost use Rattle.yw_model.specs.Run.{Step};
-ghost use Rattle.yw_outside.specs.Causes.{Rose};
 ghost use Rattle.yw_outside.specs.Image.{SaysPart, Speaks};
-ghost use Rattle.yw_outside.specs.Moments.{After, IsSettled, LeavesOnly};
+ghost use Rattle.yw_outside.specs.Moments.{After, IsSettled};
+ghost use Rattle.yw_outside.specs.Since.{LeavesOnly};
 ghost use Rattle.yw_journal.specs.Files.{Content};
 ghost use Rattle.yw_journal.specs.Journal.{IsCurrent};
 ghost use Rattle.yw_serve.specs.Kept.{kept_of};
 ghost use Rattle.yw_serve.specs.Desks.{Stands, KeepsCounts};
+ghost use Rattle.yw_serve.specs.Faults.{CallFaults};
 ghost use Rattle.yw_serve.specs.Plans.{Does, CanBeAppended};
 ghost use Rattle.yw_serve.specs.Session.{state_of, IsAtByte, GoesOn, AnswersOn, StopsWithin, EndsLine, CutsLine, AreDone, OfSteps, Why};
 
@@ -26,11 +27,12 @@ pub fn tell<D: Desk>(desk: &mut D, text: &[u8]) -> Result<(), Stop>
     ensures b { (D.state desk.new).b ≡ (D.state desk.old).b }
     ensures settled { IsTrue (D.tells desk.old) → IsSettled (D.state desk.old) (D.may_leave desk.old) → IsSettled (D.state desk.new) (D.may_leave desk.new) }
     ensures any_moment { IsTrue (D.tells desk.old) → IsSettled (D.state desk.old) (D.may_leave desk.old)
-        → LeavesOnly D.moment D.left_since desk.old desk.new (Speaks text.now (D.state desk.old)) }
+        → LeavesOnly D.Desk desk.old desk.new (Speaks text.now (D.state desk.old)) }
     ensures part { IsTrue (D.tells desk.old) → SaysPart (D.state desk.old).said text.now (D.state desk.new).said }
-    ensures passes { IsTrue (D.tells desk.old) → LeavesOnly D.moment D.left_since desk.old desk.new (After (Speaks text.now) (D.may_leave desk.old)) }
-    ensures counts { KeepsCounts D.tells D.disk_faults D.say_faults desk.old desk.new }
-    ensures write { IfErr result (λ stop. (stop ≡ Stop.Write) × Rose (D.say_faults desk.old) (D.say_faults desk.new)) }
+    ensures passes { IsTrue (D.tells desk.old) → LeavesOnly D.Desk desk.old desk.new (After (Speaks text.now) (D.may_leave desk.old)) }
+    ensures counts { KeepsCounts D.Desk desk.old desk.new }
+    ensures write { IfErr result (λ stop. stop ≡ Stop.Write) }
+    ensures faults { CallFaults D.Desk result desk.old desk.new }
 {
     match desk.say(text) {
         Ok(()) => Ok(()),
@@ -41,20 +43,19 @@ pub fn tell<D: Desk>(desk: &mut D, text: &[u8]) -> Result<(), Stop>
 /// Does what is planned: what is appended is on the disk before its reply is said.
 fn carry_out<D: Desk>(journal: &mut Journal, plan: &Plan, desk: &mut D) -> Result<(), Stop>
     requires framed { CanBeAppended plan.now }
-    requires stands { Stands D.tells D.state D.may_leave journal.old desk.old }
+    requires stands { Stands D.Desk journal.old desk.old }
 
     ensures ok { OnOk result (IsTrue (D.tells desk.old) → (c : Content) (step : Step) → IsCurrent journal.old c (D.state desk.old) → Does plan.now step
-        → AreDone D.moment D.left_since D.state D.may_leave c (step ∷ []) journal.new desk.old desk.new) }
+        → AreDone D.Desk c (step ∷ []) journal.new desk.old desk.new) }
     ensures moments { OnErr result (IsTrue (D.tells desk.old) → (c : Content) (step : Step) → IsCurrent journal.old c (D.state desk.old) → Does plan.now step
-        → LeavesOnly D.moment D.left_since desk.old desk.new (OfSteps journal.old.file c (step ∷ []) (D.state desk.old))) }
-    ensures why { IfErr result (λ stop. IsTrue (D.tells desk.old) → (c : Content) (step : Step) → IsCurrent journal.old c (D.state desk.old) → Does plan.now step → Why D.state c stop journal.old (step ∷ []) desk.old desk.new) }
+        → LeavesOnly D.Desk desk.old desk.new (OfSteps journal.old.file c (step ∷ []) (D.state desk.old))) }
+    ensures why { IfErr result (λ stop. IsTrue (D.tells desk.old) → (c : Content) (step : Step) → IsCurrent journal.old c (D.state desk.old) → Does plan.now step → Why D.Desk c stop journal.old (step ∷ []) desk.old desk.new) }
 
-    ensures stands { OnOk result (Stands D.tells D.state D.may_leave journal.new desk.new) }
+    ensures stands { OnOk result (Stands D.Desk journal.new desk.new) }
     ensures file { journal.new.file ≡ journal.old.file }
     ensures limit { journal.new.limit ≡ journal.old.limit }
-    ensures counts { KeepsCounts D.tells D.disk_faults D.say_faults desk.old desk.new }
-    ensures disk { result ≡ Err Stop.Disk → Rose (D.disk_faults desk.old) (D.disk_faults desk.new) }
-    ensures write { result ≡ Err Stop.Write → Rose (D.say_faults desk.old) (D.say_faults desk.new) }
+    ensures counts { KeepsCounts D.Desk desk.old desk.new }
+    ensures faults { CallFaults D.Desk result desk.old desk.new }
     ensures memory { result ≢ Err Stop.Memory }
 {
     match plan {
@@ -70,19 +71,18 @@ fn carry_out<D: Desk>(journal: &mut Journal, plan: &Plan, desk: &mut D) -> Resul
 /// Answers the line that is kept, and begins the next.
 fn end_line<D: Desk>(alloc: Global, session: &mut Session, desk: &mut D) -> Result<(), Stop>
     requires number { session.old.number + 1 < 2 ^ 64 }
-    requires stands { Stands D.tells D.state D.may_leave session.old.journal desk.old }
+    requires stands { Stands D.Desk session.old.journal desk.old }
 
     ensures ok { OnOk result (IsTrue (D.tells desk.old) → (c : Content) → IsCurrent session.old.journal c (D.state desk.old)
-        → EndsLine D.moment D.left_since D.state D.may_leave c session.old session.new desk.old desk.new) }
+        → EndsLine D.Desk c session.old session.new desk.old desk.new) }
     ensures err { IfErr result (λ stop. IsTrue (D.tells desk.old) → (c : Content) → IsCurrent session.old.journal c (D.state desk.old)
-        → CutsLine D.moment D.left_since D.state D.may_leave c stop session.old desk.old desk.new) }
+        → CutsLine D.Desk c stop session.old desk.old desk.new) }
     ensures number { session.new.number ≤ session.old.number + 1 }
-    ensures stands { OnOk result (Stands D.tells D.state D.may_leave session.new.journal desk.new) }
+    ensures stands { OnOk result (Stands D.Desk session.new.journal desk.new) }
     ensures file { session.new.journal.file ≡ session.old.journal.file }
     ensures limit { session.new.journal.limit ≡ session.old.journal.limit }
-    ensures counts { KeepsCounts D.tells D.disk_faults D.say_faults desk.old desk.new }
-    ensures disk { result ≡ Err Stop.Disk → Rose (D.disk_faults desk.old) (D.disk_faults desk.new) }
-    ensures write { result ≡ Err Stop.Write → Rose (D.say_faults desk.old) (D.say_faults desk.new) }
+    ensures counts { KeepsCounts D.Desk desk.old desk.new }
+    ensures faults { CallFaults D.Desk result desk.old desk.new }
 {
     let plan = match plan_line(alloc, &mut session.library, session.number, &session.front) {
         Ok(plan) => plan,
@@ -102,19 +102,18 @@ fn take_line<D: Desk>(
 ) -> Result<(), Stop>
     requires number { session.old.number + 1 < 2 ^ 64 }
     requires part { HasNoNewline part.now }
-    requires stands { Stands D.tells D.state D.may_leave session.old.journal desk.old }
+    requires stands { Stands D.Desk session.old.journal desk.old }
 
     ensures ok { OnOk result (IsTrue (D.tells desk.old) → (c : Content) (taken : List ℕ) → IsCurrent session.old.journal c (D.state desk.old) → IsAtByte session.old taken
-        → GoesOn D.moment D.left_since D.state D.may_leave c session.old session.new taken (part.now ++ newline ∷ []) desk.old desk.new) }
+        → GoesOn D.Desk c session.old session.new taken (part.now ++ newline ∷ []) desk.old desk.new) }
     ensures err { IfErr result (λ stop. IsTrue (D.tells desk.old) → (c : Content) (taken : List ℕ) → IsCurrent session.old.journal c (D.state desk.old) → IsAtByte session.old taken
-        → StopsWithin D.moment D.left_since D.state D.may_leave c stop session.old (whole_lines taken) (whole_lines (taken ++ (part.now ++ newline ∷ []))) desk.old desk.new) }
+        → StopsWithin D.Desk c stop session.old (whole_lines taken) (whole_lines (taken ++ (part.now ++ newline ∷ []))) desk.old desk.new) }
     ensures count { session.new.number ≤ session.old.number + 1 }
-    ensures stands { OnOk result (Stands D.tells D.state D.may_leave session.new.journal desk.new) }
+    ensures stands { OnOk result (Stands D.Desk session.new.journal desk.new) }
     ensures file { session.new.journal.file ≡ session.old.journal.file }
     ensures limit { session.new.journal.limit ≡ session.old.journal.limit }
-    ensures counts { KeepsCounts D.tells D.disk_faults D.say_faults desk.old desk.new }
-    ensures disk { result ≡ Err Stop.Disk → Rose (D.disk_faults desk.old) (D.disk_faults desk.new) }
-    ensures write { result ≡ Err Stop.Write → Rose (D.say_faults desk.old) (D.say_faults desk.new) }
+    ensures counts { KeepsCounts D.Desk desk.old desk.new }
+    ensures faults { CallFaults D.Desk result desk.old desk.new }
 {
     match keep(&mut session.front, part) {
         Ok(()) => end_line(alloc, session, desk),
@@ -145,19 +144,18 @@ pub fn feed<D: Desk>(
     piece: &[u8],
 ) -> Result<(), Stop>
     requires number { session.old.number + length piece.now < 2 ^ 64 }
-    requires stands { Stands D.tells D.state D.may_leave session.old.journal desk.old }
+    requires stands { Stands D.Desk session.old.journal desk.old }
 
     ensures ok { OnOk result (IsTrue (D.tells desk.old) → (c : Content) (taken : List ℕ) → IsCurrent session.old.journal c (D.state desk.old) → IsAtByte session.old taken
-        → GoesOn D.moment D.left_since D.state D.may_leave c session.old session.new taken piece.now desk.old desk.new) }
+        → GoesOn D.Desk c session.old session.new taken piece.now desk.old desk.new) }
     ensures err { IfErr result (λ stop. IsTrue (D.tells desk.old) → (c : Content) (taken : List ℕ) → IsCurrent session.old.journal c (D.state desk.old) → IsAtByte session.old taken
-        → StopsWithin D.moment D.left_since D.state D.may_leave c stop session.old (whole_lines taken) (whole_lines (taken ++ piece.now)) desk.old desk.new) }
+        → StopsWithin D.Desk c stop session.old (whole_lines taken) (whole_lines (taken ++ piece.now)) desk.old desk.new) }
     ensures number { session.new.number ≤ session.old.number + length piece.now }
-    ensures stands { OnOk result (Stands D.tells D.state D.may_leave session.new.journal desk.new) }
+    ensures stands { OnOk result (Stands D.Desk session.new.journal desk.new) }
     ensures file { session.new.journal.file ≡ session.old.journal.file }
     ensures limit { session.new.journal.limit ≡ session.old.journal.limit }
-    ensures counts { KeepsCounts D.tells D.disk_faults D.say_faults desk.old desk.new }
-    ensures disk { result ≡ Err Stop.Disk → Rose (D.disk_faults desk.old) (D.disk_faults desk.new) }
-    ensures write { result ≡ Err Stop.Write → Rose (D.say_faults desk.old) (D.say_faults desk.new) }
+    ensures counts { KeepsCounts D.Desk desk.old desk.new }
+    ensures faults { CallFaults D.Desk result desk.old desk.new }
 {
     let mut rest = piece;
     while let Some((part, behind)) = split_line(rest) {
@@ -170,18 +168,17 @@ pub fn feed<D: Desk>(
 /// Answers the last line, where bytes follow the last newline.
 pub fn finish<D: Desk>(alloc: Global, session: &mut Session, desk: &mut D) -> Result<(), Stop>
     requires number { session.old.number + 1 < 2 ^ 64 }
-    requires stands { Stands D.tells D.state D.may_leave session.old.journal desk.old }
+    requires stands { Stands D.Desk session.old.journal desk.old }
 
     ensures ok { OnOk result (IsTrue (D.tells desk.old) → (c : Content) (taken : List ℕ) → IsCurrent session.old.journal c (D.state desk.old) → IsAtByte session.old taken
-        → AnswersOn D.moment D.left_since D.state D.may_leave c session.old (whole_lines taken) (all_lines taken) (state_of session.new) session.new.journal desk.old desk.new) }
+        → AnswersOn D.Desk c session.old (whole_lines taken) (all_lines taken) (state_of session.new) session.new.journal desk.old desk.new) }
     ensures err { IfErr result (λ stop. IsTrue (D.tells desk.old) → (c : Content) (taken : List ℕ) → IsCurrent session.old.journal c (D.state desk.old) → IsAtByte session.old taken
-        → StopsWithin D.moment D.left_since D.state D.may_leave c stop session.old (whole_lines taken) (all_lines taken) desk.old desk.new) }
-    ensures stands { OnOk result (Stands D.tells D.state D.may_leave session.new.journal desk.new) }
+        → StopsWithin D.Desk c stop session.old (whole_lines taken) (all_lines taken) desk.old desk.new) }
+    ensures stands { OnOk result (Stands D.Desk session.new.journal desk.new) }
     ensures file { session.new.journal.file ≡ session.old.journal.file }
     ensures limit { session.new.journal.limit ≡ session.old.journal.limit }
-    ensures counts { KeepsCounts D.tells D.disk_faults D.say_faults desk.old desk.new }
-    ensures disk { result ≡ Err Stop.Disk → Rose (D.disk_faults desk.old) (D.disk_faults desk.new) }
-    ensures write { result ≡ Err Stop.Write → Rose (D.say_faults desk.old) (D.say_faults desk.new) }
+    ensures counts { KeepsCounts D.Desk desk.old desk.new }
+    ensures faults { CallFaults D.Desk result desk.old desk.new }
 {
     if session.front.is_empty() {
         return Ok(());

@@ -5,6 +5,7 @@ ghost use Rattle.yw_verdict.specs.declared.finding.Finding.{Finding};
 ghost use Rattle.yw_verdict.specs.Ends.{KeepsFiles, verdict_of};
 ghost use Rattle.yw_verdict.specs.Found.{IsFound};
 ghost use Rattle.yw_serve.specs.Checked.{Checks, IsOfCheck, status_of};
+ghost use Rattle.yw_serve.specs.Faults.{StatusFaults};
 
 use crate::top::Status;
 use std::alloc::Global;
@@ -26,13 +27,12 @@ fn status_of(verdict: Verdict) -> Status
 /// Says the verdict on the text that the source gives. No file is touched.
 pub fn serve_check<S: Source, D: Desk>(alloc: Global, source: &mut S, desk: &mut D) -> Status
     ensures checks { IsTrue (D.tells desk.old) → (bytes : List ℕ) → S.left source.old ≡ Some bytes
-        → Checks D.moment D.left_since D.state D.may_leave result bytes (S.left source.new) desk.old desk.new }
+        → Checks D.Desk result bytes (S.left source.new) desk.old desk.new }
     ensures judges { (bytes : List ℕ) (finding : Finding) → S.left source.old ≡ Some bytes → IsFound bytes finding
         → (result ≡ status_of (verdict_of finding)) ⊎ (result ≡ Status.Memory) ⊎ (result ≡ Status.Read) ⊎ (result ≡ Status.Write) }
-    ensures files { KeepsFiles D.moment D.left_since D.state D.may_leave D.disk_faults desk.old desk.new }
+    ensures files { KeepsFiles D.Desk desk.old desk.new }
     ensures told { IsOfCheck result }
-    ensures read { result ≡ Status.Read → Rose (S.faults source.old) (S.faults source.new) }
-    ensures write { result ≡ Status.Write → Rose (D.say_faults desk.old) (D.say_faults desk.new) }
+    ensures faults { StatusFaults D.Desk result (S.faults source.old) (S.faults source.new) desk.old desk.new }
     ensures complete { ¬ (Rose (S.faults source.old) (S.faults source.new)) → ¬ (Rose (D.say_faults desk.old) (D.say_faults desk.new))
         → (result ≡ Status.Ok) ⊎ (result ≡ Status.Findings) ⊎ (result ≡ Status.Memory) }
 {

@@ -24,7 +24,7 @@ pub fn read_head<D: Desk>(desk: &mut D, f: File) -> Result<Option<Head>, Failed>
     ensures head { IsTrue (D.tells desk.old) → IfOk result (IsHeadRead (file_in f (D.state desk.old))) }
     ensures size { IfOk result (λ found. IfSome found (λ head. (30 ≤ head.len) × (head.len < 2 ^ 63))) }
     ensures gate { IfOk result (λ found. IfSome found (λ head. slice_index head.bytes 0 ≡ 1)) }
-    ensures looked { OnlyLooked D.moment D.left_since D.state D.may_leave D.tells D.disk_faults D.say_faults desk.old desk.new }
+    ensures looked { OnlyLooked D.Desk desk.old desk.new }
     ensures cause { HasCause (D.disk_faults desk.old) (D.disk_faults desk.new) result }
 {
     let len = desk.len(f)?;

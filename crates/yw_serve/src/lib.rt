@@ -12,8 +12,6 @@ mod pieces;
 mod plan;
 mod run;
 mod session;
-#[cfg(test)]
-mod tests;
 mod top;
 mod words;
 

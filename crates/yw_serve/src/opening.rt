@@ -3,14 +3,12 @@ ghost use Rattle.std.specs.Prelude.{◌≡◌, ◌≤◌, ◌<◌, ◌+◌, ◌^
 ghost use Rattle.yw_journal.specs.Files.{Content, count_of, greatest};
 ghost use Rattle.yw_outside.specs.declared.image.Image.{Image};
 ghost use Rattle.yw_outside.specs.Causes.{HasCause, Rose};
-ghost use Rattle.yw_outside.specs.Moments.{IsSettled, LeavesOnly};
+ghost use Rattle.yw_outside.specs.Moments.{IsSettled};
+ghost use Rattle.yw_outside.specs.Since.{LeavesOnly};
 ghost use Rattle.yw_state.specs.State.{State};
 ghost use Rattle.yw_serve.specs.Damage.{heads_damage, HoldNow, IsDamagedNow};
 ghost use Rattle.yw_serve.specs.Desks.{Stands, KeepsCounts};
-ghost use Rattle.yw_serve.specs.Opening.{AnswersDamage, AnswersState, HasFaultCause, IsChosen, IsHeadRead, IsOpened, IsUnsynced, LeftBehindSyncs, OnlyLooked, OpensBy};
-
-#[cfg(test)]
-mod tests;
+ghost use Rattle.yw_serve.specs.Opening.{AnswersDamage, AnswersState, HasFaultCause, IsChosen, IsHeadRead, IsOpened, IsUnsynced, LeftBehindSyncs, OnlyLooked, OpenFaults, OpensBy};
 
 use crate::header::{Head, header_fault, read_head, u64_in};
 use crate::opening_entries::read_entries;
@@ -66,7 +64,7 @@ pub struct Opened {
 /// Syncs both files, so that a crash leaves of them what a read gives.
 fn sync_both<D: Desk>(desk: &mut D) -> Result<(), Failed>
     ensures settled { OnOk result (IsSettled (D.state desk.new) (D.may_leave desk.new)) }
-    ensures looked { OnlyLooked D.moment D.left_since D.state D.may_leave D.tells D.disk_faults D.say_faults desk.old desk.new }
+    ensures looked { OnlyLooked D.Desk desk.old desk.new }
     ensures cause { HasCause (D.disk_faults desk.old) (D.disk_faults desk.new) result }
 {
     desk.sync(File::A)?;
@@ -107,7 +105,8 @@ fn choose<D: Desk>(desk: &mut D) -> Result<Option<Head>, OpenFault>
     ensures chosen { IsTrue (D.tells desk.old) → IfOk result (IsChosen (D.state desk.old)) }
     ensures size { IfOk result (λ found. IfSome found (λ head. (30 ≤ head.len) × (head.len < 2 ^ 63))) }
     ensures counted { IfOk result (λ found. IfSome found (λ head. count_of head.bytes ≤ greatest)) }
-    ensures looked { OnlyLooked D.moment D.left_since D.state D.may_leave D.tells D.disk_faults D.say_faults desk.old desk.new }
+    ensures looked { OnlyLooked D.Desk desk.old desk.new }
+    ensures none_failed { OnOk result (D.disk_faults desk.new ≡ D.disk_faults desk.old) }
     ensures fault { IfErr result (HasFaultCause (λ f place. IsTrue (D.tells desk.old) → heads_damage (D.state desk.old) ≡ Some (f, place)) (D.disk_faults desk.old) (D.disk_faults desk.new)) }
 {
     let a = read_head(desk, File::A)?;
@@ -132,10 +131,11 @@ fn resume<D: Desk>(
     requires settled { IsTrue (D.tells desk.old) → IsSettled (D.state desk.old) (D.may_leave desk.old) }
 
     ensures opened { IfOk result (λ opened. IsTrue (D.tells desk.old) → IsOpened opened (D.state desk.old) (D.state desk.new)) }
-    ensures stands { IfOk result (λ opened. Stands D.tells D.state D.may_leave opened.journal desk.new) }
+    ensures stands { IfOk result (λ opened. Stands D.Desk opened.journal desk.new) }
     ensures limited { IfOk result (λ opened. opened.journal.limit ≡ limit) }
     ensures file { IfOk result (λ opened. opened.journal.file ≡ File.A) }
-    ensures looked { OnlyLooked D.moment D.left_since D.state D.may_leave D.tells D.disk_faults D.say_faults desk.old desk.new }
+    ensures looked { OnlyLooked D.Desk desk.old desk.new }
+    ensures none_failed { OnOk result (D.disk_faults desk.new ≡ D.disk_faults desk.old) }
     ensures fault { IfErr result (HasFaultCause (λ f place. IsTrue (D.tells desk.old) → IsDamagedNow (D.state desk.old) f place) (D.disk_faults desk.old) (D.disk_faults desk.new)) }
 {
     let mut library = Library::new(alloc);
@@ -158,12 +158,13 @@ fn begin<D: Desk>(alloc: Global, limit: u64, desk: &mut D) -> Result<Opened, Ope
     requires settled { IsTrue (D.tells desk.old) → IsSettled (D.state desk.old) (D.may_leave desk.old) }
 
     ensures opened { IfOk result (λ opened. IsTrue (D.tells desk.old) → IsOpened opened (D.state desk.old) (D.state desk.new)) }
-    ensures stands { IfOk result (λ opened. Stands D.tells D.state D.may_leave opened.journal desk.new) }
+    ensures stands { IfOk result (λ opened. Stands D.Desk opened.journal desk.new) }
     ensures limited { IfOk result (λ opened. opened.journal.limit ≡ limit) }
     ensures file { IfOk result (λ opened. opened.journal.file ≡ File.A) }
-    ensures any_moment { IsTrue (D.tells desk.old) → LeavesOnly D.moment D.left_since desk.old desk.new (LeftBehindSyncs (D.state desk.old)) }
-    ensures counts { KeepsCounts D.tells D.disk_faults D.say_faults desk.old desk.new }
+    ensures any_moment { IsTrue (D.tells desk.old) → LeavesOnly D.Desk desk.old desk.new (LeftBehindSyncs (D.state desk.old)) }
+    ensures counts { KeepsCounts D.Desk desk.old desk.new }
     ensures say_faults { D.say_faults desk.new ≡ D.say_faults desk.old }
+    ensures none_failed { OnOk result (D.disk_faults desk.new ≡ D.disk_faults desk.old) }
     ensures fault { IfErr result (HasFaultCause (λ f place. ⊥) (D.disk_faults desk.old) (D.disk_faults desk.new)) }
 {
     match Journal::make(desk, File::A, 1, 0, &[0; 9], limit) {
@@ -189,20 +190,20 @@ pub fn open<D: Desk>(alloc: Global, limit: u64, desk: &mut D) -> Result<Opened, 
 
     // At Ok the files held this state and hold it, and the journal stands for them.
     ensures opened { IfOk result (λ opened. IsTrue (D.tells desk.old) → IsOpened opened (D.state desk.old) (D.state desk.new)) }
-    ensures stands { IfOk result (λ opened. Stands D.tells D.state D.may_leave opened.journal desk.new) }
+    ensures stands { IfOk result (λ opened. Stands D.Desk opened.journal desk.new) }
     ensures limited { IfOk result (λ opened. opened.journal.limit ≡ limit) }
     ensures file { IfOk result (λ opened. opened.journal.file ≡ File.A) }
 
     // A crash before the syncs leaves what it might have left at the start, and behind them the files as they are, or the file being begun.
-    ensures any_moment { IsTrue (D.tells desk.old) → OpensBy D.moment D.left_since D.state D.may_leave desk.old desk.new
-        ⊎ ((result ≡ Err OpenFault.Disk) × IsUnsynced D.moment D.left_since D.state D.may_leave desk.old desk.new) }
+    ensures any_moment { IsTrue (D.tells desk.old) → OpensBy D.Desk desk.old desk.new
+        ⊎ ((result ≡ Err OpenFault.Disk) × IsUnsynced D.Desk desk.old desk.new) }
     ensures said { IsTrue (D.tells desk.old) → (D.state desk.new).said ≡ (D.state desk.old).said }
 
-    ensures counts { KeepsCounts D.tells D.disk_faults D.say_faults desk.old desk.new }
+    ensures counts { KeepsCounts D.Desk desk.old desk.new }
     ensures say_faults { D.say_faults desk.new ≡ D.say_faults desk.old }
 
     // Each other answer has its cause.
-    ensures disk { result ≡ Err OpenFault.Disk → Rose (D.disk_faults desk.old) (D.disk_faults desk.new) }
+    ensures faults { OpenFaults D.Desk result desk.old desk.new }
     ensures damaged { IsTrue (D.tells desk.old) → (f : File) (place : ℕ) → result ≡ Err (OpenFault.Damaged f place) → IsDamagedNow (D.state desk.old) f place }
     ensures unchanged { (f : File) (place : ℕ) → result ≡ Err (OpenFault.Damaged f place) → D.state desk.new ≡ D.state desk.old }
     ensures settled { (f : File) (place : ℕ) → result ≡ Err (OpenFault.Damaged f place) → IsSettled (D.state desk.new) (D.may_leave desk.new) }

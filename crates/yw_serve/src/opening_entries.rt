@@ -15,8 +15,8 @@ use std::alloc::{AllocError, Global};
 use yw_base::{Name, NameList};
 use yw_codec::{CodecFault, read_entry};
 use yw_library::{Library, LibraryFault};
-use yw_model::Event;
 use yw_outside::{Desk, Failed, File};
+use yw_state::Event;
 
 const MOST_ROLES: usize = 64;
 
@@ -36,7 +36,7 @@ fn gate_at<D: Desk>(desk: &mut D, len: u64, at: u64) -> Result<Gate, Failed>
     requires within { at ≤ len }
     ensures stands { IsTrue (D.tells desk.old) → IfOk result (StandsHere (drop at (D.state desk.old).a)) }
     ensures within { (size : ℕ) → result ≡ Ok (Gate.Open size) → at + 5 + size ≤ len }
-    ensures looked { OnlyLooked D.moment D.left_since D.state D.may_leave D.tells D.disk_faults D.say_faults desk.old desk.new }
+    ensures looked { OnlyLooked D.Desk desk.old desk.new }
     ensures cause { HasCause (D.disk_faults desk.old) (D.disk_faults desk.new) result }
 {
     if len - at < 5 {
@@ -61,7 +61,7 @@ fn short_gate_at<D: Desk>(desk: &mut D, len: u64, at: u64) -> Result<Gate, Faile
     requires short { len < at + 5 }
     ensures stands { IsTrue (D.tells desk.old) → IfOk result (StandsHere (drop at (D.state desk.old).a)) }
     ensures within { (size : ℕ) → result ≡ Ok (Gate.Open size) → at + 5 + size ≤ len }
-    ensures looked { OnlyLooked D.moment D.left_since D.state D.may_leave D.tells D.disk_faults D.say_faults desk.old desk.new }
+    ensures looked { OnlyLooked D.Desk desk.old desk.new }
     ensures cause { HasCause (D.disk_faults desk.old) (D.disk_faults desk.new) result }
 {
     if at == len {
@@ -81,7 +81,8 @@ fn record_at<D: Desk>(alloc: Global, desk: &mut D, at: u64, size: u32) -> Result
     requires within { IsTrue (D.tells desk.old) → at + 5 + size ≤ length (D.state desk.old).a }
     requires fits { at + 5 < 2 ^ 64 }
     ensures bytes { IfOk result (λ record_. IsTrue (D.tells desk.old) → record_.items ≡ take size (drop (at + 5) (D.state desk.old).a)) }
-    ensures looked { OnlyLooked D.moment D.left_since D.state D.may_leave D.tells D.disk_faults D.say_faults desk.old desk.new }
+    ensures looked { OnlyLooked D.Desk desk.old desk.new }
+    ensures none_failed { OnOk result (D.disk_faults desk.new ≡ D.disk_faults desk.old) }
     ensures fault { IfErr result (HasFaultCause (λ f place. ⊥) (D.disk_faults desk.old) (D.disk_faults desk.new)) }
 {
     let mut bytes = vec![in alloc; 0u8; size as usize]?;
@@ -174,7 +175,8 @@ fn next_entry<D: Desk>(
         (λ behind. (bytes : List ℕ) × IsReached (D.state desk.old).a behind (records ++ bytes ∷ []) (kept.state_of library.new))) }
     ensures same { result ≡ Ok None → library.new ≡ library.old }
     ensures progress { IfOk result (λ next. IfSome next (λ behind. (at < behind) × (behind ≤ len))) }
-    ensures looked { OnlyLooked D.moment D.left_since D.state D.may_leave D.tells D.disk_faults D.say_faults desk.old desk.new }
+    ensures looked { OnlyLooked D.Desk desk.old desk.new }
+    ensures none_failed { OnOk result (D.disk_faults desk.new ≡ D.disk_faults desk.old) }
     ensures fault { (records : List (List ℕ)) → IfErr result (HasFaultCause
         (λ f place. IsTrue (D.tells desk.old) → IsReached (D.state desk.old).a at records (kept.state_of library.old) → IsDamagedAt (D.state desk.old).a f place)
         (D.disk_faults desk.old) (D.disk_faults desk.new)) }
@@ -214,7 +216,8 @@ pub fn read_entries<D: Desk>(
         → IfOk result (λ tail. IsClosedHere (drop tail.gate (D.state desk.old).a)
         × ((records : List (List ℕ)) × IsReached (D.state desk.old).a tail.gate records (kept.state_of library.new) × (length records ≡ tail.records))) }
     ensures bound { IfOk result (λ tail. (29 ≤ tail.gate) × (tail.gate ≤ len) × (tail.records ≤ tail.gate)) }
-    ensures looked { OnlyLooked D.moment D.left_since D.state D.may_leave D.tells D.disk_faults D.say_faults desk.old desk.new }
+    ensures looked { OnlyLooked D.Desk desk.old desk.new }
+    ensures none_failed { OnOk result (D.disk_faults desk.new ≡ D.disk_faults desk.old) }
     ensures fault { IfErr result (HasFaultCause
         (λ f place. IsTrue (D.tells desk.old) → IsReached (D.state desk.old).a 29 [] (kept.state_of library.old) → IsDamagedAt (D.state desk.old).a f place)
         (D.disk_faults desk.old) (D.disk_faults desk.new)) }

@@ -1,6 +1,6 @@
 // Lines out of pieces of the input.
 ghost use Rattle.std.specs.Prelude.{◌≡◌, ◌+◌, ◌<◌, ◌≤◌, ◌∷◌, ◌++◌, length, MatchOption, OnOk, OnErr, vec_len};
-ghost use Rattle.yw_model.specs.Lines.{newline, HasNoNewline};
+ghost use Rattle.yw_lines.specs.Lines.{newline, HasNoNewline};
 ghost use Rattle.yw_serve.specs.Kept.{kept_of};
 
 use memchr::memchr;

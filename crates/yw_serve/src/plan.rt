@@ -14,7 +14,8 @@ use std::alloc::{AllocError, Global};
 use yw_base::{Bytes, Name, NameList, Text};
 use yw_codec::write_entry;
 use yw_library::{Library, LibraryFault};
-use yw_model::{Asked, Command, Event, EventList, Refusal, Rule, Word};
+use yw_lines::Word;
+use yw_state::{Asked, Command, Event, EventList, Refusal, Rule};
 use yw_wire::{WireFault, read_command, reply_done, reply_refused};
 
 /// The words whose commands are built.

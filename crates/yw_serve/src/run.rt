@@ -1,12 +1,13 @@
 // The loop over the input.
 ghost use Rattle.std.specs.Prelude.{◌≡◌, ◌+◌, ◌<◌, ◌≤◌, ◌^◌, List, [], ℕ, take, length, Some, IfOk, IsTrue, MatchResult, MatchOption, IsNone, vec_len};
 ghost use Rattle.std.specs.Io.KnownBytes.{Consumes, Keeps, IsAtEnd};
-ghost use Rattle.yw_outside.specs.Causes.{Rose, HasCause};
+ghost use Rattle.yw_outside.specs.Causes.{HasCause};
 ghost use Rattle.yw_journal.specs.Files.{Content};
 ghost use Rattle.yw_journal.specs.Journal.{IsCurrent};
 ghost use Rattle.yw_state.specs.State.{State};
 ghost use Rattle.yw_serve.specs.Desks.{Stands, KeepsCounts};
 ghost use Rattle.yw_serve.specs.Ends.{EndsAs};
+ghost use Rattle.yw_serve.specs.Faults.{EndingFaults, TurnFaults};
 ghost use Rattle.yw_serve.specs.Reading.{HasRead};
 ghost use Rattle.yw_serve.specs.Session.{state_of};
 
@@ -65,21 +66,18 @@ fn turn<S: Source, D: Desk>(
     requires within { taken.old ≤ limit }
     requires room { 0 < length piece.old }
     requires number { session.old.number ≤ taken.old + 1 }
-    requires stands { Stands D.tells D.state D.may_leave session.old.journal desk.old }
+    requires stands { Stands D.Desk session.old.journal desk.old }
 
     ensures ends { IsTrue (D.tells desk.old) → (c : Content) (s : State) (bytes : List ℕ) (start : D)
-        → HasRead D.moment D.left_since D.state D.may_leave c s session.old limit taken.old bytes (S.left source.old) start desk.old
-        → MatchOption result (HasRead D.moment D.left_since D.state D.may_leave c s session.new limit taken.new bytes (S.left source.new) start desk.new)
-        (λ ending. EndsAs D.moment D.left_since D.state D.may_leave ending c s session.old.journal.limit limit bytes (S.left source.new) (S.piece source.new) start desk.new) }
+        → HasRead D.Desk c s session.old limit taken.old bytes (S.left source.old) start desk.old
+        → MatchOption result (HasRead D.Desk c s session.new limit taken.new bytes (S.left source.new) start desk.new)
+        (λ ending. EndsAs D.Desk ending c s session.old.journal.limit limit bytes (S.left source.new) (S.piece source.new) start desk.new) }
     ensures progress { IsNone result → (taken.old < taken.new) × (taken.new ≤ limit + 1) × (session.new.number ≤ taken.new + 1) }
-    ensures stands { IsNone result → (Stands D.tells D.state D.may_leave session.new.journal desk.new) }
+    ensures stands { IsNone result → (Stands D.Desk session.new.journal desk.new) }
     ensures file { session.new.journal.file ≡ session.old.journal.file }
     ensures limited { session.new.journal.limit ≡ session.old.journal.limit }
-    ensures counts { KeepsCounts D.tells D.disk_faults D.say_faults desk.old desk.new }
-    ensures source_later { S.faults source.old ≤ S.faults source.new }
-    ensures read { result ≡ Some Ending.Unread → Rose (S.faults source.old) (S.faults source.new) }
-    ensures disk { result ≡ Some (Ending.Stopped Stop.Disk) → Rose (D.disk_faults desk.old) (D.disk_faults desk.new) }
-    ensures write { result ≡ Some (Ending.Stopped Stop.Write) → Rose (D.say_faults desk.old) (D.say_faults desk.new) }
+    ensures counts { KeepsCounts D.Desk desk.old desk.new }
+    ensures faults { TurnFaults D.Desk result (S.faults source.old) (S.faults source.new) desk.old desk.new }
 {
     let count = match read_piece(source, piece, limit - *taken + 1) {
         Ok(count) => count,
@@ -112,14 +110,12 @@ pub fn run<S: Source, D: Desk>(
     requires room { 0 < length piece.old }
     requires number { session.old.number ≡ 1 }
     requires front { session.old.front.items ≡ [] }
-    requires stands { Stands D.tells D.state D.may_leave session.old.journal desk.old }
+    requires stands { Stands D.Desk session.old.journal desk.old }
 
     ensures ends { IsTrue (D.tells desk.old) → (c : Content) (bytes : List ℕ) → IsCurrent session.old.journal c (D.state desk.old) → S.left source.old ≡ Some bytes
-        → EndsAs D.moment D.left_since D.state D.may_leave result c (state_of session.old) session.old.journal.limit limit bytes (S.left source.new) (S.piece source.new) desk.old desk.new }
-    ensures counts { KeepsCounts D.tells D.disk_faults D.say_faults desk.old desk.new }
-    ensures read { result ≡ Ending.Unread → Rose (S.faults source.old) (S.faults source.new) }
-    ensures disk { result ≡ Ending.Stopped Stop.Disk → Rose (D.disk_faults desk.old) (D.disk_faults desk.new) }
-    ensures write { result ≡ Ending.Stopped Stop.Write → Rose (D.say_faults desk.old) (D.say_faults desk.new) }
+        → EndsAs D.Desk result c (state_of session.old) session.old.journal.limit limit bytes (S.left source.new) (S.piece source.new) desk.old desk.new }
+    ensures counts { KeepsCounts D.Desk desk.old desk.new }
+    ensures faults { EndingFaults D.Desk result (S.faults source.old) (S.faults source.new) desk.old desk.new }
 {
     let mut taken: usize = 0;
     while taken <= limit {

@@ -7,10 +7,11 @@ ghost use Rattle.yw_outside.specs.Causes.{Rose};
 ghost use Rattle.yw_outside.specs.declared.image.Image.{Image};
 ghost use Rattle.yw_journal.specs.Files.{Content};
 ghost use Rattle.yw_journal.specs.Journal.{IsCurrent};
-ghost use Rattle.yw_model.specs.Lines.{lines};
+ghost use Rattle.yw_lines.specs.Lines.{lines};
 ghost use Rattle.yw_state.specs.State.{State};
 ghost use Rattle.yw_serve.specs.Damage.{HoldNow};
 ghost use Rattle.yw_serve.specs.Desks.{Stands, KeepsCounts};
+ghost use Rattle.yw_serve.specs.Faults.{EndingFaults, NoticeFaults, StatusFaults, StopFaults};
 ghost use Rattle.yw_serve.specs.Headline.{Serves, HoldsFront};
 ghost use Rattle.yw_serve.specs.Notices.{damage_line, full_line};
 ghost use Rattle.yw_serve.specs.Served.{RunEnds, RunsFrom, OpeningEnds, IsTold, IsOfRun};
@@ -62,11 +63,10 @@ pub const INPUT_LIMIT: usize = 4_294_967_296;
 /// Says a line beside the replies, and answers this status where that could be done.
 fn tell_notice<D: Desk>(line: Result<Bytes, AllocError>, status: Status, desk: &mut D) -> Status
     ensures told { IsTrue (D.tells desk.old) → MatchResult line
-        (λ text. IsTold D.moment D.left_since D.state D.may_leave result status text desk.old desk.new)
+        (λ text. IsTold D.Desk result status text desk.old desk.new)
         (λ _. (result ≡ Status.Memory) × (desk.new ≡ desk.old)) }
-    ensures statuses { (result ≡ status) ⊎ (result ≡ Status.Write) ⊎ (result ≡ Status.Memory) }
-    ensures counts { KeepsCounts D.tells D.disk_faults D.say_faults desk.old desk.new }
-    ensures write { result ≡ Status.Write → (status ≡ Status.Write) ⊎ Rose (D.say_faults desk.old) (D.say_faults desk.new) }
+    ensures counts { KeepsCounts D.Desk desk.old desk.new }
+    ensures faults { NoticeFaults D.Desk result status desk.old desk.new }
     ensures memory { result ≡ Status.Memory → (status ≡ Status.Memory) ⊎ IsErr line }
 {
     match line {
@@ -80,20 +80,18 @@ fn tell_notice<D: Desk>(line: Result<Bytes, AllocError>, status: Status, desk: &
 
 /// Says that a file has no room.
 fn tell_full<D: Desk>(alloc: Global, length: u64, desk: &mut D) -> Status
-    ensures told { IsTrue (D.tells desk.old) → IsTold D.moment D.left_since D.state D.may_leave result Status.Full (full_line length) desk.old desk.new }
-    ensures statuses { (result ≡ Status.Full) ⊎ (result ≡ Status.Write) ⊎ (result ≡ Status.Memory) }
-    ensures counts { KeepsCounts D.tells D.disk_faults D.say_faults desk.old desk.new }
-    ensures write { result ≡ Status.Write → Rose (D.say_faults desk.old) (D.say_faults desk.new) }
+    ensures told { IsTrue (D.tells desk.old) → IsTold D.Desk result Status.Full (full_line length) desk.old desk.new }
+    ensures counts { KeepsCounts D.Desk desk.old desk.new }
+    ensures faults { NoticeFaults D.Desk result Status.Full desk.old desk.new }
 {
     tell_notice(write_full(alloc, length), Status::Full, desk)
 }
 
 /// Says that the files are damaged.
 fn tell_damage<D: Desk>(alloc: Global, file: File, place: u64, desk: &mut D) -> Status
-    ensures told { IsTrue (D.tells desk.old) → IsTold D.moment D.left_since D.state D.may_leave result Status.Damaged (damage_line file place) desk.old desk.new }
-    ensures statuses { (result ≡ Status.Damaged) ⊎ (result ≡ Status.Write) ⊎ (result ≡ Status.Memory) }
-    ensures counts { KeepsCounts D.tells D.disk_faults D.say_faults desk.old desk.new }
-    ensures write { result ≡ Status.Write → Rose (D.say_faults desk.old) (D.say_faults desk.new) }
+    ensures told { IsTrue (D.tells desk.old) → IsTold D.Desk result Status.Damaged (damage_line file place) desk.old desk.new }
+    ensures counts { KeepsCounts D.Desk desk.old desk.new }
+    ensures faults { NoticeFaults D.Desk result Status.Damaged desk.old desk.new }
 {
     tell_notice(write_damage(alloc, file, place), Status::Damaged, desk)
 }
@@ -101,13 +99,12 @@ fn tell_damage<D: Desk>(alloc: Global, file: File, place: u64, desk: &mut D) -> 
 /// The status of a run that stopped. Where a line had no room, it is said first.
 fn status_of_stop<D: Desk>(alloc: Global, stop: Stop, desk: &mut D) -> Status
     ensures ends { IsTrue (D.tells desk.old) → (c : Content) (s : State) (full_at limit piece : ℕ) (bytes : List ℕ) (left : Option (List ℕ)) (start : D)
-        → EndsShort D.moment D.left_since D.state D.may_leave c s full_at limit stop bytes left piece start desk.old
-        → RunEnds D.moment D.left_since D.state D.may_leave result c s full_at limit bytes left piece start desk.new }
+        → EndsShort D.Desk c s full_at limit stop bytes left piece start desk.old
+        → RunEnds D.Desk result c s full_at limit bytes left piece start desk.new }
     ensures told { IsOfRun result }
-    ensures counts { KeepsCounts D.tells D.disk_faults D.say_faults desk.old desk.new }
-    ensures read { result ≢ Status.Read }
-    ensures disk { result ≡ Status.Disk → stop ≡ Stop.Disk }
-    ensures write { result ≡ Status.Write → (stop ≡ Stop.Write) ⊎ Rose (D.say_faults desk.old) (D.say_faults desk.new) }
+    ensures counts { KeepsCounts D.Desk desk.old desk.new }
+    ensures faults { (before now : ℕ) (start : D) → now ≡ before → StopFaults D.Desk stop start desk.old
+        → StatusFaults D.Desk result before now start desk.new }
 {
     match stop {
         Stop::Disk => Status::Disk,
@@ -120,13 +117,12 @@ fn status_of_stop<D: Desk>(alloc: Global, stop: Stop, desk: &mut D) -> Status
 /// The status of a run's ending.
 fn status_of<D: Desk>(alloc: Global, ending: Ending, desk: &mut D) -> Status
     ensures ends { IsTrue (D.tells desk.old) → (c : Content) (s : State) (full_at limit piece : ℕ) (bytes : List ℕ) (left : Option (List ℕ)) (start : D)
-        → EndsAs D.moment D.left_since D.state D.may_leave ending c s full_at limit bytes left piece start desk.old
-        → RunEnds D.moment D.left_since D.state D.may_leave result c s full_at limit bytes left piece start desk.new }
+        → EndsAs D.Desk ending c s full_at limit bytes left piece start desk.old
+        → RunEnds D.Desk result c s full_at limit bytes left piece start desk.new }
     ensures told { IsOfRun result }
-    ensures counts { KeepsCounts D.tells D.disk_faults D.say_faults desk.old desk.new }
-    ensures read { result ≡ Status.Read → ending ≡ Ending.Unread }
-    ensures disk { result ≡ Status.Disk → ending ≡ Ending.Stopped Stop.Disk }
-    ensures write { result ≡ Status.Write → (ending ≡ Ending.Stopped Stop.Write) ⊎ Rose (D.say_faults desk.old) (D.say_faults desk.new) }
+    ensures counts { KeepsCounts D.Desk desk.old desk.new }
+    ensures faults { (before now : ℕ) (start : D) → EndingFaults D.Desk ending before now start desk.old
+        → StatusFaults D.Desk result before now start desk.new }
 {
     match ending {
         Ending::Whole => Status::Ok,
@@ -145,15 +141,13 @@ fn serve_lines<S: Source, D: Desk>(
     desk: &mut D,
 ) -> Status
     requires room { 0 < length piece.old }
-    requires stands { Stands D.tells D.state D.may_leave opened.journal desk.old }
+    requires stands { Stands D.Desk opened.journal desk.old }
 
     ensures ends { IsTrue (D.tells desk.old) → (c : Content) (bytes : List ℕ) → IsCurrent opened.journal c (D.state desk.old) → S.left source.old ≡ Some bytes
-        → RunEnds D.moment D.left_since D.state D.may_leave result c (opened_state opened) opened.journal.limit INPUT_LIMIT bytes (S.left source.new) (S.piece source.new) desk.old desk.new }
+        → RunEnds D.Desk result c (opened_state opened) opened.journal.limit INPUT_LIMIT bytes (S.left source.new) (S.piece source.new) desk.old desk.new }
     ensures told { IsOfRun result }
-    ensures counts { KeepsCounts D.tells D.disk_faults D.say_faults desk.old desk.new }
-    ensures read { result ≡ Status.Read → Rose (S.faults source.old) (S.faults source.new) }
-    ensures disk { result ≡ Status.Disk → Rose (D.disk_faults desk.old) (D.disk_faults desk.new) }
-    ensures write { result ≡ Status.Write → Rose (D.say_faults desk.old) (D.say_faults desk.new) }
+    ensures counts { KeepsCounts D.Desk desk.old desk.new }
+    ensures faults { StatusFaults D.Desk result (S.faults source.old) (S.faults source.new) desk.old desk.new }
 {
     let Opened { journal, library } = opened;
     let mut session = Session::new(alloc, library, journal);
@@ -172,13 +166,11 @@ fn serve_files<S: Source, D: Desk>(
     requires limit { limit ≤ 2 ^ 30 }
 
     ensures ends { IsTrue (D.tells desk.old) → (bytes : List ℕ) → S.left source.old ≡ Some bytes
-        → (OpeningEnds D.moment D.left_since D.state D.may_leave result desk.old desk.new × (source.new ≡ source.old))
-        ⊎ RunsFrom D.moment D.left_since D.state D.may_leave (λ c s opened. RunEnds D.moment D.left_since D.state D.may_leave result c s limit INPUT_LIMIT bytes (S.left source.new) (S.piece source.new) opened desk.new) desk.old }
+        → (OpeningEnds D.Desk result desk.old desk.new × (source.new ≡ source.old))
+        ⊎ RunsFrom D.Desk (λ c s opened. RunEnds D.Desk result c s limit INPUT_LIMIT bytes (S.left source.new) (S.piece source.new) opened desk.new) desk.old }
     ensures told { IsOfRun result }
-    ensures counts { KeepsCounts D.tells D.disk_faults D.say_faults desk.old desk.new }
-    ensures read { result ≡ Status.Read → Rose (S.faults source.old) (S.faults source.new) }
-    ensures disk { result ≡ Status.Disk → Rose (D.disk_faults desk.old) (D.disk_faults desk.new) }
-    ensures write { result ≡ Status.Write → Rose (D.say_faults desk.old) (D.say_faults desk.new) }
+    ensures counts { KeepsCounts D.Desk desk.old desk.new }
+    ensures faults { StatusFaults D.Desk result (S.faults source.old) (S.faults source.new) desk.old desk.new }
 {
     let Ok(mut piece) = new_piece(alloc) else {
         return Status::Memory;
@@ -205,7 +197,8 @@ fn serve_files<S: Source, D: Desk>(
 /// `Damaged` only where the synced files hold no state, and there unless a call of the files failed, no memory was
 /// left or the line couldn't be said; `Full` only where an entry would end past N, and no entry is taken that does;
 /// `InputLimit` only where more than `INPUT_LIMIT` bytes came; `Findings` only where a text isn't accepted that was
-/// checked; `Memory` where no memory was left; and no other status but `Ok`.
+/// checked; `Memory` where no memory was left; and no other status but `Ok`. No failed call is passed over: under
+/// `Disk`, `Read` and `Write` only calls of that kind have failed, and under each other status none has.
 pub fn serve<S: Source, D: Desk>(
     alloc: Global,
     words: &[String],
@@ -215,17 +208,16 @@ pub fn serve<S: Source, D: Desk>(
     // What each status says of the input, the files and the output, at every moment since the call began. Where the files aren't opened,
     // the source isn't called.
     ensures ends { IsTrue (D.tells desk.old) → (limit : ℕ) (bytes : List ℕ) → IsRun words.now limit → S.left source.old ≡ Some bytes
-        → (OpeningEnds D.moment D.left_since D.state D.may_leave result desk.old desk.new × (source.new ≡ source.old))
-        ⊎ RunsFrom D.moment D.left_since D.state D.may_leave (λ c s opened. RunEnds D.moment D.left_since D.state D.may_leave result c s limit INPUT_LIMIT bytes (S.left source.new) (S.piece source.new) opened desk.new) desk.old }
+        → (OpeningEnds D.Desk result desk.old desk.new × (source.new ≡ source.old))
+        ⊎ RunsFrom D.Desk (λ c s opened. RunEnds D.Desk result c s limit INPUT_LIMIT bytes (S.left source.new) (S.piece source.new) opened desk.new) desk.old }
 
-    // Each answer has its cause.
+    // Each answer has its cause, and no failed call is passed over: of reads, calls of the files and says none has failed but that which is
+    // answered.
+    ensures faults { StatusFaults D.Desk result (S.faults source.old) (S.faults source.new) desk.old desk.new }
     ensures of_run { (limit : ℕ) → IsRun words.now limit → IsOfRun result }
     ensures of_check { IsCheck words.now → IsOfCheck result }
     ensures usage { (result ≡ Status.Usage) ↔ (((limit : ℕ) → ¬ (IsRun words.now limit)) × ¬ (IsCheck words.now)) }
     ensures usage_calls_nothing { result ≡ Status.Usage → (source.new ≡ source.old) × (desk.new ≡ desk.old) }
-    ensures disk_cause { result ≡ Status.Disk → Rose (D.disk_faults desk.old) (D.disk_faults desk.new) }
-    ensures read_cause { result ≡ Status.Read → Rose (S.faults source.old) (S.faults source.new) }
-    ensures write_cause { result ≡ Status.Write → Rose (D.say_faults desk.old) (D.say_faults desk.new) }
 
     // Where the files hold a state, nothing failed and the input is within its limit, all is answered, or a record had
     // no room, or no memory was left.
@@ -235,12 +227,12 @@ pub fn serve<S: Source, D: Desk>(
         → (result ≡ Status.Ok) ⊎ (result ≡ Status.Memory) ⊎ (result ≡ Status.Full) }
 
     // The desk tells as it did, so that the next run goes on from here, and no count of its faults has fallen.
-    ensures run_counts { (limit : ℕ) → IsRun words.now limit → KeepsCounts D.tells D.disk_faults D.say_faults desk.old desk.new }
+    ensures run_counts { (limit : ℕ) → IsRun words.now limit → KeepsCounts D.Desk desk.old desk.new }
 
     // Where all is answered, the files hold the state that the lines lead to from the one that they held, now and after a crash, and all
     // replies are said.
     ensures served { IsTrue (D.tells desk.old) → result ≡ Status.Ok → (limit : ℕ) (bytes : List ℕ) → IsRun words.now limit → S.left source.old ≡ Some bytes
-        → Serves D.state D.may_leave (lines bytes true) desk.old desk.new }
+        → Serves D.Desk (lines bytes true) desk.old desk.new }
 
     // Where the files held a state, a crash at any moment since the call began leaves what the opening left, or the state that a front of
     // the lines leads to from it, with all that was answered.
@@ -250,10 +242,10 @@ pub fn serve<S: Source, D: Desk>(
 
     // A text that is checked has the verdict that is said, and no other; also where the desk doesn't tell what was said.
     ensures checks { IsTrue (D.tells desk.old) → (bytes : List ℕ) → IsCheck words.now → S.left source.old ≡ Some bytes
-        → Checks D.moment D.left_since D.state D.may_leave result bytes (S.left source.new) desk.old desk.new }
+        → Checks D.Desk result bytes (S.left source.new) desk.old desk.new }
     ensures judges { (bytes : List ℕ) (finding : Finding) → IsCheck words.now → S.left source.old ≡ Some bytes → IsFound bytes finding
         → (result ≡ status_of (verdict_of finding)) ⊎ (result ≡ Status.Memory) ⊎ (result ≡ Status.Read) ⊎ (result ≡ Status.Write) }
-    ensures check_keeps_files { IsCheck words.now → KeepsFiles D.moment D.left_since D.state D.may_leave D.disk_faults desk.old desk.new }
+    ensures check_keeps_files { IsCheck words.now → KeepsFiles D.Desk desk.old desk.new }
     ensures check_complete { IsCheck words.now → ¬ (Rose (S.faults source.old) (S.faults source.new)) → ¬ (Rose (D.say_faults desk.old) (D.say_faults desk.new))
         → (result ≡ Status.Ok) ⊎ (result ≡ Status.Findings) ⊎ (result ≡ Status.Memory) }
 {

@@ -8,11 +8,12 @@ use Rattle.yw_verdict.specs.declared.finding.Finding.TheVariants as findings
 use Rattle.yw_verdict.specs.declared.verdict.Verdict.{Verdict}
 use Rattle.yw_verdict.specs.declared.verdict.Verdict.TheVariants.{Accepted, Refused, Memory, Read, Write}
 use Rattle.yw_verdict.proofs.FoundLemmas.{found-once}
+use Rattle.yw_outside.specs.declared.desk.Desk.{Ghosts}
 
-module _ {D : Type 0} (moment : D → ℕ) (left_since : D → ℕ → Image → Type 0) (state : D → Image) (may_leave : D → Image → Type 0)
+module _ {D : Type 0} (g : Ghosts D)
     (verdict : Verdict) (bytes : List ℕ) (finding : Finding) (old new : D) (found : IsFound bytes finding) where
-  pub says_only : Says moment left_since state may_leave verdict finding old new → (other : Finding) → IsFound bytes other → Says moment left_since state may_leave verdict other old new
-  says_only says other is = subst (λ (f : Finding). Says moment left_since state may_leave verdict f old new) (found-once text_limit bytes finding other found is) says
+  pub says_only : Says g verdict finding old new → (other : Finding) → IsFound bytes other → Says g verdict other old new
+  says_only says other is = subst (λ (f : Finding). Says g verdict f old new) (found-once text_limit bytes finding other found is) says
 
   pub judged_by : (verdict ≡ verdict_of finding) ⊎ (verdict ≡ Write) ⊎ ((verdict ≡ Memory) × (new ≡ old)) → (other : Finding) → IsFound bytes other
       → (verdict ≡ verdict_of other) ⊎ (verdict ≡ Memory) ⊎ (verdict ≡ Read) ⊎ (verdict ≡ Write)

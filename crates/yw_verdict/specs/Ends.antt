@@ -1,6 +1,7 @@
 -- What each verdict says of the text, of the output and of the files. The desk was `old` and is `new`.
 use Rattle.std.specs.Prelude.{◌≡◌, ℕ, List, Option}
-use Rattle.yw_outside.specs.Moments.{After, LeavesOnly}
+use Rattle.yw_outside.specs.Moments.{After}
+use Rattle.yw_outside.specs.Since.{LeavesOnly}
 use Rattle.yw_outside.specs.Tells.{Tells, TellsWhole}
 use Rattle.yw_outside.specs.declared.image.Image.{Image}
 use Rattle.yw_verdict.specs.Found.{IsFound, text_limit}
@@ -10,6 +11,7 @@ use Rattle.yw_verdict.specs.declared.finding.Finding.{Finding}
 use Rattle.yw_verdict.specs.declared.finding.Finding.TheVariants as findings
 use Rattle.yw_verdict.specs.declared.verdict.Verdict.{Verdict}
 use Rattle.yw_verdict.specs.declared.verdict.Verdict.TheVariants.{Accepted, Refused, Memory, Read, Write}
+use Rattle.yw_outside.specs.declared.desk.Desk.{Ghosts}
 
 -- the verdict where a finding is said whole
 abbrev pub verdict_of : Finding → Verdict
@@ -17,26 +19,26 @@ verdict_of (findings.Accepted name) = Accepted
 verdict_of (findings.Refused refusal) = Refused
 
 -- With this verdict this finding was said, or part of it, or nothing.
-abbrev pub Says : {D : Type 0} → (D → ℕ) → (D → ℕ → Image → Type 0) → (D → Image) → (D → Image → Type 0) → Verdict → Finding → D → D → Type 0
-Says m l v y Accepted (findings.Accepted name) old new = TellsWhole m l v y (finding_line (findings.Accepted name)) old new
-Says m l v y Accepted (findings.Refused refusal) old new = ⊥
-Says m l v y Refused (findings.Accepted name) old new = ⊥
-Says m l v y Refused (findings.Refused refusal) old new = TellsWhole m l v y (finding_line (findings.Refused refusal)) old new
-Says m l v y Write finding old new = Tells m l v y (finding_line finding) old new
-Says m l v y Memory finding old new = new ≡ old
-Says m l v y Read finding old new = new ≡ old
+abbrev pub Says : {D : Type 0} → Ghosts D → Verdict → Finding → D → D → Type 0
+Says g Accepted (findings.Accepted name) old new = TellsWhole g (finding_line (findings.Accepted name)) old new
+Says g Accepted (findings.Refused refusal) old new = ⊥
+Says g Refused (findings.Accepted name) old new = ⊥
+Says g Refused (findings.Refused refusal) old new = TellsWhole g (finding_line (findings.Refused refusal)) old new
+Says g Write finding old new = Tells g (finding_line finding) old new
+Says g Memory finding old new = new ≡ old
+Says g Read finding old new = new ≡ old
 
 -- What was said is what is found of these bytes.
-abbrev pub SaysOf : {D : Type 0} → (D → ℕ) → (D → ℕ → Image → Type 0) → (D → Image) → (D → Image → Type 0) → Verdict → List ℕ → D → D → Type 0
-SaysOf m l v y verdict bytes old new = (finding : Finding) × IsFound bytes finding × Says m l v y verdict finding old new
+abbrev pub SaysOf : {D : Type 0} → Ghosts D → Verdict → List ℕ → D → D → Type 0
+SaysOf g verdict bytes old new = (finding : Finding) × IsFound bytes finding × Says g verdict finding old new
 
 -- how it ends with each verdict
-abbrev pub Ends : {D : Type 0} → (D → ℕ) → (D → ℕ → Image → Type 0) → (D → Image) → (D → Image → Type 0) → Verdict → List ℕ → D → D → Type 0
-Ends m l v y Accepted bytes old new = SaysOf m l v y Accepted bytes old new
-Ends m l v y Refused bytes old new = SaysOf m l v y Refused bytes old new
-Ends m l v y Write bytes old new = SaysOf m l v y Write bytes old new
-Ends m l v y Memory bytes old new = new ≡ old
-Ends m l v y Read bytes old new = new ≡ old
+abbrev pub Ends : {D : Type 0} → Ghosts D → Verdict → List ℕ → D → D → Type 0
+Ends g Accepted bytes old new = SaysOf g Accepted bytes old new
+Ends g Refused bytes old new = SaysOf g Refused bytes old new
+Ends g Write bytes old new = SaysOf g Write bytes old new
+Ends g Memory bytes old new = new ≡ old
+Ends g Read bytes old new = new ≡ old
 
 -- how much was taken with each verdict: where something was to be said, all, or one byte more than is judged
 abbrev pub Takes : Verdict → List ℕ → Option (List ℕ) → Type 0
@@ -53,7 +55,7 @@ pub record HasSameFiles (old new : Image) : Type 0 where
 
 -- No call of a file was made: the files are as before, none of their calls failed, and what a crash at any moment leaves of them it might
 -- have left before.
-pub record KeepsFiles {D : Type 0} (moment : D → ℕ) (left_since : D → ℕ → Image → Type 0) (state : D → Image) (may_leave : D → Image → Type 0) (disk_faults : D → ℕ) (old new : D) : Type 0 where
-  pub same : HasSameFiles (state old) (state new)
-  pub faults : disk_faults new ≡ disk_faults old
-  pub moments : LeavesOnly moment left_since old new (After HasSameFiles (may_leave old))
+pub record KeepsFiles {D : Type 0} (g : Ghosts D) (old new : D) : Type 0 where
+  pub same : HasSameFiles (g.state old) (g.state new)
+  pub faults : g.disk_faults new ≡ g.disk_faults old
+  pub moments : LeavesOnly g old new (After HasSameFiles (g.may_leave old))

@@ -4,7 +4,7 @@ use Rattle.yw_read.specs.declared.raw.RawSpec.{RawSpec}
 use Rattle.yw_read.specs.declared.raw.ReadFault.{ReadFault}
 use Rattle.yw_state.specs.declared.rule.Rule.TheVariants.{LineTooLong}
 use Rattle.yw_model.specs.Accepted.{document_in, JudgesSaid}
-use Rattle.yw_model.specs.Lines.{line_limit}
+use Rattle.yw_lines.specs.Lines.{line_limit}
 use Rattle.yw_state.specs.Broken.{placeless}
 use Rattle.yw_verdict.specs.declared.finding.Finding.{Finding}
 use Rattle.yw_verdict.specs.declared.finding.Finding.TheVariants.{Accepted, Refused}

@@ -2,3 +2,4 @@ pub mod Found
 pub mod Lines
 pub mod Taken
 pub mod Ends
+pub mod Counts

@@ -1,7 +1,7 @@
 -- The line that says what was found.
 use Rattle.std.specs.Prelude.{ℕ, List, true, false, codes}
 use Rattle.serde_json.specs.Data.{Data, boolean, string, object, no_members, member}
-use Rattle.yw_model.specs.Replies.{line_of}
+use Rattle.yw_lines.specs.Replies.{line_of}
 use Rattle.yw_state.specs.RuleNames.{rule_text}
 use Rattle.yw_verdict.specs.declared.finding.Finding.{Finding}
 use Rattle.yw_verdict.specs.declared.finding.Finding.TheVariants.{Accepted, Refused}

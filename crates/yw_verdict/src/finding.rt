@@ -8,8 +8,8 @@ ghost use Rattle.yw_verdict.specs.Found.{FindsSaid, IsFound};
 use std::alloc::{AllocError, Global};
 use yw_base::{Name, Text};
 use yw_check::{CheckFault, check};
-use yw_model::{Refusal, Rule};
 use yw_read::{RawSpec, ReadFault, read_spec};
+use yw_state::{Refusal, Rule};
 
 /// What is found of a text.
 #[derive(Debug, Drop)]

@@ -1,7 +1,8 @@
 // The reading of a text.
 ghost use Rattle.std.specs.Prelude.{◌≡◌, ◌+◌, ◌<◌, ◌≤◌, ◌^◌, List, ℕ, take, length, Some, Err, IfOk, MatchResult, vec_len};
 ghost use Rattle.std.specs.Io.KnownBytes.{Consumes, Keeps, IsAtEnd};
-ghost use Rattle.yw_outside.specs.Causes.{Rose, HasCause};
+ghost use Rattle.yw_outside.specs.Causes.{HasCause};
+ghost use Rattle.yw_verdict.specs.Counts.{Reads};
 ghost use Rattle.yw_verdict.specs.Taken.{TakesAll, TakesSome};
 ghost use Rattle.yw_verdict.specs.declared.input.InputFault.TheVariants.{Memory, Unread};
 
@@ -70,8 +71,7 @@ pub fn read_text<S: Source>(
     ensures ok { IfOk result (λ text. (bytes : List ℕ) → S.left source.old ≡ Some bytes
         → (text.items ≡ take (limit + 1) bytes) × TakesAll limit bytes (S.left source.new)) }
     ensures some { (bytes : List ℕ) → S.left source.old ≡ Some bytes → TakesSome limit bytes (S.left source.new) }
-    ensures later { S.faults source.old ≤ S.faults source.new }
-    ensures unread { result ≡ Err InputFault.Unread → Rose (S.faults source.old) (S.faults source.new) }
+    ensures counts { Reads (S.faults source.old) (S.faults source.new) result }
 {
     let mut piece = new_piece(alloc)?;
     let mut text = Vec::new(alloc);

@@ -7,7 +7,7 @@ use crate::finding::Finding;
 use serde_json::{Value, json};
 use std::alloc::{AllocError, Global};
 use yw_base::{Bytes, Name};
-use yw_model::Refusal;
+use yw_state::Refusal;
 use yw_wire::value_line;
 
 fn accepted_value(alloc: Global, name: &Name) -> Result<Value, AllocError>

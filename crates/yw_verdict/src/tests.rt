@@ -3,147 +3,158 @@ mod documents;
 
 use crate::{Verdict, judge_input};
 use documents::{loan, seq, seq_with_condition, without_top};
-use std::process::Abort;
-use std::test::Fail;
-use yw_outside::{Fill, MemDesk, MemSource, NeverDesk, NeverSource};
+use std::alloc::{AllocError, Global};
+use yw_outside::{Fill, Image, MemDesk, MemSource, NeverDesk, NeverSource};
 
 const TOO_LONG: &str = "{\"at\":\"\",\"ok\":false,\"rule\":\"LineTooLong\"}\n";
 
 const NO_TEXT: &str = "{\"at\":\"\",\"ok\":false,\"rule\":\"SpecText\"}\n";
 
+const SEQ: &str = "{\"ok\":true,\"spec\":\"seq\"}\n";
+
 /// A desk with files, whose calls with these numbers fail.
-fn desk_of(rt: &impl AllocGlobal, fail: &[u64]) -> Result<MemDesk, Fail> {
-    let alloc = rt.alloc();
-    Ok(MemDesk::new(
-        alloc,
-        b"first".to_vec(alloc)?,
-        b"second".to_vec(alloc)?,
-        fail.to_vec(alloc)?,
-    ))
+fn desk_of(alloc: Global, fail: &[u64]) -> Result<MemDesk, AllocError> {
+    let a = Vec::from_slice(alloc, b"first")?;
+    let b = Vec::from_slice(alloc, b"second")?;
+    let fail = Vec::from_slice(alloc, fail)?;
+    Ok(MemDesk::new(alloc, a, b, fail))
+}
+
+/// The files are as they were, and this was said.
+fn has_said(image: &Image, said: &str) -> bool {
+    image.a.as_slice() == b"first".as_slice()
+        && image.b.as_slice() == b"second".as_slice()
+        && image.said.as_slice() == said.as_bytes()
 }
 
 /// The desk made so many calls, its files are as they were, and this was said.
-fn expect_said(
-    rt: &(impl AllocGlobal + Abort),
-    desk: &MemDesk,
-    calls: usize,
-    said: &str,
-) -> Result<(), Fail> {
-    assert_eq!(rt; desk.calls(), calls);
-    let image = desk.image(desk.calls(), Fill::New)?;
-    assert_eq!(rt; image.a.as_slice(), b"first".as_slice());
-    assert_eq!(rt; image.b.as_slice(), b"second".as_slice());
-    assert_eq!(rt; image.said.as_slice(), said.as_bytes());
-    Ok(())
+fn desk_has_said(desk: &MemDesk, calls: usize, said: &str) -> bool {
+    match desk.image(desk.calls(), Fill::New) {
+        Ok(image) => desk.calls() == calls && has_said(&image, said),
+        Err(AllocError) => false,
+    }
 }
 
-/// These bytes, read in pieces of at most so many, have this verdict, and this line is said.
-fn expect(
-    rt: &(impl AllocGlobal + Abort),
+/// What a source gives has this verdict, at a desk whose calls with these numbers fail, and this is said.
+fn has_verdict(alloc: Global, mut source: MemSource, verdict: Verdict, said: &str) -> bool {
+    match desk_of(alloc, &[]) {
+        Ok(mut desk) => {
+            judge_input(alloc, &mut source, &mut desk) == verdict
+                && desk_has_said(&desk, usize::from(!said.is_empty()), said)
+        }
+        Err(AllocError) => false,
+    }
+}
+
+/// A source of these bytes, in pieces of at most so many, whose reads with these numbers fail.
+fn source_of(
+    alloc: Global,
     bytes: &[u8],
     most: usize,
-    verdict: Verdict,
-    line: &str,
-) -> Result<(), Fail> {
-    let alloc = rt.alloc();
-    let mut source = MemSource::new(bytes.to_vec(alloc)?, most.max(1), Vec::new(alloc));
-    let mut desk = desk_of(rt, &[])?;
-    let found = judge_input(alloc, &mut source, &mut desk);
-    assert_eq!(rt; found, verdict);
-    expect_said(rt, &desk, 1, line)
+    fail: &[u64],
+) -> Result<MemSource, AllocError> {
+    let bytes = Vec::from_slice(alloc, bytes)?;
+    let fail = Vec::from_slice(alloc, fail)?;
+    Ok(MemSource::new(bytes, most.max(1), fail))
 }
 
-#[test]
-fn says_what_is_found(rt: HostRuntime) -> Result<(), Fail> {
-    for (text, verdict, line) in [
-        (seq(), Verdict::Accepted, "{\"ok\":true,\"spec\":\"seq\"}\n"),
-        (
-            loan(),
-            Verdict::Accepted,
-            "{\"ok\":true,\"spec\":\"loan\"}\n",
-        ),
-        (
-            seq_with_condition(),
-            Verdict::Refused,
-            "{\"at\":\"V3 main x\",\"ok\":false,\"rule\":\"SpecCheck\"}\n",
-        ),
-        (
-            without_top(),
-            Verdict::Refused,
-            "{\"at\":\"top\",\"ok\":false,\"rule\":\"SpecShape\"}\n",
-        ),
-        ("][", Verdict::Refused, NO_TEXT),
-    ] {
-        for most in [7, 65_536] {
-            expect(&rt, text.as_bytes(), most, verdict, line)?;
-        }
+/// These bytes, in pieces of at most so many, have this verdict, and this line is said.
+fn is_found(alloc: Global, bytes: &[u8], most: usize, verdict: Verdict, line: &str) -> bool {
+    match source_of(alloc, bytes, most, &[]) {
+        Ok(source) => has_verdict(alloc, source, verdict, line),
+        Err(AllocError) => false,
     }
-    Ok(())
+}
+
+/// A text, its verdict, and the line that is said.
+fn is_found_of(alloc: Global, text: &str, verdict: Verdict, line: &str) -> bool {
+    is_found(alloc, text.as_bytes(), 7, verdict, line)
+        && is_found(alloc, text.as_bytes(), 65_536, verdict, line)
+}
+
+const V3: &str = "{\"at\":\"V3 main x\",\"ok\":false,\"rule\":\"SpecCheck\"}\n";
+
+const SHAPE: &str = "{\"at\":\"top\",\"ok\":false,\"rule\":\"SpecShape\"}\n";
+
+#[test]
+fn says_what_is_accepted(rt: HostRuntime) {
+    assert!(rt; is_found_of(rt.alloc(), seq(), Verdict::Accepted, SEQ));
+    let line = "{\"ok\":true,\"spec\":\"loan\"}\n";
+    assert!(rt; is_found_of(rt.alloc(), loan(), Verdict::Accepted, line));
 }
 
 #[test]
-fn other_bytes_are_no_text(rt: HostRuntime) -> Result<(), Fail> {
-    let mut bytes = seq().as_bytes().to_vec(rt.alloc())?;
-    bytes.extend_from_slice(b"# \xff")?;
-    expect(&rt, &bytes, 1000, Verdict::Refused, NO_TEXT)
+fn says_what_is_refused(rt: HostRuntime) {
+    assert!(rt; is_found_of(rt.alloc(), seq_with_condition(), Verdict::Refused, V3));
+    assert!(rt; is_found_of(rt.alloc(), without_top(), Verdict::Refused, SHAPE));
+    assert!(rt; is_found_of(rt.alloc(), "][", Verdict::Refused, NO_TEXT));
 }
 
-/// The document `seq` with a comment behind it that makes it so long.
-fn seq_of_length(rt: &impl AllocGlobal, length: usize) -> Result<Vec<u8>, Fail> {
-    let mut bytes = seq().as_bytes().to_vec(rt.alloc())?;
+/// The document `seq` with a comment behind it that ends so, and of so many bytes in all.
+fn seq_with(alloc: Global, end: &[u8], length: usize) -> Result<Vec<u8>, AllocError> {
+    let mut bytes = Vec::from_slice(alloc, seq().as_bytes())?;
     bytes.push(b'#')?;
-    for _ in bytes.len()..length {
-        bytes.push(b'x')?;
-    }
+    bytes.extend_from_slice(end)?;
+    bytes.resize(length, b'x')?;
     Ok(bytes)
 }
 
-#[test]
-fn the_limit_is_exact(rt: HostRuntime) -> Result<(), Fail> {
-    for (length, verdict, line) in [
-        (
-            1_048_576,
-            Verdict::Accepted,
-            "{\"ok\":true,\"spec\":\"seq\"}\n",
-        ),
-        (1_048_577, Verdict::Refused, TOO_LONG),
-        (1_200_000, Verdict::Refused, TOO_LONG),
-    ] {
-        let bytes = seq_of_length(&rt, length)?;
-        expect(&rt, &bytes, 65_536, verdict, line)?;
+fn is_found_with(alloc: Global, end: &[u8], length: usize, verdict: Verdict, line: &str) -> bool {
+    match seq_with(alloc, end, length) {
+        Ok(bytes) => is_found(alloc, &bytes, 65_536, verdict, line),
+        Err(AllocError) => false,
     }
-    Ok(())
 }
 
 #[test]
-fn a_failed_read_says_nothing(rt: HostRuntime) -> Result<(), Fail> {
-    let alloc = rt.alloc();
-    let mut source = MemSource::new(seq().as_bytes().to_vec(alloc)?, 100, vec![in alloc; 2u64]?);
-    let mut desk = desk_of(&rt, &[])?;
-    let found = judge_input(alloc, &mut source, &mut desk);
-    assert_eq!(rt; found, Verdict::Read);
-    expect_said(&rt, &desk, 0, "")
+fn other_bytes_are_no_text(rt: HostRuntime) {
+    assert!(rt; is_found_with(rt.alloc(), b"\xff", 200, Verdict::Refused, NO_TEXT));
 }
 
 #[test]
-fn a_failed_say_is_no_verdict(rt: HostRuntime) -> Result<(), Fail> {
-    let alloc = rt.alloc();
-    for text in [seq(), seq_with_condition()] {
-        let mut source = NeverSource::new(text.as_bytes().to_vec(alloc)?);
-        let mut desk = desk_of(&rt, &[1])?;
-        let found = judge_input(alloc, &mut source, &mut desk);
-        assert_eq!(rt; found, Verdict::Write);
-        expect_said(&rt, &desk, 1, "")?;
+fn the_limit_is_exact(rt: HostRuntime) {
+    assert!(rt; is_found_with(rt.alloc(), b"", 1_048_576, Verdict::Accepted, SEQ));
+    assert!(rt; is_found_with(rt.alloc(), b"", 1_048_577, Verdict::Refused, TOO_LONG));
+    assert!(rt; is_found_with(rt.alloc(), b"", 1_200_000, Verdict::Refused, TOO_LONG));
+}
+
+fn fails_to_read(alloc: Global) -> bool {
+    match source_of(alloc, seq().as_bytes(), 100, &[2]) {
+        Ok(source) => has_verdict(alloc, source, Verdict::Read, ""),
+        Err(AllocError) => false,
     }
-    Ok(())
 }
 
 #[test]
-fn nothing_fails_in_memory(rt: HostRuntime) -> Result<(), Fail> {
-    let alloc = rt.alloc();
-    let mut source = NeverSource::new(seq().as_bytes().to_vec(alloc)?);
+fn a_failed_read_says_nothing(rt: HostRuntime) {
+    assert!(rt; fails_to_read(rt.alloc()));
+}
+
+fn never_failing(alloc: Global, text: &str) -> Result<NeverSource, AllocError> {
+    Ok(NeverSource::new(Vec::from_slice(alloc, text.as_bytes())?))
+}
+
+/// The text at a desk whose first call fails.
+fn fails_to_say(alloc: Global, text: &str) -> Result<bool, AllocError> {
+    let mut source = never_failing(alloc, text)?;
+    let mut desk = desk_of(alloc, &[1])?;
+    let verdict = judge_input(alloc, &mut source, &mut desk);
+    Ok(verdict == Verdict::Write && desk_has_said(&desk, 1, ""))
+}
+
+#[test]
+fn a_failed_say_is_no_verdict(rt: HostRuntime) {
+    assert!(rt; matches!(fails_to_say(rt.alloc(), seq()), Ok(true)));
+    assert!(rt; matches!(fails_to_say(rt.alloc(), seq_with_condition()), Ok(true)));
+}
+
+fn is_accepted_in_memory(alloc: Global) -> Result<bool, AllocError> {
+    let mut source = never_failing(alloc, seq())?;
     let mut desk = NeverDesk::new(alloc);
-    let found = judge_input(alloc, &mut source, &mut desk);
-    assert_eq!(rt; found, Verdict::Accepted);
-    Ok(())
+    Ok(judge_input(alloc, &mut source, &mut desk) == Verdict::Accepted)
+}
+
+#[test]
+fn nothing_fails_in_memory(rt: HostRuntime) {
+    assert!(rt; matches!(is_accepted_in_memory(rt.alloc()), Ok(true)));
 }

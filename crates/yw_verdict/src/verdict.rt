@@ -2,6 +2,7 @@
 ghost use Rattle.std.specs.Prelude.{◌≡◌, ◌⊎◌, ◌≤◌, List, ℕ, Some, Err, IfOk, IsTrue};
 ghost use Rattle.yw_outside.specs.Causes.{Rose};
 ghost use Rattle.yw_verdict.specs.declared.finding.Finding.{Finding};
+ghost use Rattle.yw_verdict.specs.Counts.{CountsRead, CountsSay, Reads};
 ghost use Rattle.yw_verdict.specs.Ends.{Ends, KeepsFiles, Says, Takes, verdict_of};
 ghost use Rattle.yw_verdict.specs.Found.{IsFound, text_limit};
 ghost use Rattle.yw_verdict.specs.Taken.{TakesAll, TakesSome};
@@ -32,8 +33,7 @@ fn find<S: Source>(alloc: Global, source: &mut S) -> Result<Finding, InputFault>
     ensures ok { IfOk result (λ finding. (bytes : List ℕ) → S.left source.old ≡ Some bytes
         → IsFound bytes finding × TakesAll text_limit bytes (S.left source.new)) }
     ensures some { (bytes : List ℕ) → S.left source.old ≡ Some bytes → TakesSome text_limit bytes (S.left source.new) }
-    ensures later { S.faults source.old ≤ S.faults source.new }
-    ensures unread { result ≡ Err InputFault.Unread → Rose (S.faults source.old) (S.faults source.new) }
+    ensures counts { Reads (S.faults source.old) (S.faults source.new) result }
 {
     let text = read_text(alloc, TEXT_LIMIT, source)?;
     let finding = judge(alloc, &text)?;
@@ -52,12 +52,10 @@ fn verdict_of(finding: &Finding) -> Verdict
 
 /// Says what was found.
 fn tell<D: Desk>(alloc: Global, finding: &Finding, desk: &mut D) -> Verdict
-    ensures says { IsTrue (D.tells desk.old) → Says D.moment D.left_since D.state D.may_leave result finding.now desk.old desk.new }
+    ensures says { IsTrue (D.tells desk.old) → Says D.Desk result finding.now desk.old desk.new }
     ensures verdicts { (result ≡ verdict_of finding.now) ⊎ (result ≡ Verdict.Write) ⊎ ((result ≡ Verdict.Memory) × (desk.new ≡ desk.old)) }
-    ensures files { KeepsFiles D.moment D.left_since D.state D.may_leave D.disk_faults desk.old desk.new }
-    ensures tells { D.tells desk.new ≡ D.tells desk.old }
-    ensures later { D.say_faults desk.old ≤ D.say_faults desk.new }
-    ensures write { result ≡ Verdict.Write → Rose (D.say_faults desk.old) (D.say_faults desk.new) }
+    ensures files { KeepsFiles D.Desk desk.old desk.new }
+    ensures counts { CountsSay D.Desk result desk.old desk.new }
 {
     let line = match finding_line(alloc, finding) {
         Ok(line) => line,
@@ -81,11 +79,11 @@ fn tell<D: Desk>(alloc: Global, finding: &Finding, desk: &mut D) -> Verdict
 pub fn judge_input<S: Source, D: Desk>(alloc: Global, source: &mut S, desk: &mut D) -> Verdict
     // What each verdict says of the text and of the output, at every moment since the call began.
     ensures ends { IsTrue (D.tells desk.old) → (bytes : List ℕ) → S.left source.old ≡ Some bytes
-        → Ends D.moment D.left_since D.state D.may_leave result bytes desk.old desk.new }
+        → Ends D.Desk result bytes desk.old desk.new }
 
     // Whatever may be found of the text is what was answered and said: nothing else is found.
     ensures only { IsTrue (D.tells desk.old) → (bytes : List ℕ) (finding : Finding) → S.left source.old ≡ Some bytes → IsFound bytes finding
-        → Says D.moment D.left_since D.state D.may_leave result finding desk.old desk.new }
+        → Says D.Desk result finding desk.old desk.new }
 
     // Also of a desk that doesn't tell what was said: the verdict is that of what may be found, or there is none.
     ensures judges { (bytes : List ℕ) (finding : Finding) → S.left source.old ≡ Some bytes → IsFound bytes finding
@@ -95,16 +93,14 @@ pub fn judge_input<S: Source, D: Desk>(alloc: Global, source: &mut S, desk: &mut
     ensures takes { (bytes : List ℕ) → S.left source.old ≡ Some bytes → Takes result bytes (S.left source.new) }
 
     // The files stay, and where nothing was said, so does the desk.
-    ensures files { KeepsFiles D.moment D.left_since D.state D.may_leave D.disk_faults desk.old desk.new }
-    ensures tells { D.tells desk.new ≡ D.tells desk.old }
+    ensures files { KeepsFiles D.Desk desk.old desk.new }
     ensures memory_says_nothing { result ≡ Verdict.Memory → desk.new ≡ desk.old }
     ensures read_says_nothing { result ≡ Verdict.Read → desk.new ≡ desk.old }
 
-    // Each answer has its cause.
-    ensures read_cause { result ≡ Verdict.Read → Rose (S.faults source.old) (S.faults source.new) }
-    ensures write_cause { result ≡ Verdict.Write → Rose (D.say_faults desk.old) (D.say_faults desk.new) }
+    // Read and Write have their cause, and no failed call is passed over: with another answer none has failed.
+    ensures read_cause { CountsRead result (S.faults source.old) (S.faults source.new) }
     ensures source_later { S.faults source.old ≤ S.faults source.new }
-    ensures say_later { D.say_faults desk.old ≤ D.say_faults desk.new }
+    ensures say_cause { CountsSay D.Desk result desk.old desk.new }
 
     // Where neither the source nor a say failed, the text is judged, or no memory was left.
     ensures complete { ¬ (Rose (S.faults source.old) (S.faults source.new)) → ¬ (Rose (D.say_faults desk.old) (D.say_faults desk.new))

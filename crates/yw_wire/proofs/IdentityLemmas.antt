@@ -10,8 +10,8 @@ use Rattle.std.proofs.lemmas.Option.{cond_some, same_Some}
 use Rattle.std.proofs.lemmas.Str.Parse.{IsDigitsTest, IsNumeralModel, numerals_by_value}
 use Rattle.yw_base.specs.Identity.{dotted, is_identity, is_number, SpellsIdentity}
 use Rattle.yw_base.specs.Spelling.{is_digit}
-use Rattle.yw_model.specs.Identities.{identity_in, if_identity, is_numeral, number_in, numbers_in, parts_of}
-use Rattle.yw_model.specs.Lines.{with_byte}
+use Rattle.yw_lines.specs.Identities.{identity_in, if_identity, is_numeral, number_in, numbers_in, parts_of}
+use Rattle.yw_lines.specs.Lines.{with_byte}
 
 -- ---- digits
 

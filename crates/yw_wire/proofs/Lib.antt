@@ -1,4 +1,5 @@
 pub mod IdentityLemmas
 pub mod ListLemmas
 pub mod ProperLemmas
+pub mod SentLemmas
 pub mod StepLemmas

@@ -3,9 +3,9 @@ use Rattle.std.proofs.Common.{◌≡◌, List, ◌∷◌, ℕ, map, Option, Some
 use Rattle.std.specs.Prelude.{option_and_then, option_map, codes}
 use Rattle.serde_json.specs.Data.{Data, Items, no_items, item}
 use Rattle.serde_json.specs.Find.{as_array, as_str, get}
-use Rattle.yw_model.specs.Fields.{exlet_of, field, list_of}
-use Rattle.yw_model.specs.Primitives.{primitive_in}
-use Rattle.yw_model.specs.Values.{each_of}
+use Rattle.yw_lines.specs.Fields.{exlet_of, field, list_of}
+use Rattle.yw_lines.specs.Primitives.{primitive_in}
+use Rattle.yw_lines.specs.Values.{each_of}
 use Rattle.yw_state.specs.declared.tree.Conclusion.TheVariants.{Exlet}
 use Rattle.yw_state.specs.declared.tree.Primitive.{Primitive}
 use Rattle.yw_wire.specs.Steps.{step_of, steps_of}

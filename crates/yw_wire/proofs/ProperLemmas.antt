@@ -5,17 +5,17 @@ use Rattle.std.specs.Str.{is_utf8}
 use Rattle.serde_json.specs.Data.{Data}
 use Rattle.serde_json.specs.Find.{get}
 use Rattle.serde_json.specs.Read.{read}
-use Rattle.yw_model.specs.Fields.{field, has_members, list_of, name_of, one_of, only_if, roles_of}
+use Rattle.yw_lines.specs.Fields.{field, has_members, list_of, name_of, one_of, only_if, roles_of}
 use Rattle.yw_state.specs.Allowed.{are_roles}
-use Rattle.yw_model.specs.Meaning.{AsksProperly, is_built, meaning, text_meaning, value_meaning, word_meaning}
-use Rattle.yw_model.specs.Lines.{line_limit}
-use Rattle.yw_model.specs.Shapes.{◌>>=◌, add_shape, advance_shape, cancel_shape, complete_shape, continue_shape, ended_shape, enter_shape, launch_shape, list_shape, load_shape, person_shape, raise_shape, rule_shape, shape_of, show_shape, specs_shape, start_shape, suspend_shape}
-use Rattle.yw_model.specs.Words.{word_in}
+use Rattle.yw_lines.specs.Meaning.{AsksProperly, is_built, meaning, text_meaning, value_meaning, word_meaning}
+use Rattle.yw_lines.specs.Lines.{line_limit}
+use Rattle.yw_lines.specs.Shapes.{◌>>=◌, add_shape, advance_shape, cancel_shape, complete_shape, continue_shape, ended_shape, enter_shape, launch_shape, list_shape, load_shape, person_shape, raise_shape, rule_shape, shape_of, show_shape, specs_shape, start_shape, suspend_shape}
+use Rattle.yw_lines.specs.Words.{word_in}
 use Rattle.yw_state.specs.declared.command.Asked.{Asked}
 use Rattle.yw_state.specs.declared.rule.Rule.{Rule}
 use Rattle.yw_state.specs.declared.rule.Rule.TheVariants.{NotCommand}
-use Rattle.yw_model.specs.declared.word.Word.{Word}
-use Rattle.yw_model.specs.declared.word.Word.TheVariants as words
+use Rattle.yw_lines.specs.declared.word.Word.{Word}
+use Rattle.yw_lines.specs.declared.word.Word.TheVariants as words
 
 -- what is asked is proper, where something is
 abbrev Proper : Option Asked → Type 0

@@ -1,2 +1,4 @@
 pub mod Faults
+pub mod Listed
+pub mod Sent
 pub mod Steps

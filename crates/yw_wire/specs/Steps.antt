@@ -4,8 +4,8 @@ use Rattle.std.specs.Str.{bytes_eq}
 use Rattle.serde_json.specs.Data.{Data}
 use Rattle.serde_json.specs.Find.{as_str}
 use Rattle.yw_base.specs.Spelling.{is_name}
-use Rattle.yw_model.specs.Fields.{list_of}
-use Rattle.yw_model.specs.Primitives.{behind_compensate, compensate_front, primitive_in}
+use Rattle.yw_lines.specs.Fields.{list_of}
+use Rattle.yw_lines.specs.Primitives.{behind_compensate, compensate_front, primitive_in}
 use Rattle.yw_state.specs.declared.tree.Primitive.{Primitive}
 
 -- `compensate` and one blank stand in front

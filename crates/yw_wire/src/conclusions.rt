@@ -3,8 +3,8 @@ ghost use Rattle.std.specs.Prelude.{◌≡◌, ◌&&◌, true, false, take, leng
 ghost use Rattle.std.specs.Str.{bytes_eq};
 ghost use Rattle.serde_json.specs.View.{view};
 ghost use Rattle.yw_base.specs.Spelling.{is_name};
-ghost use Rattle.yw_model.specs.Fields.{conclusion_of, exlet_of, worklet_of};
-ghost use Rattle.yw_model.specs.Primitives.{behind_compensate, compensate_front, compensation_in, primitive_in};
+ghost use Rattle.yw_lines.specs.Fields.{conclusion_of, exlet_of, worklet_of};
+ghost use Rattle.yw_lines.specs.Primitives.{behind_compensate, compensate_front, compensation_in, primitive_in};
 ghost use Rattle.yw_wire.specs.Faults.{Says};
 ghost use Rattle.yw_wire.specs.Steps.{compensated, has_front, step_of, steps_of};
 
@@ -14,7 +14,7 @@ use crate::kinds::name_in;
 use serde_json::Value as JsonValue;
 use std::alloc::{AllocError, Global};
 use yw_base::{Name, Text};
-use yw_model::{Conclusion, Primitive, PrimitiveList};
+use yw_state::{Conclusion, Primitive, PrimitiveList};
 
 fn behind_compensate(text: &str) -> Option<&str>
     ensures { MatchOption result (has_front text.now ≡ false) (λ rest. (has_front text.now ≡ true) × (rest.now ≡ behind_compensate text.now)) }
@@ -41,7 +41,7 @@ fn compensation_in(alloc: Global, text: &str) -> Result<Primitive, AllocError>
     }
 }
 
-#[tactic(auto, unfolding(yw_model::specs::Primitives::primitive_in))]
+#[tactic(auto, unfolding(yw_lines::specs::Primitives::primitive_in))]
 fn primitive_in(alloc: Global, text: &str) -> Result<Primitive, AllocError>
     ensures { IfOk result (λ primitive. primitive ≡ primitive_in text.now) }
 {
@@ -93,7 +93,7 @@ fn exlet_in(alloc: Global, value: &JsonValue) -> Result<Conclusion, FieldFault>
 impl FromValue for Conclusion {
     ghost kind = { conclusion_of };
 
-    #[tactic(auto, unfolding(yw_model::specs::Fields::conclusion_of))]
+    #[tactic(auto, unfolding(yw_lines::specs::Fields::conclusion_of))]
     fn from_value(alloc: Global, value: &JsonValue) -> Result<Conclusion, FieldFault> {
         if !has_members(value, 1) {
             return Err(FieldFault::Kind);

@@ -1,6 +1,6 @@
 // Why a line isn't read.
 use std::alloc::AllocError;
-use yw_model::Rule;
+use yw_state::Rule;
 
 /// Why a line isn't read as a command or a query: the first of these, in this order. Their names are our own.
 #[derive(Clone, Copy, Debug, PartialEq, Eq)]

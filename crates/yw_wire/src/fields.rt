@@ -2,16 +2,16 @@
 ghost use Rattle.std.specs.Prelude.{◌≡◌, Option};
 ghost use Rattle.serde_json.specs.Data.{Data};
 ghost use Rattle.serde_json.specs.View.{items_view, view};
-ghost use Rattle.yw_model.specs.Fields.{field, has_members, list_of};
-ghost use Rattle.yw_model.specs.Shapes.{asked_by};
-ghost use Rattle.yw_model.specs.Values.{each_of};
+ghost use Rattle.yw_lines.specs.Fields.{field, has_members, list_of};
+ghost use Rattle.yw_lines.specs.Shapes.{asked_by};
+ghost use Rattle.yw_lines.specs.Values.{each_of};
 ghost use Rattle.yw_wire.specs.Faults.{Says};
 
 use crate::fault::FieldFault;
 use serde_json::Value as JsonValue;
 use std::alloc::Global;
 use yw_base::Items;
-use yw_model::Asked;
+use yw_state::Asked;
 
 /// What a field may be: values of one kind.
 pub trait FromValue: Sized + Drop {

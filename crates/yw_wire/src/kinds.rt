@@ -1,11 +1,11 @@
 // The kinds of fields: names, identities, words and numbers.
 ghost use Rattle.std.specs.Prelude.{◌≡◌, codes};
 ghost use Rattle.serde_json.specs.Find.{as_str};
-ghost use Rattle.yw_model.specs.Kinds.{kind_words, raised_words};
-ghost use Rattle.yw_model.specs.Fields.{field, identity_of, line_text_of, may_be_name, name_of, node_of, one_of, only_if, optional_name_of, roles_of, side_words};
+ghost use Rattle.yw_lines.specs.Kinds.{kind_words, raised_words};
+ghost use Rattle.yw_lines.specs.Fields.{field, identity_of, line_text_of, may_be_name, name_of, node_of, one_of, only_if, optional_name_of, roles_of, side_words};
 ghost use Rattle.serde_json.specs.View.{view};
 ghost use Rattle.yw_base.specs.Spelling.{is_name};
-ghost use Rattle.yw_model.specs.Identities.{identity_in};
+ghost use Rattle.yw_lines.specs.Identities.{identity_in};
 ghost use Rattle.yw_wire.specs.Faults.{Says};
 
 use crate::fault::FieldFault;
@@ -13,7 +13,7 @@ use crate::fields::{FromValue, list_of};
 use serde_json::Value as JsonValue;
 use std::alloc::Global;
 use yw_base::{Ident, IdentFault, Name, NameFault, NameList, Text};
-use yw_model::TreeKind;
+use yw_state::TreeKind;
 
 /// The most bytes of a line, without its newline.
 pub const LINE_LIMIT: usize = 1_048_576;

@@ -2,7 +2,7 @@
 ghost use Rattle.std.specs.Prelude.{◌≡◌, IfErr, IfOk, MatchOption, Ok, Err, Some, false, true};
 ghost use Rattle.std.specs.Str.{is_utf8};
 ghost use Rattle.serde_json.specs.View.{view};
-ghost use Rattle.yw_model.specs.Meaning.{AsksProperly, is_built, meaning, text_meaning, value_meaning, word_meaning};
+ghost use Rattle.yw_lines.specs.Meaning.{AsksProperly, is_built, meaning, text_meaning, value_meaning, word_meaning};
 ghost use Rattle.yw_state.specs.declared.rule.Rule.{Rule};
 ghost use Rattle.yw_wire.specs.Faults.{Gives, rule_of};
 
@@ -11,7 +11,8 @@ use crate::kinds::LINE_LIMIT;
 use crate::shapes::shape_of;
 use serde_json::Value as JsonValue;
 use std::alloc::Global;
-use yw_model::{Asked, Word};
+use yw_lines::Word;
+use yw_state::Asked;
 
 fn is_built(built: &[Word], word: Word) -> bool
     ensures { result ≡ is_built built.now word }
@@ -55,7 +56,7 @@ fn text_in(line: &[u8]) -> Option<&str>
     }
 }
 
-#[tactic(auto, unfolding(yw_model::specs::Meaning::text_meaning))]
+#[tactic(auto, unfolding(yw_lines::specs::Meaning::text_meaning))]
 fn text_asked(alloc: Global, line: &[u8], built: &[Word]) -> Result<Asked, WireFault>
     ensures { Gives result (text_meaning built.now line.now) }
 {
@@ -74,7 +75,7 @@ fn text_asked(alloc: Global, line: &[u8], built: &[Word]) -> Result<Asked, WireF
     }
 }
 
-#[tactic(auto, unfolding(yw_model::specs::Meaning::meaning))]
+#[tactic(auto, unfolding(yw_lines::specs::Meaning::meaning))]
 fn line_asked(alloc: Global, line: &[u8], built: &[Word]) -> Result<Asked, WireFault>
     ensures { Gives result (meaning built.now line.now) }
 {

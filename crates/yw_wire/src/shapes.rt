@@ -1,6 +1,6 @@
 // What lines ask, by their words: one function for each, with one `let` a field.
 ghost use Rattle.serde_json.specs.View.{view};
-ghost use Rattle.yw_model.specs.Shapes.{add_shape, advance_shape, cancel_shape, complete_shape, continue_shape, ended_shape, enter_shape, launch_shape, list_shape, load_shape, person_shape, raise_shape, rule_shape, shape_of, show_shape, specs_shape, start_shape, suspend_shape};
+ghost use Rattle.yw_lines.specs.Shapes.{add_shape, advance_shape, cancel_shape, complete_shape, continue_shape, ended_shape, enter_shape, launch_shape, list_shape, load_shape, person_shape, raise_shape, rule_shape, shape_of, show_shape, specs_shape, start_shape, suspend_shape};
 ghost use Rattle.yw_wire.specs.Faults.{Says};
 
 use crate::fault::FieldFault;
@@ -8,9 +8,10 @@ use crate::fields::{asked_by, field};
 use crate::kinds::{line_text, raised_kind};
 use serde_json::Value as JsonValue;
 use std::alloc::Global;
-use yw_model::{Asked, Command, Query, Word};
+use yw_lines::Word;
+use yw_state::{Asked, Command, Query};
 
-#[tactic(auto, unfolding(yw_model::specs::Shapes::person_shape))]
+#[tactic(auto, unfolding(yw_lines::specs::Shapes::person_shape))]
 fn person_asked(alloc: Global, line: &JsonValue) -> Result<Asked, FieldFault>
     ensures { Says result (person_shape (view line.now)) }
 {
@@ -19,7 +20,7 @@ fn person_asked(alloc: Global, line: &JsonValue) -> Result<Asked, FieldFault>
     asked_by(line, 3, Asked::Command(Command::Person { name, roles }))
 }
 
-#[tactic(auto, unfolding(yw_model::specs::Shapes::load_shape))]
+#[tactic(auto, unfolding(yw_lines::specs::Shapes::load_shape))]
 fn load_asked(alloc: Global, line: &JsonValue) -> Result<Asked, FieldFault>
     ensures { Says result (load_shape (view line.now)) }
 {
@@ -27,7 +28,7 @@ fn load_asked(alloc: Global, line: &JsonValue) -> Result<Asked, FieldFault>
     asked_by(line, 2, Asked::Command(Command::Load { toml }))
 }
 
-#[tactic(auto, unfolding(yw_model::specs::Shapes::rule_shape))]
+#[tactic(auto, unfolding(yw_lines::specs::Shapes::rule_shape))]
 fn rule_asked(alloc: Global, line: &JsonValue) -> Result<Asked, FieldFault>
     ensures { Says result (rule_shape (view line.now)) }
 {
@@ -55,7 +56,7 @@ fn rule_asked(alloc: Global, line: &JsonValue) -> Result<Asked, FieldFault>
     )
 }
 
-#[tactic(auto, unfolding(yw_model::specs::Shapes::launch_shape))]
+#[tactic(auto, unfolding(yw_lines::specs::Shapes::launch_shape))]
 fn launch_asked(alloc: Global, line: &JsonValue) -> Result<Asked, FieldFault>
     ensures { Says result (launch_shape (view line.now)) }
 {
@@ -64,7 +65,7 @@ fn launch_asked(alloc: Global, line: &JsonValue) -> Result<Asked, FieldFault>
     asked_by(line, 3, Asked::Command(Command::Launch { spec, values }))
 }
 
-#[tactic(auto, unfolding(yw_model::specs::Shapes::enter_shape))]
+#[tactic(auto, unfolding(yw_lines::specs::Shapes::enter_shape))]
 fn enter_asked(alloc: Global, line: &JsonValue) -> Result<Asked, FieldFault>
     ensures { Says result (enter_shape (view line.now)) }
 {
@@ -74,7 +75,7 @@ fn enter_asked(alloc: Global, line: &JsonValue) -> Result<Asked, FieldFault>
     asked_by(line, 4, Asked::Command(Command::Enter { who, case, task }))
 }
 
-#[tactic(auto, unfolding(yw_model::specs::Shapes::start_shape))]
+#[tactic(auto, unfolding(yw_lines::specs::Shapes::start_shape))]
 fn start_asked(alloc: Global, line: &JsonValue) -> Result<Asked, FieldFault>
     ensures { Says result (start_shape (view line.now)) }
 {
@@ -83,7 +84,7 @@ fn start_asked(alloc: Global, line: &JsonValue) -> Result<Asked, FieldFault>
     asked_by(line, 3, Asked::Command(Command::Start { who, item }))
 }
 
-#[tactic(auto, unfolding(yw_model::specs::Shapes::complete_shape))]
+#[tactic(auto, unfolding(yw_lines::specs::Shapes::complete_shape))]
 fn complete_asked(alloc: Global, line: &JsonValue) -> Result<Asked, FieldFault>
     ensures { Says result (complete_shape (view line.now)) }
 {
@@ -97,7 +98,7 @@ fn complete_asked(alloc: Global, line: &JsonValue) -> Result<Asked, FieldFault>
     )
 }
 
-#[tactic(auto, unfolding(yw_model::specs::Shapes::add_shape))]
+#[tactic(auto, unfolding(yw_lines::specs::Shapes::add_shape))]
 fn add_asked(alloc: Global, line: &JsonValue) -> Result<Asked, FieldFault>
     ensures { Says result (add_shape (view line.now)) }
 {
@@ -117,7 +118,7 @@ fn add_asked(alloc: Global, line: &JsonValue) -> Result<Asked, FieldFault>
     )
 }
 
-#[tactic(auto, unfolding(yw_model::specs::Shapes::raise_shape))]
+#[tactic(auto, unfolding(yw_lines::specs::Shapes::raise_shape))]
 fn raise_asked(alloc: Global, line: &JsonValue) -> Result<Asked, FieldFault>
     ensures { Says result (raise_shape (view line.now)) }
 {
@@ -126,7 +127,7 @@ fn raise_asked(alloc: Global, line: &JsonValue) -> Result<Asked, FieldFault>
     asked_by(line, 3, Asked::Command(Command::Raise { at, kind }))
 }
 
-#[tactic(auto, unfolding(yw_model::specs::Shapes::suspend_shape))]
+#[tactic(auto, unfolding(yw_lines::specs::Shapes::suspend_shape))]
 fn suspend_asked(alloc: Global, line: &JsonValue) -> Result<Asked, FieldFault>
     ensures { Says result (suspend_shape (view line.now)) }
 {
@@ -134,7 +135,7 @@ fn suspend_asked(alloc: Global, line: &JsonValue) -> Result<Asked, FieldFault>
     asked_by(line, 2, Asked::Command(Command::Suspend { at }))
 }
 
-#[tactic(auto, unfolding(yw_model::specs::Shapes::continue_shape))]
+#[tactic(auto, unfolding(yw_lines::specs::Shapes::continue_shape))]
 fn continue_asked(alloc: Global, line: &JsonValue) -> Result<Asked, FieldFault>
     ensures { Says result (continue_shape (view line.now)) }
 {
@@ -142,7 +143,7 @@ fn continue_asked(alloc: Global, line: &JsonValue) -> Result<Asked, FieldFault>
     asked_by(line, 2, Asked::Command(Command::Continue { at }))
 }
 
-#[tactic(auto, unfolding(yw_model::specs::Shapes::cancel_shape))]
+#[tactic(auto, unfolding(yw_lines::specs::Shapes::cancel_shape))]
 fn cancel_asked(alloc: Global, line: &JsonValue) -> Result<Asked, FieldFault>
     ensures { Says result (cancel_shape (view line.now)) }
 {
@@ -150,7 +151,7 @@ fn cancel_asked(alloc: Global, line: &JsonValue) -> Result<Asked, FieldFault>
     asked_by(line, 2, Asked::Command(Command::Cancel { case }))
 }
 
-#[tactic(auto, unfolding(yw_model::specs::Shapes::advance_shape))]
+#[tactic(auto, unfolding(yw_lines::specs::Shapes::advance_shape))]
 fn advance_asked(alloc: Global, line: &JsonValue) -> Result<Asked, FieldFault>
     ensures { Says result (advance_shape (view line.now)) }
 {
@@ -158,7 +159,7 @@ fn advance_asked(alloc: Global, line: &JsonValue) -> Result<Asked, FieldFault>
     asked_by(line, 2, Asked::Command(Command::Advance { case }))
 }
 
-#[tactic(auto, unfolding(yw_model::specs::Shapes::list_shape))]
+#[tactic(auto, unfolding(yw_lines::specs::Shapes::list_shape))]
 fn list_asked(alloc: Global, line: &JsonValue) -> Result<Asked, FieldFault>
     ensures { Says result (list_shape (view line.now)) }
 {
@@ -166,7 +167,7 @@ fn list_asked(alloc: Global, line: &JsonValue) -> Result<Asked, FieldFault>
     asked_by(line, 2, Asked::Query(Query::List { who }))
 }
 
-#[tactic(auto, unfolding(yw_model::specs::Shapes::show_shape))]
+#[tactic(auto, unfolding(yw_lines::specs::Shapes::show_shape))]
 fn show_asked(alloc: Global, line: &JsonValue) -> Result<Asked, FieldFault>
     ensures { Says result (show_shape (view line.now)) }
 {
@@ -174,7 +175,7 @@ fn show_asked(alloc: Global, line: &JsonValue) -> Result<Asked, FieldFault>
     asked_by(line, 2, Asked::Query(Query::Show { case }))
 }
 
-#[tactic(auto, unfolding(yw_model::specs::Shapes::ended_shape))]
+#[tactic(auto, unfolding(yw_lines::specs::Shapes::ended_shape))]
 fn ended_asked(alloc: Global, line: &JsonValue) -> Result<Asked, FieldFault>
     ensures { Says result (ended_shape (view line.now)) }
 {
@@ -182,7 +183,7 @@ fn ended_asked(alloc: Global, line: &JsonValue) -> Result<Asked, FieldFault>
     asked_by(line, 2, Asked::Query(Query::Ended { case }))
 }
 
-#[tactic(auto, unfolding(yw_model::specs::Shapes::specs_shape))]
+#[tactic(auto, unfolding(yw_lines::specs::Shapes::specs_shape))]
 fn specs_asked(line: &JsonValue) -> Result<Asked, FieldFault>
     ensures { Says result (specs_shape (view line.now)) }
 {

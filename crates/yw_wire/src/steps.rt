@@ -1,17 +1,18 @@
-// How a reply shows an event: words with a blank between each two.
-ghost use Rattle.std.specs.Prelude.{◌≡◌, [], ◌∷◌, codes, map, IfOk, OnOk, string_bytes};
+// How a reply shows an event: words with a blank between each two, written one behind the other into a text.
+ghost use Rattle.std.specs.Prelude.{◌≡◌, [], ◌∷◌, ◌++◌, codes, map, OnOk, string_bytes};
 ghost use Rattle.std.specs.Fmt.{decimal};
 ghost use Rattle.yw_base.specs.Identity.{dotted};
 ghost use Rattle.yw_spec.specs.Net.{place_text};
-ghost use Rattle.yw_model.specs.EventTexts.{item_idents, listed, spaced, step_text, words_text};
-ghost use Rattle.yw_model.specs.Kinds.{kind_text};
-ghost use Rattle.yw_model.specs.Primitives.{primitive_text};
+ghost use Rattle.yw_lines.specs.EventTexts.{item_idents, listed, spaced, step_text, words_text};
+ghost use Rattle.yw_lines.specs.Kinds.{kind_text};
+ghost use Rattle.yw_lines.specs.Primitives.{compensate_front, primitive_text};
 ghost use Rattle.yw_state.specs.Identity.{child};
+ghost use Rattle.yw_wire.specs.Listed.{comma_if};
 
-use std::alloc::{AllocError, Global};
+use std::alloc::AllocError;
 use yw_base::{Ident, Name};
-use yw_model::{Event, Primitive, TreeKind};
 use yw_spec::Place;
+use yw_state::{Event, Primitive, TreeKind};
 
 // ---- parts of words
 
@@ -28,56 +29,46 @@ fn kind_text(kind: TreeKind) -> &'static str
     }
 }
 
-fn primitive_text(alloc: Global, primitive: &Primitive) -> Result<String, AllocError>
-    ensures { IfOk result (λ text. string_bytes text ≡ primitive_text primitive.now) }
+/// A comma, where a word of a list stands before.
+fn push_comma(text: &mut String, later: bool) -> Result<(), AllocError>
+    ensures { OnOk result (string_bytes text.new ≡ string_bytes text.old ++ comma_if later) }
 {
-    match primitive {
-        Primitive::SuspendItem => String::from_str(alloc, "suspend_item"),
-        Primitive::ContinueItem => String::from_str(alloc, "continue_item"),
-        Primitive::RestartItem => String::from_str(alloc, "restart_item"),
-        Primitive::CompleteItem => String::from_str(alloc, "complete_item"),
-        Primitive::RemoveItem => String::from_str(alloc, "remove_item"),
-        Primitive::SuspendCase => String::from_str(alloc, "suspend_case"),
-        Primitive::ContinueCase => String::from_str(alloc, "continue_case"),
-        Primitive::RemoveCase => String::from_str(alloc, "remove_case"),
-        Primitive::Compensate(name) => format!(in alloc; "compensate {}", name.as_str()),
-        Primitive::Unknown(text) => String::from_str(alloc, text.as_str()),
+    if later {
+        text.push(',')?;
     }
+    Ok(())
 }
 
-/// The identity with this number behind. The number is wide, so that the last of many items has one too.
-fn child_text(alloc: Global, ident: &Ident, number: u128) -> Result<String, AllocError>
-    ensures { IfOk result (λ text. string_bytes text ≡ dotted (child ident.now number)) }
+/// The identity of these numbers with this one behind. The number is wide, so that the last of many items has one too.
+fn push_child(text: &mut String, numbers: &[u64], number: u128) -> Result<(), AllocError>
+    ensures { OnOk result (string_bytes text.new ≡ string_bytes text.old ++ dotted (child numbers.now number)) }
 {
-    let mut text = String::new(alloc);
-    let numbers = ident.numbers();
     for before in numbers {
         write!(text, "{before}.")?;
     }
-    write!(text, "{number}")?;
-    Ok(text)
+    write!(text, "{number}")
 }
 
-fn place_texts(alloc: Global, places: &[Place]) -> Result<Vec<String>, AllocError>
-    ensures { IfOk result (λ texts. map string_bytes texts.items ≡ map place_text places.now) }
+fn push_dotted(text: &mut String, numbers: &[u64]) -> Result<(), AllocError>
+    ensures { OnOk result (string_bytes text.new ≡ string_bytes text.old ++ dotted numbers.now) }
 {
-    let mut texts = Vec::new(alloc);
-    for place in places {
-        texts.push(place.text(alloc)?)?;
+    match numbers.split_last() {
+        None => Ok(()),
+        Some((last, before)) => push_child(text, before, u128::from(*last)),
     }
-    Ok(texts)
 }
 
-/// The identities of so many items of the net, numbered from the first number on.
-fn item_texts(alloc: Global, net: &Ident, first: u64, count: u32) -> Result<Vec<String>, AllocError>
-    ensures { IfOk result (λ texts. map string_bytes texts.items ≡ item_idents net.now first count) }
+fn push_place(text: &mut String, place: &Place) -> Result<(), AllocError>
+    ensures { OnOk result (string_bytes text.new ≡ string_bytes text.old ++ place_text place.now) }
 {
-    let mut texts = Vec::new(alloc);
-    for k in 0..count {
-        let number = u128::from(first) + u128::from(k);
-        texts.push(child_text(alloc, net, number)?)?;
+    match place {
+        Place::Named(name) => text.push_str(name.as_str()),
+        Place::Between(from, to) => {
+            text.push_str(from.as_str())?;
+            text.push_str("->")?;
+            text.push_str(to.as_str())
+        }
     }
-    Ok(texts)
 }
 
 // ---- words behind a text
@@ -96,216 +87,233 @@ fn add_number(text: &mut String, number: u64) -> Result<(), AllocError>
     write!(text, " {number}")
 }
 
-fn add_child(alloc: Global, text: &mut String, ident: &Ident, number: u64) -> Result<(), AllocError>
+fn add_ident(text: &mut String, ident: &Ident) -> Result<(), AllocError>
+    ensures { OnOk result (string_bytes text.new ≡ spaced (string_bytes text.old) (dotted ident.now)) }
+{
+    text.push(' ')?;
+    push_dotted(text, ident.numbers())
+}
+
+fn add_child(text: &mut String, ident: &Ident, number: u64) -> Result<(), AllocError>
     ensures { OnOk result (string_bytes text.new ≡ spaced (string_bytes text.old) (dotted (child ident.now number))) }
 {
-    let word = child_text(alloc, ident, u128::from(number))?;
-    add(text, word.as_str())
+    text.push(' ')?;
+    push_child(text, ident.numbers(), u128::from(number))
 }
 
-fn add_list(alloc: Global, text: &mut String, words: &[String]) -> Result<(), AllocError>
-    ensures { OnOk result (string_bytes text.new ≡ spaced (string_bytes text.old) (listed (map string_bytes words.now))) }
-{
-    let list = words.join(alloc, ",")?;
-    add(text, list.as_str())
-}
-
-fn add_places(alloc: Global, text: &mut String, places: &[Place]) -> Result<(), AllocError>
+fn add_places(text: &mut String, places: &[Place]) -> Result<(), AllocError>
     ensures { OnOk result (string_bytes text.new ≡ spaced (string_bytes text.old) (listed (map place_text places.now))) }
 {
-    let texts = place_texts(alloc, places)?;
-    add_list(alloc, text, &texts)
+    text.push(' ')?;
+    for (k, place) in places.iter().enumerate() {
+        push_comma(text, k > 0)?;
+        push_place(text, place)?;
+    }
+    Ok(())
 }
 
-fn add_items(
-    alloc: Global,
+/// The identities of so many items of the net, numbered from the first number on.
+fn add_items(text: &mut String, net: &Ident, first: u64, count: u32) -> Result<(), AllocError>
+    ensures { OnOk result (string_bytes text.new ≡ spaced (string_bytes text.old) (listed (item_idents net.now first count))) }
+{
+    text.push(' ')?;
+    for k in 0..count {
+        push_comma(text, k > 0)?;
+        push_child(text, net.numbers(), u128::from(first) + u128::from(k))?;
+    }
+    Ok(())
+}
+
+fn add_compensation(text: &mut String, name: &Name) -> Result<(), AllocError>
+    ensures { OnOk result (string_bytes text.new ≡ spaced (string_bytes text.old) (compensate_front ++ name.now)) }
+{
+    add(text, "compensate ")?;
+    text.push_str(name.as_str())?;
+    Ok(())
+}
+
+fn add_primitive(text: &mut String, primitive: &Primitive) -> Result<(), AllocError>
+    ensures { OnOk result (string_bytes text.new ≡ spaced (string_bytes text.old) (primitive_text primitive.now)) }
+{
+    match primitive {
+        Primitive::SuspendItem => add(text, "suspend_item"),
+        Primitive::ContinueItem => add(text, "continue_item"),
+        Primitive::RestartItem => add(text, "restart_item"),
+        Primitive::CompleteItem => add(text, "complete_item"),
+        Primitive::RemoveItem => add(text, "remove_item"),
+        Primitive::SuspendCase => add(text, "suspend_case"),
+        Primitive::ContinueCase => add(text, "continue_case"),
+        Primitive::RemoveCase => add(text, "remove_case"),
+        Primitive::Compensate(name) => add_compensation(text, name),
+        Primitive::Unknown(unknown) => add(text, unknown.as_str()),
+    }
+}
+
+// ---- texts of a word and one more, each in place of what stood in the text
+
+fn put(text: &mut String, word: &str) -> Result<(), AllocError>
+    ensures { OnOk result (string_bytes text.new ≡ words_text word.now []) }
+{
+    text.clear();
+    text.push_str(word)
+}
+
+fn put_name(text: &mut String, word: &str, name: &Name) -> Result<(), AllocError>
+    ensures { OnOk result (string_bytes text.new ≡ words_text word.now (name.now ∷ [])) }
+{
+    put(text, word)?;
+    add(text, name.as_str())
+}
+
+fn put_number(text: &mut String, word: &str, number: u64) -> Result<(), AllocError>
+    ensures { OnOk result (string_bytes text.new ≡ words_text word.now (decimal number ∷ [])) }
+{
+    put(text, word)?;
+    add_number(text, number)
+}
+
+fn put_ident(text: &mut String, word: &str, ident: &Ident) -> Result<(), AllocError>
+    ensures { OnOk result (string_bytes text.new ≡ words_text word.now (dotted ident.now ∷ [])) }
+{
+    put(text, word)?;
+    add_ident(text, ident)
+}
+
+// ---- texts of more words
+
+fn put_launch(text: &mut String, case: u64, spec: &Name) -> Result<(), AllocError>
+    ensures { OnOk result (string_bytes text.new ≡ words_text (codes "launch") (decimal case ∷ spec.now ∷ [])) }
+{
+    put_number(text, "launch", case)?;
+    add(text, spec.as_str())
+}
+
+fn put_enter(
     text: &mut String,
     net: &Ident,
+    task: &Name,
+    places: &[Place],
     first: u64,
     count: u32,
 ) -> Result<(), AllocError>
-    ensures { OnOk result (string_bytes text.new ≡ spaced (string_bytes text.old) (listed (item_idents net.now first count))) }
+    ensures { OnOk result (string_bytes text.new ≡ words_text (codes "enter") (dotted net.now ∷ task.now ∷ codes "from" ∷ listed (map place_text places.now) ∷ codes "as" ∷ listed (item_idents net.now first count) ∷ [])) }
 {
-    let texts = item_texts(alloc, net, first, count)?;
-    add_list(alloc, text, &texts)
+    put_ident(text, "enter", net)?;
+    add(text, task.as_str())?;
+    add(text, "from")?;
+    add_places(text, places)?;
+    add(text, "as")?;
+    add_items(text, net, first, count)
 }
 
-// ---- texts that begin with a word
-
-fn name_line(alloc: Global, word: &str, name: &Name) -> Result<String, AllocError>
-    ensures { IfOk result (λ text. string_bytes text ≡ words_text word.now (name.now ∷ [])) }
+fn put_exit(text: &mut String, net: &Ident, task: &Name, places: &[Place]) -> Result<(), AllocError>
+    ensures { OnOk result (string_bytes text.new ≡ words_text (codes "exit") (dotted net.now ∷ task.now ∷ codes "to" ∷ listed (map place_text places.now) ∷ [])) }
 {
-    let mut text = String::from_str(alloc, word)?;
-    add(&mut text, name.as_str())?;
-    Ok(text)
+    put_ident(text, "exit", net)?;
+    add(text, task.as_str())?;
+    add(text, "to")?;
+    add_places(text, places)
 }
 
-fn number_line(alloc: Global, word: &str, number: u64) -> Result<String, AllocError>
-    ensures { IfOk result (λ text. string_bytes text ≡ words_text word.now (decimal number ∷ [])) }
+fn put_add(text: &mut String, net: &Ident, task: &Name, number: u64) -> Result<(), AllocError>
+    ensures { OnOk result (string_bytes text.new ≡ words_text (codes "add") (dotted net.now ∷ task.now ∷ codes "as" ∷ dotted (child net.now number) ∷ [])) }
 {
-    let mut text = String::from_str(alloc, word)?;
-    add_number(&mut text, number)?;
-    Ok(text)
+    put_ident(text, "add", net)?;
+    add(text, task.as_str())?;
+    add(text, "as")?;
+    add_child(text, net, number)
 }
 
-fn ident_line(alloc: Global, word: &str, ident: &Ident) -> Result<String, AllocError>
-    ensures { IfOk result (λ text. string_bytes text ≡ words_text word.now (dotted ident.now ∷ [])) }
+fn put_pass(text: &mut String, at: &Ident, check: TreeKind) -> Result<(), AllocError>
+    ensures { OnOk result (string_bytes text.new ≡ words_text (codes "pass") (dotted at.now ∷ kind_text check ∷ [])) }
 {
-    let mut text = String::from_str(alloc, word)?;
-    let ident = ident.print(alloc)?;
-    add(&mut text, ident.as_str())?;
-    Ok(text)
-}
-
-// ---- texts with more words
-
-fn launch_line(alloc: Global, case: u64, spec: &Name) -> Result<String, AllocError>
-    ensures { IfOk result (λ text. string_bytes text ≡ words_text (codes "launch") (decimal case ∷ spec.now ∷ [])) }
-{
-    let mut text = number_line(alloc, "launch", case)?;
-    add(&mut text, spec.as_str())?;
-    Ok(text)
-}
-
-fn enter_line(
-    alloc: Global,
-    net: &Ident,
-    task: &Name,
-    places: &[Place],
-    first: u64,
-    count: u32,
-) -> Result<String, AllocError>
-    ensures { IfOk result (λ text. string_bytes text ≡ words_text (codes "enter") (dotted net.now ∷ task.now ∷ codes "from" ∷ listed (map place_text places.now) ∷ codes "as" ∷ listed (item_idents net.now first count) ∷ [])) }
-{
-    let mut text = ident_line(alloc, "enter", net)?;
-    add(&mut text, task.as_str())?;
-    add(&mut text, "from")?;
-    add_places(alloc, &mut text, places)?;
-    add(&mut text, "as")?;
-    add_items(alloc, &mut text, net, first, count)?;
-    Ok(text)
-}
-
-fn exit_line(
-    alloc: Global,
-    net: &Ident,
-    task: &Name,
-    places: &[Place],
-) -> Result<String, AllocError>
-    ensures { IfOk result (λ text. string_bytes text ≡ words_text (codes "exit") (dotted net.now ∷ task.now ∷ codes "to" ∷ listed (map place_text places.now) ∷ [])) }
-{
-    let mut text = ident_line(alloc, "exit", net)?;
-    add(&mut text, task.as_str())?;
-    add(&mut text, "to")?;
-    add_places(alloc, &mut text, places)?;
-    Ok(text)
-}
-
-fn add_line(alloc: Global, net: &Ident, task: &Name, number: u64) -> Result<String, AllocError>
-    ensures { IfOk result (λ text. string_bytes text ≡ words_text (codes "add") (dotted net.now ∷ task.now ∷ codes "as" ∷ dotted (child net.now number) ∷ [])) }
-{
-    let mut text = ident_line(alloc, "add", net)?;
-    add(&mut text, task.as_str())?;
-    add(&mut text, "as")?;
-    add_child(alloc, &mut text, net, number)?;
-    Ok(text)
-}
-
-fn pass_line(alloc: Global, at: &Ident, check: TreeKind) -> Result<String, AllocError>
-    ensures { IfOk result (λ text. string_bytes text ≡ words_text (codes "pass") (dotted at.now ∷ kind_text check ∷ [])) }
-{
-    let mut text = ident_line(alloc, "pass", at)?;
-    add(&mut text, kind_text(check))?;
-    Ok(text)
+    put_ident(text, "pass", at)?;
+    add(text, kind_text(check))
 }
 
 /// The text of an exlet's beginning: at this identity a tree of this kind concludes the node, and the run has this
 /// number.
-fn exlet_line(
-    alloc: Global,
+fn put_exlet(
+    text: &mut String,
     word: &str,
     at: &Ident,
     kind: TreeKind,
     node: u32,
     number: u64,
-) -> Result<String, AllocError>
-    ensures { IfOk result (λ text. string_bytes text ≡ words_text word.now (dotted at.now ∷ kind_text kind ∷ decimal node ∷ codes "as" ∷ dotted (child at.now number) ∷ [])) }
+) -> Result<(), AllocError>
+    ensures { OnOk result (string_bytes text.new ≡ words_text word.now (dotted at.now ∷ kind_text kind ∷ decimal node ∷ codes "as" ∷ dotted (child at.now number) ∷ [])) }
 {
-    let mut text = ident_line(alloc, word, at)?;
-    add(&mut text, kind_text(kind))?;
-    add_number(&mut text, u64::from(node))?;
-    add(&mut text, "as")?;
-    add_child(alloc, &mut text, at, number)?;
-    Ok(text)
+    put_ident(text, word, at)?;
+    add(text, kind_text(kind))?;
+    add_number(text, u64::from(node))?;
+    add(text, "as")?;
+    add_child(text, at, number)
 }
 
-fn substitute_line(alloc: Global, item: &Ident, worklet: &Name) -> Result<String, AllocError>
-    ensures { IfOk result (λ text. string_bytes text ≡ words_text (codes "substitute") (dotted item.now ∷ codes "by" ∷ worklet.now ∷ [])) }
+fn put_substitute(text: &mut String, item: &Ident, worklet: &Name) -> Result<(), AllocError>
+    ensures { OnOk result (string_bytes text.new ≡ words_text (codes "substitute") (dotted item.now ∷ codes "by" ∷ worklet.now ∷ [])) }
 {
-    let mut text = ident_line(alloc, "substitute", item)?;
-    add(&mut text, "by")?;
-    add(&mut text, worklet.as_str())?;
-    Ok(text)
+    put_ident(text, "substitute", item)?;
+    add(text, "by")?;
+    add(text, worklet.as_str())
 }
 
-fn prim_line(alloc: Global, run: &Ident, primitive: &Primitive) -> Result<String, AllocError>
-    ensures { IfOk result (λ text. string_bytes text ≡ words_text (codes "prim") (dotted run.now ∷ primitive_text primitive.now ∷ [])) }
+fn put_prim(text: &mut String, run: &Ident, primitive: &Primitive) -> Result<(), AllocError>
+    ensures { OnOk result (string_bytes text.new ≡ words_text (codes "prim") (dotted run.now ∷ primitive_text primitive.now ∷ [])) }
 {
-    let mut text = ident_line(alloc, "prim", run)?;
-    let primitive = primitive_text(alloc, primitive)?;
-    add(&mut text, primitive.as_str())?;
-    Ok(text)
+    put_ident(text, "prim", run)?;
+    add_primitive(text, primitive)
 }
 
-/// The event as a reply shows it. An `Err` says that no memory was left.
-pub fn step_line(alloc: Global, event: &Event) -> Result<String, AllocError>
-    ensures { IfOk result (λ text. string_bytes text ≡ step_text event.now) }
+/// The event as a reply shows it, in place of what stood in the text. An `Err` says that no memory was left.
+pub fn put_step(text: &mut String, event: &Event) -> Result<(), AllocError>
+    ensures { OnOk result (string_bytes text.new ≡ step_text event.now) }
 {
     match event {
-        Event::Person { name, .. } => name_line(alloc, "person", name),
-        Event::Load { name, .. } => name_line(alloc, "load", name),
-        Event::AddRule { number, .. } => number_line(alloc, "rule", u64::from(*number)),
-        Event::Launch { case, spec, .. } => launch_line(alloc, *case, spec),
+        Event::Person { name, .. } => put_name(text, "person", name),
+        Event::Load { name, .. } => put_name(text, "load", name),
+        Event::AddRule { number, .. } => put_number(text, "rule", u64::from(*number)),
+        Event::Launch { case, spec, .. } => put_launch(text, *case, spec),
         Event::Enter {
             net,
             task,
             places,
             first,
             count,
-        } => enter_line(alloc, net, task, places.as_slice(), *first, *count),
-        Event::Start { item, .. } => ident_line(alloc, "start", item),
-        Event::Complete { item, .. } => ident_line(alloc, "complete", item),
-        Event::Exit { net, task, places } => exit_line(alloc, net, task, places.as_slice()),
+        } => put_enter(text, net, task, places.as_slice(), *first, *count),
+        Event::Start { item, .. } => put_ident(text, "start", item),
+        Event::Complete { item, .. } => put_ident(text, "complete", item),
+        Event::Exit { net, task, places } => put_exit(text, net, task, places.as_slice()),
         Event::Add {
             net,
             task,
             number,
             ..
-        } => add_line(alloc, net, task, *number),
-        Event::Finish { case } => number_line(alloc, "finish", *case),
-        Event::Cancel { case } => number_line(alloc, "cancel", *case),
-        Event::StartSub { item } => ident_line(alloc, "startsub", item),
-        Event::CompleteSub { item } => ident_line(alloc, "completesub", item),
-        Event::CompleteEmpty { item } => ident_line(alloc, "completeempty", item),
-        Event::Pass { at, check } => pass_line(alloc, at, *check),
+        } => put_add(text, net, task, *number),
+        Event::Finish { case } => put_number(text, "finish", *case),
+        Event::Cancel { case } => put_number(text, "cancel", *case),
+        Event::StartSub { item } => put_ident(text, "startsub", item),
+        Event::CompleteSub { item } => put_ident(text, "completesub", item),
+        Event::CompleteEmpty { item } => put_ident(text, "completeempty", item),
+        Event::Pass { at, check } => put_pass(text, at, *check),
         Event::Except {
             at,
             check,
             node,
             number,
-        } => exlet_line(alloc, "except", at, *check, *node, *number),
-        Event::Substitute { item, worklet } => substitute_line(alloc, item, worklet),
-        Event::CompleteWorklet { item } => ident_line(alloc, "completeworklet", item),
+        } => put_exlet(text, "except", at, *check, *node, *number),
+        Event::Substitute { item, worklet } => put_substitute(text, item, worklet),
+        Event::CompleteWorklet { item } => put_ident(text, "completeworklet", item),
         Event::Raise {
             at,
             kind,
             node,
             number,
-        } => exlet_line(alloc, "raise", at, *kind, *node, *number),
-        Event::Prim { run, primitive } => prim_line(alloc, run, primitive),
-        Event::Compensated { run } => ident_line(alloc, "compensated", run),
-        Event::Suspend { at } => ident_line(alloc, "suspend", at),
-        Event::Continue { at } => ident_line(alloc, "continue", at),
-        Event::Advance { case } => number_line(alloc, "advance", *case),
+        } => put_exlet(text, "raise", at, *kind, *node, *number),
+        Event::Prim { run, primitive } => put_prim(text, run, primitive),
+        Event::Compensated { run } => put_ident(text, "compensated", run),
+        Event::Suspend { at } => put_ident(text, "suspend", at),
+        Event::Continue { at } => put_ident(text, "continue", at),
+        Event::Advance { case } => put_number(text, "advance", *case),
     }
 }

@@ -3,8 +3,8 @@ ghost use Rattle.std.specs.Prelude.{◌≡◌, Some, nat_le};
 ghost use Rattle.serde_json.specs.Events.{items_len};
 ghost use Rattle.serde_json.specs.View.{items_view, members_view, view};
 ghost use Rattle.yw_base.specs.Values.{most_elements};
-ghost use Rattle.yw_model.specs.Fields.{any_value_of, givens_of};
-ghost use Rattle.yw_model.specs.Values.{each_of, givens_in, if_short, int_of, list_value, short_of, value_in};
+ghost use Rattle.yw_lines.specs.Fields.{any_value_of, givens_of};
+ghost use Rattle.yw_lines.specs.Values.{each_of, givens_in, if_short, int_of, list_value, short_of, value_in};
 ghost use Rattle.yw_wire.specs.Faults.{Says};
 
 use crate::fault::FieldFault;
@@ -12,7 +12,7 @@ use crate::fields::{FromValue, each_of};
 use serde_json::{Map, Value as JsonValue};
 use std::alloc::Global;
 use yw_base::{IntList, Items, Text, TextList, Value};
-use yw_model::{Given, GivenList};
+use yw_state::{Given, GivenList};
 
 /// The most bytes of a text value.
 const MOST_TEXT_BYTES: usize = 4096;
@@ -78,7 +78,7 @@ fn list_value(alloc: Global, values: &[JsonValue]) -> Result<Value, FieldFault>
 }
 
 /// The value for which a JSON value stands. It is `Kind` exactly where it has no sort, unless memory ran out.
-#[tactic(auto, unfolding(yw_model::specs::Values::value_in))]
+#[tactic(auto, unfolding(yw_lines::specs::Values::value_in))]
 fn value_in(alloc: Global, value: &JsonValue) -> Result<Value, FieldFault>
     ensures { Says result (value_in (view value.now)) }
 {

@@ -1,4 +1,5 @@
-// Documents of specifications.
+// Documents of specifications. They are given out by calls that promise nothing, so that no proof of a test holds
+// their letters.
 use std::alloc::{AllocError, Global};
 
 /// A specification `s` of one net `main`, whose other keys and tasks are these.
@@ -20,7 +21,25 @@ output = "o"
 
 /// Two tasks, one after the other.
 pub(super) fn seq() -> &'static str {
-    r#"name = "seq"
+    SEQ
+}
+
+/// A net with one variable and one task for an officer.
+pub(super) fn deep() -> &'static str {
+    DEEP
+}
+
+/// A net with one task for a clerk.
+pub(super) fn remind() -> &'static str {
+    REMIND
+}
+
+/// A loan: two nets, with a split and a task of several items.
+pub(super) fn loan() -> &'static str {
+    LOAN
+}
+
+const SEQ: &str = r#"name = "seq"
 top = "main"
 [[net]]
 name = "main"
@@ -31,12 +50,9 @@ flows = [["i","a"],["a","b"],["b","o"]]
 name = "a"
 [[net.task]]
 name = "b"
-"#
-}
+"#;
 
-/// A net with one variable and one task for an officer.
-pub(super) fn deep() -> &'static str {
-    r#"name = "deep"
+const DEEP: &str = r#"name = "deep"
 top = "main"
 [[net]]
 name = "main"
@@ -47,12 +63,9 @@ flows = [["i","visit"],["visit","o"]]
 [[net.task]]
 name = "visit"
 role = "officer"
-"#
-}
+"#;
 
-/// A net with one task for a clerk.
-pub(super) fn remind() -> &'static str {
-    r#"name = "remind"
+const REMIND: &str = r#"name = "remind"
 top = "main"
 [[net]]
 name = "main"
@@ -62,12 +75,9 @@ flows = [["i","call"],["call","o"]]
 [[net.task]]
 name = "call"
 role = "clerk"
-"#
-}
+"#;
 
-/// A loan: two nets, with a split and a task of several items.
-pub(super) fn loan() -> &'static str {
-    r#"
+const LOAN: &str = r#"
 name = "loan"
 top = "main"
 [[net]]
@@ -117,5 +127,4 @@ item = "reviewer"
 min = 2
 max = 5
 threshold = 2
-"#
-}
+"#;

@@ -1,116 +1,149 @@
 // Which lines are read, by the words that are built, and which fault comes first.
-use super::{answer, assert_lines};
+use super::{Row, answers, asks};
 use crate::WireFault;
-use std::alloc::Global;
-use std::process::Abort;
-use std::test::Fail;
-use yw_model::{Rule, Word};
+use std::alloc::{AllocError, Global};
+use yw_lines::Word;
+use yw_state::Rule;
 
-#[test]
-fn reads_json_objects_alone(rt: HostRuntime) -> Result<(), Fail> {
-    let rows = [
-        ("", "NotJson"),
-        ("{", "NotJson"),
-        (r#"{"cmd":"specs"}}"#, "NotJson"),
-        (r#"{"cmd":"specs",}"#, "NotJson"),
-        (r#"{"cmd":"specs"}"#, "specs"),
-        ("\t{\"cmd\" : \"specs\"}\r", "specs"),
-        ("{}", "NotCommand"),
-        ("[]", "NotCommand"),
-        (r#"[{"cmd":"specs"}]"#, "NotCommand"),
-        (r#""specs""#, "NotCommand"),
-        ("7", "NotCommand"),
-        (r#"{"cmd":7}"#, "NotCommand"),
-        (r#"{"cmd":null}"#, "NotCommand"),
-        (r#"{"cmd":["specs"]}"#, "NotCommand"),
-        (r#"{"cmd":"Specs"}"#, "NotCommand"),
-        (r#"{"cmd":"specs "}"#, "NotCommand"),
-        (r#"{"cmd":""}"#, "NotCommand"),
-        (r#"{"Cmd":"specs"}"#, "NotCommand"),
-    ];
-    assert_lines(&rt, rt.alloc(), &rows)
+fn lines() -> &'static [Row] {
+    &LINES
 }
 
-/// The line asks this, or has this fault, where these words are built.
-fn assert_built(
-    rt: &impl Abort,
-    alloc: Global,
-    built: &[Word],
-    rows: &[(&str, &str)],
-) -> Result<(), Fail> {
-    for (line, want) in rows {
-        let answer = answer(alloc, line.as_bytes(), built)?;
-        assert!(rt;
-            answer.as_str() == *want,
-            "{line}: {answer}, and not {want}"
-        );
+const LINES: [Row; 28] = [
+    ("", "NotJson"),
+    ("{", "NotJson"),
+    (r#"{"cmd":"specs"}}"#, "NotJson"),
+    (r#"{"cmd":"specs",}"#, "NotJson"),
+    (r#"{"cmd":"specs"}"#, "specs"),
+    ("\t{\"cmd\" : \"specs\"}\r", "specs"),
+    ("{}", "NotCommand"),
+    ("[]", "NotCommand"),
+    (r#"[{"cmd":"specs"}]"#, "NotCommand"),
+    (r#""specs""#, "NotCommand"),
+    ("7", "NotCommand"),
+    (r#"{"cmd":7}"#, "NotCommand"),
+    (r#"{"cmd":null}"#, "NotCommand"),
+    (r#"{"cmd":["specs"]}"#, "NotCommand"),
+    (r#"{"cmd":"Specs"}"#, "NotCommand"),
+    (r#"{"cmd":"specs "}"#, "NotCommand"),
+    (r#"{"cmd":""}"#, "NotCommand"),
+    (r#"{"Cmd":"specs"}"#, "NotCommand"),
+    // Fields in any order; of a key that comes twice the last counts.
+    (
+        r#" { "roles" : [ ] , "cmd" : "person" , "name" : "ann" } "#,
+        "person ann",
+    ),
+    (r#"{"cmd":"specs","cmd":"load","toml":""}"#, "load "),
+    (r#"{"cmd":"load","toml":"","cmd":"specs"}"#, "NotCommand"),
+    (r#"{"cmd":"show","cmd":"nothing","case":"1"}"#, "NotCommand"),
+    // What happens outside is of three kinds.
+    (
+        r#"{"cmd":"raise","at":"1","kind":"external"}"#,
+        "raise 1 External",
+    ),
+    (
+        r#"{"cmd":"raise","at":"1","kind":"timeout"}"#,
+        "raise 1 Timeout",
+    ),
+    (
+        r#"{"cmd":"raise","at":"1","kind":"abort"}"#,
+        "raise 1 Abort",
+    ),
+    (r#"{"cmd":"raise","at":"1","kind":"post"}"#, "NotCommand"),
+    (r#"{"cmd":"raise","at":"1","kind":"Abort"}"#, "NotCommand"),
+    (r#"{"cmd":"raise","at":"1","kind":3}"#, "NotCommand"),
+];
+
+#[test]
+fn reads_json_objects_alone(rt: HostRuntime) {
+    for row in lines() {
+        assert!(rt; asks(rt.alloc(), row.0, row.1), "of {}", row.0);
     }
-    Ok(())
+}
+
+/// A line, and what it asks or its fault where `load` and `person` are built, and where nothing is.
+type Built = (&'static str, &'static str, &'static str);
+
+fn built_lines() -> &'static [Built] {
+    &BUILT
+}
+
+const BUILT: [Built; 9] = [
+    (
+        r#"{"cmd":"person","name":"ann","roles":[]}"#,
+        "person ann",
+        "NotBuilt",
+    ),
+    (r#"{"cmd":"load","toml":"x"}"#, "load x", "NotBuilt"),
+    (r#"{"cmd":"load"}"#, "NotCommand", "NotBuilt"),
+    (r#"{"cmd":"specs"}"#, "NotBuilt", "NotBuilt"),
+    (r#"{"cmd":"launch"}"#, "NotBuilt", "NotBuilt"),
+    (
+        r#"{"cmd":"suspend","at":7,"more":1}"#,
+        "NotBuilt",
+        "NotBuilt",
+    ),
+    (r#"{"cmd":"launches"}"#, "NotCommand", "NotCommand"),
+    ("{}", "NotCommand", "NotCommand"),
+    (r#"{"cmd":"specs""#, "NotJson", "NotJson"),
+];
+
+fn is_read_if_built(alloc: Global, row: &Built) -> bool {
+    let (line, few, none) = row;
+    answers(alloc, line.as_bytes(), &[Word::Load, Word::Person], few)
+        && answers(alloc, line.as_bytes(), &[], none)
 }
 
 #[test]
-fn reads_built_words_alone(rt: HostRuntime) -> Result<(), Fail> {
-    let few = [
-        (r#"{"cmd":"person","name":"ann","roles":[]}"#, "person ann"),
-        (r#"{"cmd":"load","toml":"x"}"#, "load x"),
-        (r#"{"cmd":"load"}"#, "NotCommand"),
-        (r#"{"cmd":"specs"}"#, "NotBuilt"),
-        (r#"{"cmd":"launch"}"#, "NotBuilt"),
-        (r#"{"cmd":"suspend","at":7,"more":1}"#, "NotBuilt"),
-        (r#"{"cmd":"launches"}"#, "NotCommand"),
-        ("{}", "NotCommand"),
-        (r#"{"cmd":"specs""#, "NotJson"),
-    ];
-    assert_built(&rt, rt.alloc(), &[Word::Load, Word::Person], &few)?;
-    let none = [
-        (r#"{"cmd":"person","name":"ann","roles":[]}"#, "NotBuilt"),
-        (r#"{"cmd":"load"}"#, "NotBuilt"),
-        (r#"{"cmd":"none"}"#, "NotCommand"),
-    ];
-    assert_built(&rt, rt.alloc(), &[], &none)
+fn reads_built_words_alone(rt: HostRuntime) {
+    for row in built_lines() {
+        assert!(rt; is_read_if_built(rt.alloc(), row), "of {}", row.0);
+    }
 }
+
+/// A line's front, the byte that fills it up, its length, and what it asks or its fault.
+type Filled = (&'static [u8], u8, usize, &'static str);
+
+fn filled_lines() -> &'static [Filled] {
+    &FILLED
+}
+
+const FILLED: [Filled; 6] = [
+    (br#"{"cmd":"specs"}"#, b' ', 1_048_576, "specs"),
+    (br#"{"cmd":"specs"}"#, b' ', 1_048_577, "LineTooLong"),
+    (b"", 0xff, 1_048_577, "LineTooLong"),
+    (b"", 0xff, 1_048_576, "NotJson"),
+    (br#"{"cmd":"specs"}"#, 0xc3, 16, "NotJson"),
+    (b"", b'[', 200, "NotJson"),
+];
 
 /// So many bytes, all alike but for a front.
-fn filled(alloc: Global, front: &[u8], byte: u8, length: usize) -> Result<Vec<u8>, Fail> {
-    let mut line = vec![in alloc; byte; length]?;
-    for (place, first) in line.iter_mut().zip(front) {
-        *place = *first;
-    }
+fn filled(alloc: Global, front: &[u8], byte: u8, length: usize) -> Result<Vec<u8>, AllocError> {
+    let mut line = Vec::from_slice(alloc, front)?;
+    line.resize(length, byte)?;
     Ok(line)
 }
 
-/// A line of so many bytes, whose front is this and whose others are alike, asks this or has this fault.
-fn assert_filled(
-    rt: &impl Abort,
-    alloc: Global,
-    front: &[u8],
-    byte: u8,
-    length: usize,
-    want: &str,
-) -> Result<(), Fail> {
-    let line = filled(alloc, front, byte, length)?;
-    let answer = answer(alloc, &line, &[Word::Specs])?;
-    assert!(rt; answer.as_str() == want, "{answer}, and not {want}");
-    Ok(())
+fn is_read_filled(alloc: Global, row: &Filled) -> bool {
+    let (front, byte, length, want) = row;
+    match filled(alloc, front, *byte, *length) {
+        Ok(line) => answers(alloc, &line, &[Word::Specs], want),
+        Err(AllocError) => false,
+    }
 }
 
 #[test]
-fn tries_faults_in_order(rt: HostRuntime) -> Result<(), Fail> {
-    let alloc = rt.alloc();
-    let specs = br#"{"cmd":"specs"}"#;
-    assert_filled(&rt, alloc, specs, b' ', 1_048_576, "specs")?;
-    assert_filled(&rt, alloc, specs, b' ', 1_048_577, "LineTooLong")?;
-    assert_filled(&rt, alloc, b"", 0xff, 1_048_577, "LineTooLong")?;
-    assert_filled(&rt, alloc, b"", 0xff, 1_048_576, "NotJson")?;
-    assert_filled(&rt, alloc, specs, 0xc3, 16, "NotJson")?;
-    assert_filled(&rt, alloc, b"", b'[', 200, "NotJson")
+fn tries_faults_in_order(rt: HostRuntime) {
+    for row in filled_lines() {
+        assert!(rt; is_read_filled(rt.alloc(), row), "of {}", row.3);
+    }
 }
 
 #[test]
 fn names_rules(rt: HostRuntime) {
-    assert_eq!(rt; WireFault::LineTooLong.rule(), Some(Rule::LineTooLong));
-    assert_eq!(rt; WireFault::NotJson.rule(), Some(Rule::NotJson));
-    assert_eq!(rt; WireFault::NotBuilt.rule(), Some(Rule::NotBuilt));
-    assert_eq!(rt; WireFault::NotCommand.rule(), Some(Rule::NotCommand));
-    assert_eq!(rt; WireFault::Memory.rule(), None);
+    assert!(rt; WireFault::LineTooLong.rule() == Some(Rule::LineTooLong));
+    assert!(rt; WireFault::NotJson.rule() == Some(Rule::NotJson));
+    assert!(rt; WireFault::NotBuilt.rule() == Some(Rule::NotBuilt));
+    assert!(rt; WireFault::NotCommand.rule() == Some(Rule::NotCommand));
+    assert!(rt; WireFault::Memory.rule().is_none());
 }

@@ -1,198 +1,278 @@
 // The lines that are said.
-use crate::steps::step_line;
+use crate::steps::put_step;
 use crate::{reply_done, reply_refused, value_line};
 use serde_json::Value as JsonValue;
-use std::alloc::Global;
-use std::process::Abort;
-use std::test::Fail;
-use yw_base::{Ident, Name, NameList, Text, Value};
-use yw_model::{Event, EventList, Primitive, Refusal, Rule, TreeKind};
+use std::alloc::{AllocError, Global};
+use yw_base::{Bytes, Ident, IdentFault, Name, NameFault, NameList, Text, Value};
 use yw_spec::{Place, PlaceList};
+use yw_state::{Event, EventList, Primitive, Refusal, Rule, TreeKind};
+
+/// A line's number, its rule and place, and the reply without its newline.
+type Refused = (u64, Rule, &'static str, &'static str);
+
+fn refused() -> &'static [Refused] {
+    &REFUSED
+}
+
+const REFUSED: [Refused; 8] = [
+    (
+        1,
+        Rule::LineTooLong,
+        "",
+        r#"{"at":"","n":1,"ok":false,"rule":"LineTooLong"}"#,
+    ),
+    (
+        20,
+        Rule::NotJson,
+        "",
+        r#"{"at":"","n":20,"ok":false,"rule":"NotJson"}"#,
+    ),
+    (
+        3,
+        Rule::NotCommand,
+        "",
+        r#"{"at":"","n":3,"ok":false,"rule":"NotCommand"}"#,
+    ),
+    (
+        4,
+        Rule::SpecText,
+        "",
+        r#"{"at":"","n":4,"ok":false,"rule":"SpecText"}"#,
+    ),
+    (
+        5,
+        Rule::SpecShape,
+        "net[0].task",
+        r#"{"at":"net[0].task","n":5,"ok":false,"rule":"SpecShape"}"#,
+    ),
+    (
+        6,
+        Rule::SpecCheck,
+        "V1 - ?",
+        r#"{"at":"V1 - ?","n":6,"ok":false,"rule":"SpecCheck"}"#,
+    ),
+    (
+        7,
+        Rule::SpecExists,
+        "",
+        r#"{"at":"","n":7,"ok":false,"rule":"SpecExists"}"#,
+    ),
+    (
+        18_446_744_073_709_551_615,
+        Rule::NotBuilt,
+        "a\"b\\c\né",
+        r#"{"at":"a\"b\\c\né","n":18446744073709551615,"ok":false,"rule":"NotBuilt"}"#,
+    ),
+];
+
+/// The line is this text and a newline.
+fn is_line(line: &Bytes, want: &str) -> bool {
+    line.as_slice().strip_suffix(b"\n") == Some(want.as_bytes())
+}
+
+/// What was made is this line.
+fn is_said(made: Result<Bytes, AllocError>, want: &str) -> bool {
+    match made {
+        Ok(line) => is_line(&line, want),
+        Err(AllocError) => false,
+    }
+}
+
+fn refusal(alloc: Global, rule: Rule, at: &str) -> Result<Refusal, AllocError> {
+    let at = Text::copy_of(alloc, at)?;
+    Ok(Refusal { rule, at })
+}
+
+fn is_refused(alloc: Global, row: &Refused) -> bool {
+    let (n, rule, at, want) = row;
+    match refusal(alloc, *rule, at) {
+        Ok(refusal) => is_said(reply_refused(alloc, *n, &refusal), want),
+        Err(AllocError) => false,
+    }
+}
 
 #[test]
-fn says_what_is_refused(rt: HostRuntime) -> Result<(), Fail> {
-    let alloc = rt.alloc();
-    let rows = [
-        (
-            1,
-            Rule::LineTooLong,
-            "",
-            r#"{"at":"","n":1,"ok":false,"rule":"LineTooLong"}"#,
-        ),
-        (
-            20,
-            Rule::NotJson,
-            "",
-            r#"{"at":"","n":20,"ok":false,"rule":"NotJson"}"#,
-        ),
-        (
-            3,
-            Rule::NotCommand,
-            "",
-            r#"{"at":"","n":3,"ok":false,"rule":"NotCommand"}"#,
-        ),
-        (
-            4,
-            Rule::SpecText,
-            "",
-            r#"{"at":"","n":4,"ok":false,"rule":"SpecText"}"#,
-        ),
-        (
-            5,
-            Rule::SpecShape,
-            "net[0].task",
-            r#"{"at":"net[0].task","n":5,"ok":false,"rule":"SpecShape"}"#,
-        ),
-        (
-            6,
-            Rule::SpecCheck,
-            "V1 - ?",
-            r#"{"at":"V1 - ?","n":6,"ok":false,"rule":"SpecCheck"}"#,
-        ),
-        (
-            7,
-            Rule::SpecExists,
-            "",
-            r#"{"at":"","n":7,"ok":false,"rule":"SpecExists"}"#,
-        ),
-        (
-            18446744073709551615,
-            Rule::NotBuilt,
-            "a\"b\\c\né",
-            r#"{"at":"a\"b\\c\né","n":18446744073709551615,"ok":false,"rule":"NotBuilt"}"#,
-        ),
-    ];
-    for (n, rule, at, want) in rows {
-        let at = Text::copy_of(alloc, at)?;
-        let reply = reply_refused(alloc, n, &Refusal { rule, at })?;
-        assert_line_is(&rt, reply.as_slice(), want);
+fn says_what_is_refused(rt: HostRuntime) {
+    for row in refused() {
+        assert!(rt; is_refused(rt.alloc(), row), "not {}", row.3);
     }
-    Ok(())
 }
 
-/// The bytes are this text and a newline.
-fn assert_line_is(rt: &impl Abort, line: &[u8], want: &str) {
-    let text = line.strip_suffix(b"\n");
-    assert!(rt; text == Some(want.as_bytes()), "not {want}");
+fn name(alloc: Global, text: &str) -> Result<Name, AllocError> {
+    match Name::read(alloc, text) {
+        Ok(name) => Ok(name),
+        Err(NameFault::Shape) => Err(AllocError),
+        Err(NameFault::Memory) => Err(AllocError),
+    }
 }
 
-/// Ann with a role, and the specification `loan`.
-fn events(alloc: Global) -> Result<EventList, Fail> {
-    let mut roles = NameList::new(alloc);
-    roles.push(Name::read(alloc, "clerk")?)?;
+fn ident(alloc: Global, text: &str) -> Result<Ident, AllocError> {
+    match Ident::read(alloc, text) {
+        Ok(ident) => Ok(ident),
+        Err(IdentFault::Shape) => Err(AllocError),
+        Err(IdentFault::Memory) => Err(AllocError),
+    }
+}
+
+fn person(alloc: Global) -> Result<Event, AllocError> {
+    let name = name(alloc, "ann")?;
+    let roles = NameList::new(alloc);
+    Ok(Event::Person { name, roles })
+}
+
+fn load(alloc: Global) -> Result<Event, AllocError> {
+    let name = name(alloc, "loan")?;
+    let text = Text::new(alloc);
+    Ok(Event::Load { name, text })
+}
+
+fn two_events(alloc: Global) -> Result<EventList, AllocError> {
     let mut events = EventList::new(alloc);
-    let name = Name::read(alloc, "ann")?;
-    events.push(Event::Person { name, roles })?;
-    let name = Name::read(alloc, "loan")?;
-    let text = Text::copy_of(alloc, "top")?;
-    events.push(Event::Load { name, text })?;
+    events.push(person(alloc)?)?;
+    events.push(load(alloc)?)?;
     Ok(events)
 }
 
-#[test]
-fn says_what_is_done(rt: HostRuntime) -> Result<(), Fail> {
-    let alloc = rt.alloc();
-    let none = EventList::new(alloc);
-    let reply = reply_done(alloc, 9, &none, false)?;
-    assert_line_is(
-        &rt,
-        reply.as_slice(),
-        r#"{"n":9,"ok":true,"quiet":false,"steps":[]}"#,
-    );
-    let reply = reply_done(alloc, 10, &events(alloc)?, true)?;
-    let want = r#"{"n":10,"ok":true,"quiet":true,"steps":["person ann","load loan"]}"#;
-    assert_line_is(&rt, reply.as_slice(), want);
-    Ok(())
+/// The reply to these events is this line.
+fn is_done(alloc: Global, n: u64, events: Result<EventList, AllocError>, want: &str) -> bool {
+    match events {
+        Ok(events) => is_said(reply_done(alloc, n, &events, n > 9), want),
+        Err(AllocError) => false,
+    }
 }
 
 #[test]
-fn says_values(rt: HostRuntime) -> Result<(), Fail> {
+fn says_what_is_done(rt: HostRuntime) {
     let alloc = rt.alloc();
+    let none = r#"{"n":9,"ok":true,"quiet":false,"steps":[]}"#;
+    assert!(rt; is_done(alloc, 9, Ok(EventList::new(alloc)), none));
+    let two = r#"{"n":10,"ok":true,"quiet":true,"steps":["person ann","load loan"]}"#;
+    assert!(rt; is_done(alloc, 10, two_events(alloc), two));
+}
+
+fn is_value_said(alloc: Global, text: &str, want: &str) -> bool {
+    match JsonValue::from_str(alloc, text) {
+        Ok(value) => is_said(value_line(alloc, &value), want),
+        Err(_) => false,
+    }
+}
+
+#[test]
+fn says_values(rt: HostRuntime) {
     let text = r#" { "b" : [ null , true ] , "a" : -7 } "#;
-    let value = JsonValue::from_str(alloc, text)?;
-    let line = value_line(alloc, &value)?;
-    assert_line_is(&rt, line.as_slice(), r#"{"a":-7,"b":[null,true]}"#);
-    Ok(())
+    assert!(rt; is_value_said(rt.alloc(), text, r#"{"a":-7,"b":[null,true]}"#));
 }
 
-fn ident(alloc: Global, text: &str) -> Result<Ident, Fail> {
-    Ok(Ident::read(alloc, text)?)
-}
-
-fn name(alloc: Global, text: &str) -> Result<Name, Fail> {
-    Ok(Name::read(alloc, text)?)
-}
-
-/// The event is shown so.
-fn assert_step(rt: &impl Abort, alloc: Global, event: &Event, want: &str) -> Result<(), Fail> {
-    let text = step_line(alloc, event)?;
-    assert!(rt; text.as_str() == want, "{text}, and not {want}");
-    Ok(())
-}
-
-#[test]
-fn says_steps_of_nets(rt: HostRuntime) -> Result<(), Fail> {
-    let alloc = rt.alloc();
+fn between(alloc: Global) -> Result<PlaceList, AllocError> {
     let mut places = PlaceList::new(alloc);
     places.push(Place::Between(name(alloc, "assess")?, name(alloc, "vote")?))?;
-    let enter = Event::Enter {
-        net: ident(alloc, "1.3")?,
-        task: name(alloc, "vote")?,
-        places,
-        first: 6,
-        count: 2,
-    };
-    assert_step(
-        &rt,
-        alloc,
-        &enter,
-        "enter 1.3 vote from assess->vote as 1.3.6,1.3.7",
-    )?;
+    Ok(places)
+}
+
+fn two_places(alloc: Global) -> Result<PlaceList, AllocError> {
     let mut places = PlaceList::new(alloc);
     places.push(Place::Named(name(alloc, "c1")?))?;
     places.push(Place::Named(name(alloc, "c2")?))?;
-    let exit = Event::Exit {
-        net: ident(alloc, "1")?,
-        task: name(alloc, "s")?,
+    Ok(places)
+}
+
+fn enter(alloc: Global) -> Result<Event, AllocError> {
+    let net = ident(alloc, "1.3")?;
+    let task = name(alloc, "vote")?;
+    let places = between(alloc)?;
+    let (first, count) = (6, 2);
+    Ok(Event::Enter {
+        net,
+        task,
         places,
-    };
-    assert_step(&rt, alloc, &exit, "exit 1 s to c1,c2")?;
-    let add = Event::Add {
-        net: ident(alloc, "1")?,
-        task: name(alloc, "m")?,
-        value: Value::Text(Text::copy_of(alloc, "r")?),
-        number: 4,
-    };
-    assert_step(&rt, alloc, &add, "add 1 m as 1.4")
+        first,
+        count,
+    })
+}
+
+fn exit(alloc: Global) -> Result<Event, AllocError> {
+    let net = ident(alloc, "1")?;
+    let task = name(alloc, "s")?;
+    let places = two_places(alloc)?;
+    Ok(Event::Exit { net, task, places })
+}
+
+fn add(alloc: Global) -> Result<Event, AllocError> {
+    let net = ident(alloc, "1")?;
+    let task = name(alloc, "m")?;
+    let value = Value::Bool(true);
+    let number = 4;
+    Ok(Event::Add {
+        net,
+        task,
+        value,
+        number,
+    })
+}
+
+fn pass(alloc: Global) -> Result<Event, AllocError> {
+    let at = ident(alloc, "1.2.3")?;
+    let check = TreeKind::Select;
+    Ok(Event::Pass { at, check })
+}
+
+fn raise(alloc: Global) -> Result<Event, AllocError> {
+    let at = ident(alloc, "1.8")?;
+    let kind = TreeKind::Timeout;
+    let (node, number) = (1, 9);
+    Ok(Event::Raise {
+        at,
+        kind,
+        node,
+        number,
+    })
+}
+
+fn prim(alloc: Global) -> Result<Event, AllocError> {
+    let run = ident(alloc, "1.8.9")?;
+    let primitive = Primitive::Compensate(name(alloc, "remind")?);
+    Ok(Event::Prim { run, primitive })
+}
+
+fn substitute(alloc: Global) -> Result<Event, AllocError> {
+    let item = ident(alloc, "1.3.4")?;
+    let worklet = name(alloc, "deep")?;
+    Ok(Event::Substitute { item, worklet })
+}
+
+fn text_of(alloc: Global, event: &Event) -> Result<String, AllocError> {
+    let mut text = String::from_str(alloc, "what stood here")?;
+    put_step(&mut text, event)?;
+    Ok(text)
+}
+
+/// The event is shown so.
+fn shows(alloc: Global, event: Result<Event, AllocError>, want: &str) -> bool {
+    match event {
+        Ok(event) => matches!(text_of(alloc, &event), Ok(text) if text.as_str() == want),
+        Err(AllocError) => false,
+    }
 }
 
 #[test]
-fn says_steps_of_exlets(rt: HostRuntime) -> Result<(), Fail> {
+fn says_steps_of_nets(rt: HostRuntime) {
     let alloc = rt.alloc();
-    let pass = Event::Pass {
-        at: ident(alloc, "1.2.3")?,
-        check: TreeKind::Select,
-    };
-    assert_step(&rt, alloc, &pass, "pass 1.2.3 select")?;
-    let raise = Event::Raise {
-        at: ident(alloc, "1.8")?,
-        kind: TreeKind::Timeout,
-        node: 1,
-        number: 9,
-    };
-    assert_step(&rt, alloc, &raise, "raise 1.8 timeout 1 as 1.8.9")?;
-    let prim = Event::Prim {
-        run: ident(alloc, "1.8.9")?,
-        primitive: Primitive::Compensate(name(alloc, "remind")?),
-    };
-    assert_step(&rt, alloc, &prim, "prim 1.8.9 compensate remind")?;
-    let substitute = Event::Substitute {
-        item: ident(alloc, "1.3.4")?,
-        worklet: name(alloc, "deep")?,
-    };
-    assert_step(&rt, alloc, &substitute, "substitute 1.3.4 by deep")?;
-    let suspend = Event::Suspend {
-        at: ident(alloc, "1")?,
-    };
-    assert_step(&rt, alloc, &suspend, "suspend 1")
+    assert!(rt;
+        shows(
+            alloc,
+            enter(alloc),
+            "enter 1.3 vote from assess->vote as 1.3.6,1.3.7"
+        )
+    );
+    assert!(rt; shows(alloc, exit(alloc), "exit 1 s to c1,c2"));
+    assert!(rt; shows(alloc, add(alloc), "add 1 m as 1.4"));
+}
+
+#[test]
+fn says_steps_of_exlets(rt: HostRuntime) {
+    let alloc = rt.alloc();
+    assert!(rt; shows(alloc, pass(alloc), "pass 1.2.3 select"));
+    assert!(rt; shows(alloc, raise(alloc), "raise 1.8 timeout 1 as 1.8.9"));
+    assert!(rt; shows(alloc, prim(alloc), "prim 1.8.9 compensate remind"));
+    assert!(rt; shows(alloc, substitute(alloc), "substitute 1.3.4 by deep"));
 }

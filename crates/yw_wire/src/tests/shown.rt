@@ -1,10 +1,9 @@
 // What is asked, as a text: the word and its fields, with a blank before each.
-use std::alloc::Global;
-use std::test::Fail;
+use std::alloc::{AllocError, Global};
 use yw_base::{Ident, Name, Value};
-use yw_model::{Asked, Command, Conclusion, GivenList, Primitive, Query};
+use yw_state::{Asked, Command, Conclusion, GivenList, Primitive, Query};
 
-fn put(out: &mut String, parts: &[&str]) -> Result<(), Fail> {
+fn put(out: &mut String, parts: &[&str]) -> Result<(), AllocError> {
     for part in parts {
         if !out.is_empty() {
             out.push(' ')?;
@@ -21,7 +20,7 @@ fn name_or_dash(name: &Option<Name>) -> &str {
     }
 }
 
-fn put_value(out: &mut String, value: &Option<Value>) -> Result<(), Fail> {
+fn put_value(out: &mut String, value: &Option<Value>) -> Result<(), AllocError> {
     match value {
         None => put(out, &["none"])?,
         Some(Value::Bool(truth)) => write!(out, " bool {truth}")?,
@@ -43,7 +42,7 @@ fn put_value(out: &mut String, value: &Option<Value>) -> Result<(), Fail> {
     Ok(())
 }
 
-fn put_givens(out: &mut String, givens: &GivenList) -> Result<(), Fail> {
+fn put_givens(out: &mut String, givens: &GivenList) -> Result<(), AllocError> {
     for given in givens.as_slice() {
         put(out, &[given.name.as_str(), "="])?;
         put_value(out, &given.value)?;
@@ -51,7 +50,7 @@ fn put_givens(out: &mut String, givens: &GivenList) -> Result<(), Fail> {
     Ok(())
 }
 
-fn put_conclusion(out: &mut String, conclusion: &Conclusion) -> Result<(), Fail> {
+fn put_conclusion(out: &mut String, conclusion: &Conclusion) -> Result<(), AllocError> {
     match conclusion {
         Conclusion::Worklet(name) => put(out, &["worklet", name.as_str()])?,
         Conclusion::Exlet(primitives) => {
@@ -68,7 +67,7 @@ fn put_conclusion(out: &mut String, conclusion: &Conclusion) -> Result<(), Fail>
     Ok(())
 }
 
-fn put_rule(out: &mut String, command: &Command) -> Result<(), Fail> {
+fn put_rule(out: &mut String, command: &Command) -> Result<(), AllocError> {
     if let Command::Rule {
         spec,
         net,
@@ -90,7 +89,7 @@ fn put_rule(out: &mut String, command: &Command) -> Result<(), Fail> {
     Ok(())
 }
 
-fn put_work(alloc: Global, out: &mut String, command: &Command) -> Result<(), Fail> {
+fn put_work(alloc: Global, out: &mut String, command: &Command) -> Result<(), AllocError> {
     match command {
         Command::Enter { who, case, task } => {
             let case = case.print(alloc)?;
@@ -124,12 +123,12 @@ fn put_work(alloc: Global, out: &mut String, command: &Command) -> Result<(), Fa
     Ok(())
 }
 
-fn put_at(alloc: Global, out: &mut String, word: &str, at: &Ident) -> Result<(), Fail> {
+fn put_at(alloc: Global, out: &mut String, word: &str, at: &Ident) -> Result<(), AllocError> {
     let at = at.print(alloc)?;
     put(out, &[word, at.as_str()])
 }
 
-fn put_place(alloc: Global, out: &mut String, command: &Command) -> Result<(), Fail> {
+fn put_place(alloc: Global, out: &mut String, command: &Command) -> Result<(), AllocError> {
     match command {
         Command::Raise { at, kind } => {
             put_at(alloc, out, "raise", at)?;
@@ -144,7 +143,7 @@ fn put_place(alloc: Global, out: &mut String, command: &Command) -> Result<(), F
     Ok(())
 }
 
-fn put_command(alloc: Global, out: &mut String, command: &Command) -> Result<(), Fail> {
+fn put_command(alloc: Global, out: &mut String, command: &Command) -> Result<(), AllocError> {
     match command {
         Command::Person { name, roles } => {
             put(out, &["person", name.as_str()])?;
@@ -164,7 +163,7 @@ fn put_command(alloc: Global, out: &mut String, command: &Command) -> Result<(),
     put_place(alloc, out, command)
 }
 
-fn put_query(alloc: Global, out: &mut String, query: &Query) -> Result<(), Fail> {
+fn put_query(alloc: Global, out: &mut String, query: &Query) -> Result<(), AllocError> {
     match query {
         Query::List { who } => put(out, &["list", who.as_str()]),
         Query::Show { case } => put_at(alloc, out, "show", case),
@@ -174,7 +173,7 @@ fn put_query(alloc: Global, out: &mut String, query: &Query) -> Result<(), Fail>
 }
 
 /// What is asked, as a text.
-pub(super) fn shown(alloc: Global, asked: &Asked) -> Result<String, Fail> {
+pub(super) fn shown(alloc: Global, asked: &Asked) -> Result<String, AllocError> {
     let mut out = String::new(alloc);
     match asked {
         Asked::Command(command) => put_command(alloc, &mut out, command)?,

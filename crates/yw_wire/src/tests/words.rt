@@ -1,25 +1,20 @@
-// Each word with its fields. The tables are given out by calls that promise nothing, so that no proof of a test holds
-// their letters.
-use super::{assert_line, assert_lines};
-use std::alloc::Global;
-use std::process::Abort;
-use std::test::Fail;
-
-/// A word, and what a line with the right values of its fields asks.
-type Row = (&'static str, &'static str);
+// Each word with its fields.
+use super::{Row, asks};
+use std::alloc::{AllocError, Global};
 
 /// A field: its word, its key, a value of its kind, and one of another kind, which is empty where there is none.
 type Field = (&'static str, &'static str, &'static str, &'static str);
 
-fn rows() -> &'static [Row] {
-    &ROWS
+/// A word, and what a line with the right values of its fields asks.
+fn words() -> &'static [Row] {
+    &WORDS
 }
 
 fn fields() -> &'static [Field] {
     &FIELDS
 }
 
-const ROWS: [Row; 17] = [
+const WORDS: [Row; 17] = [
     ("person", "person ann clerk teller"),
     ("load", "load name = 'seq'"),
     (
@@ -90,97 +85,110 @@ const FIELDS: [Field; 34] = [
 ];
 
 /// One member, with a comma before it.
-fn put_member(line: &mut String, key: &str, value: &str) -> Result<(), Fail> {
-    write!(line, ",\"{key}\":{value}")?;
+fn put_member(line: &mut String, key: &str, value: &str) -> Result<(), AllocError> {
+    write!(line, ",\"{key}\":{value}")
+}
+
+/// A member of a line, where it is one of this word. At the changed key it comes once with each of these values.
+fn put_field(
+    line: &mut String,
+    field: &Field,
+    word: &str,
+    changed: &str,
+    values: &[&str],
+) -> Result<(), AllocError> {
+    let (of, key, right, _) = field;
+    if *of != word {
+        return Ok(());
+    }
+    if *key != changed {
+        return put_member(line, key, right);
+    }
+    for value in values {
+        put_member(line, key, value)?;
+    }
     Ok(())
 }
 
-/// The line of a word with its right values, but with these at one of its keys.
-fn line_of(alloc: Global, word: &str, changed: &str, values: &[&str]) -> Result<String, Fail> {
-    let mut line = format!(in alloc; "{{\"cmd\":\"{word}\"")?;
-    for (of, key, right, _) in fields() {
-        if *of == word && *key == changed {
-            for value in values {
-                put_member(&mut line, key, value)?;
-            }
-        } else if *of == word {
-            put_member(&mut line, key, right)?;
-        }
+/// The line of a word with its right values, but with these at one of its keys, and with this end.
+fn line_of(
+    alloc: Global,
+    word: &str,
+    changed: &str,
+    values: &[&str],
+    end: &str,
+) -> Result<String, AllocError> {
+    let mut line = String::from_str(alloc, "{\"cmd\":\"")?;
+    line.push_str(word)?;
+    line.push('"')?;
+    for field in fields() {
+        put_field(&mut line, field, word, changed, values)?;
     }
-    line.push('}')?;
+    line.push_str(end)?;
     Ok(line)
 }
 
 /// The line of a word with these values at one of its keys asks this, or has this fault.
-fn assert_with(
-    rt: &impl Abort,
-    alloc: Global,
-    place: (&str, &str),
-    values: &[&str],
-    want: &str,
-) -> Result<(), Fail> {
-    let (word, key) = place;
-    let line = line_of(alloc, word, key, values)?;
-    assert_line(rt, alloc, line.as_str(), want)
-}
-
-/// A field missing, of another kind, twice with the right value last, and twice with another kind last.
-fn assert_field(rt: &impl Abort, alloc: Global, field: &Field, asks: &str) -> Result<(), Fail> {
-    let (word, key, right, wrong) = field;
-    let place = (*word, *key);
-    assert_with(rt, alloc, place, &[right], asks)?;
-    assert_with(rt, alloc, place, &[], "NotCommand")?;
-    if !wrong.is_empty() {
-        assert_with(rt, alloc, place, &[wrong], "NotCommand")?;
-        assert_with(rt, alloc, place, &[wrong, right], asks)?;
-        assert_with(rt, alloc, place, &[right, wrong], "NotCommand")?;
+fn asks_with(alloc: Global, word: &str, key: &str, values: &[&str], want: &str) -> bool {
+    match line_of(alloc, word, key, values, "}") {
+        Ok(line) => asks(alloc, line.as_str(), want),
+        Err(AllocError) => false,
     }
-    Ok(())
 }
 
-fn assert_fields(rt: &impl Abort, alloc: Global, word: &str, asks: &str) -> Result<(), Fail> {
-    for field in fields() {
-        if field.0 == word {
-            assert_field(rt, alloc, field, asks)?;
+/// What a line of the word with the right values asks.
+fn asked_by(word: &str) -> &'static str {
+    for (of, asks) in words() {
+        if *of == word {
+            return asks;
         }
     }
-    Ok(())
+    ""
+}
+
+/// A field of another kind, and twice with the other kind first or last.
+fn is_of_one_kind(alloc: Global, field: &Field) -> bool {
+    let (word, key, right, wrong) = field;
+    wrong.is_empty()
+        || (asks_with(alloc, word, key, &[wrong], "NotCommand")
+            && asks_with(alloc, word, key, &[wrong, right], asked_by(word))
+            && asks_with(alloc, word, key, &[right, wrong], "NotCommand"))
 }
 
 #[test]
-fn reads_each_field(rt: HostRuntime) -> Result<(), Fail> {
-    for (word, asks) in rows() {
-        assert_fields(&rt, rt.alloc(), word, asks)?;
+fn reads_each_field(rt: HostRuntime) {
+    for field in fields() {
+        assert!(rt; is_of_one_kind(rt.alloc(), field), "of {}", field.1);
     }
-    Ok(())
+}
+
+fn is_needed(alloc: Global, field: &Field) -> bool {
+    asks_with(alloc, field.0, field.1, &[], "NotCommand")
 }
 
 #[test]
-fn reads_no_other_field(rt: HostRuntime) -> Result<(), Fail> {
-    let alloc = rt.alloc();
-    for (word, asks) in rows() {
-        let mut line = line_of(alloc, word, "", &[])?;
-        assert_line(&rt, alloc, line.as_str(), asks)?;
-        line.pop();
-        line.push_str(",\"more\":1}")?;
-        assert_line(&rt, alloc, line.as_str(), "NotCommand")?;
+fn needs_each_field(rt: HostRuntime) {
+    for field in fields() {
+        assert!(rt; is_needed(rt.alloc(), field), "of {}", field.1);
     }
-    Ok(())
+}
+
+/// A line of the word with the right values and this end asks this, or has this fault.
+fn asks_at_end(alloc: Global, word: &str, end: &str, want: &str) -> bool {
+    match line_of(alloc, word, "", &[], end) {
+        Ok(line) => asks(alloc, line.as_str(), want),
+        Err(AllocError) => false,
+    }
 }
 
 #[test]
-fn reads_fields_in_any_order(rt: HostRuntime) -> Result<(), Fail> {
-    assert_lines(
-        &rt,
-        rt.alloc(),
-        &[
-            (
-                r#" { "roles" : [ ] , "cmd" : "person" , "name" : "ann" } "#,
-                "person ann",
-            ),
-            (r#"{"cmd":"specs","cmd":"load","toml":""}"#, "load "),
-            (r#"{"cmd":"load","toml":"","cmd":"specs"}"#, "NotCommand"),
-            (r#"{"cmd":"show","cmd":"nothing","case":"1"}"#, "NotCommand"),
-        ],
-    )
+fn reads_no_other_field(rt: HostRuntime) {
+    for row in words() {
+        assert!(rt; asks_at_end(rt.alloc(), row.0, "}", row.1), "of {}", row.0);
+        assert!(rt;
+            asks_at_end(rt.alloc(), row.0, ",\"more\":1}", "NotCommand"),
+            "of {}",
+            row.0
+        );
+    }
 }

@@ -10,6 +10,7 @@ invariant-loop-done g l =
     × TornAt l.at (length l.bytes) (g.S.System.holds l.initial.file) (g.S.System.holds l.file)
     × (g.S.System.path l.file ≡ g.S.System.path l.initial.file)
     × (g.S.System.is_kept l.file ≡ g.S.System.is_kept l.initial.file)
+    × (g.S.System.is_locked l.file ≡ g.S.System.is_locked l.initial.file)
     × ((g.S.System.calls l.system).failed ≡ (g.S.System.calls l.initial.system).failed)
 
 abbrev pub decreases-loop-done : goal.decreases-loop-done

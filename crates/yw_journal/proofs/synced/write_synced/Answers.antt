@@ -12,7 +12,7 @@ returns-clause-any_moment g c =
     let mid = c.write.new.self in
     let step = Writes c.args.f c.args.at n in
     let P = After step (D.may_leave old) in
-    let start = started D.moment D.left_since old P (λ i left. (i, g.met.D.Desk.only_now old i left, untorn c.args.f c.args.at n i)) in
-    let written = goes_on D.moment D.left_since old old mid step (D.may_leave old) (D.may_leave mid) P start c.write.ensures.time (λ i a. a) in
-    goes_on D.moment D.left_since old mid c.sync.new.self Stays (D.may_leave mid) (D.may_leave c.sync.new.self) P written c.sync.ensures.time
+    let start = started D old P (λ i left. (i, g.met.D.Desk.only_now old i left, untorn c.args.f c.args.at n i)) in
+    let written = goes_on D old old mid step (D.may_leave old) (D.may_leave mid) P start c.write.ensures.time (λ i a. a) in
+    goes_on D old mid c.sync.new.self Stays (D.may_leave mid) (D.may_leave c.sync.new.self) P written c.sync.ensures.time
     (λ i a. c.write.ensures.time.crash i (stayed (D.may_leave mid) i a))

@@ -3,7 +3,7 @@ use Rattle.std.proofs.lemmas.Bool.{cases_lt}
 use Rattle.std.proofs.lemmas.Result.{IfOk-weaker, IfErr-weaker}
 use Rattle.yw_outside.specs.declared.desk.File.{File}
 use Rattle.yw_outside.specs.Image.{file_in, other_in}
-use Rattle.yw_outside.specs.Moments.{LeavesOnly}
+use Rattle.yw_outside.specs.Since.{LeavesOnly}
 use Rattle.yw_codec.specs.Entries.{entry_bytes, framed}
 use Rattle.yw_journal.specs.FileLaws.{content_end}
 use Rattle.yw_journal.specs.Journal.{IsBeforeOrAfter, appended, with_record}
@@ -18,6 +18,7 @@ use Rattle.yw_serve.specs.Plans.{Does, CanBeAppended}
 use Rattle.yw_serve.specs.declared.plan.Plan.{Plan}
 use Rattle.yw_serve.specs.declared.plan.Plan.TheVariants.{Refuse, Accept}
 use Rattle.yw_serve.proofs.Doing.{leaves_nothing}
+use Rattle.yw_serve.proofs.FaultLemmas.{call_then}
 use Rattle.yw_serve.proofs.Telling.{not_begun, of_append, leaves_telling, done_by_telling, current_none, current_one, current_same, same_file}
 use Rattle.yw_serve.proofs.Written.{file_after-none, file_after-one, room_for_one, taken_none}
 use Rattle.yw_serve.proofs.answer.carry_out.Goals as goal
@@ -43,9 +44,9 @@ returns-in-Refuse-clause-ok g c = IfOk-weaker c.tell.result _ _ (λ x said tells
     let d = does_as c.args.plan.now (Refuse c.in-Refuse.reply) step c.in-Refuse.is does in
     let settled = c.requires.stands.settled tells in
     let told = c.tell.ensures in
-    let first = leaves_nothing D.moment D.left_since D.state D.may_leave old (OfSteps journal.file content (step ∷ []) (D.state old)) settled (g.met.D.Desk.said_by_now old) (g.met.D.Desk.only_now old)
+    let first = leaves_nothing D old (OfSteps journal.file content (step ∷ []) (D.state old)) settled (g.met.D.Desk.said_by_now old) (g.met.D.Desk.only_now old)
     (not_begun journal.file content step (D.state old) (D.state old) (journal.end, current.holds) refl refl) in
-    done_by_telling D.moment D.left_since D.state D.may_leave content step journal old old c.tell.new.desk c.as_slice.result.now (c.as_slice.ensures ∙ sym d.1)
+    done_by_telling D content step journal old old c.tell.new.desk c.as_slice.result.now (c.as_slice.ensures ∙ sym d.1)
     (current_none journal content step (D.state old) d.0 current) refl refl first (told.any_moment tells settled)
     (inl (taken_none step d.0)) (file_after-none (file_in journal.file (D.state old)) (file_in journal.file (D.state old)) content step d.0 refl) told.a told.b (said tells) (told.settled tells settled)) c.tell.ensures.said
 
@@ -56,9 +57,9 @@ returns-in-Refuse-clause-moments g c = IfErr-weaker c.tell.result _ _ (λ x writ
     let journal = c.args.journal.now in
     let d = does_as c.args.plan.now (Refuse c.in-Refuse.reply) step c.in-Refuse.is does in
     let settled = c.requires.stands.settled tells in
-    let first = leaves_nothing D.moment D.left_since D.state D.may_leave old (OfSteps journal.file content (step ∷ []) (D.state old)) settled (g.met.D.Desk.said_by_now old) (g.met.D.Desk.only_now old)
+    let first = leaves_nothing D old (OfSteps journal.file content (step ∷ []) (D.state old)) settled (g.met.D.Desk.said_by_now old) (g.met.D.Desk.only_now old)
     (not_begun journal.file content step (D.state old) (D.state old) (journal.end, current.holds) refl refl) in
-    leaves_telling D.moment D.left_since D.state D.may_leave content step journal old old c.tell.new.desk c.as_slice.result.now (c.as_slice.ensures ∙ sym d.1)
+    leaves_telling D content step journal old old c.tell.new.desk c.as_slice.result.now (c.as_slice.ensures ∙ sym d.1)
     (current_none journal content step (D.state old) d.0 current) refl refl first (c.tell.ensures.any_moment tells settled)) c.tell.ensures.write
 
 pub returns-in-Ok-clause-ok : goal.returns-in-Ok-clause-ok
@@ -73,19 +74,19 @@ returns-in-Ok-clause-ok g c = IfOk-weaker c.tell-in-Ok.result _ _ (λ x said tel
     let whole : IsFramed c.as_slice-in-Accept.result.now bytes = framed_as c.as_slice-in-Accept.result.now bytes (framed d.0) (c.as_slice-in-Accept.ensures ∙ d.2) d.3 in
     let kept = c.in-Ok.ensures in
     let file : journal.file ≡ before.file = ap (λ j. j.file) kept.journal in
-    let tells_mid = kept.tells ∙ tells in
-    let settled = kept.settled tells in
-    let first = weakened D.moment D.left_since old mid (IsBeforeOrAfter before.file content bytes (D.state old)) (OfSteps journal.file content (step ∷ []) (D.state old)) (kept.any_moment tells content bytes current whole)
+    let tells_mid = kept.counts.tells ∙ tells in
+    let settled = (kept.rewrites tells).settled in
+    let first = weakened D old mid (IsBeforeOrAfter before.file content bytes (D.state old)) (OfSteps journal.file content (step ∷ []) (D.state old)) (kept.any_moment tells content bytes current whole)
     (λ i h. subst (λ (f : File). OfSteps f content (step ∷ []) (D.state old) i) (sym file) (of_append before.file content step d.0 (D.state old) i d.1 h)) in
-    let other : other_in journal.file (D.state mid) ≡ other_in journal.file (D.state old) = subst (λ (f : File). other_in f (D.state mid) ≡ other_in f (D.state old)) (sym file) (kept.other tells) in
+    let other : other_in journal.file (D.state mid) ≡ other_in journal.file (D.state old) = subst (λ (f : File). other_in f (D.state mid) ≡ other_in f (D.state old)) (sym file) (kept.rewrites tells).other in
     let entry : c.as_slice-in-Accept.result.now ≡ framed d.0 = c.as_slice-in-Accept.ensures ∙ d.2 in
     let at = content_end (file_in before.file (D.state old)) content before.end current.holds.file in
-    let within = fits before.limit (before.end + length c.as_slice-in-Accept.result.now) c.append.result c.append.ensures.fits (λ n e. cc (c.in-Ok.is, e)) in
+    let within = fits before.limit (before.end + length c.as_slice-in-Accept.result.now) c.append.result (λ over. c.append.ensures.fits _ (refl, over)) (λ n e. cc (c.in-Ok.is, e)) in
     let written : file_in before.file (D.state mid) ≡ file_after (file_in before.file (D.state old)) content (taken_by (step ∷ [])) =
-    file_after-one (file_in before.file (D.state old)) (file_in before.file (D.state mid)) content step d.0 before.end d.1 at (kept.bytes tells ∙ ap (appended (file_in before.file (D.state old)) before.end) entry) in
+    file_after-one (file_in before.file (D.state old)) (file_in before.file (D.state mid)) content step d.0 before.end d.1 at ((kept.rewrites tells).bytes ∙ ap (appended (file_in before.file (D.state old)) before.end) entry) in
     let told = c.tell-in-Ok.ensures in
-    done_by_telling D.moment D.left_since D.state D.may_leave content step journal old mid c.tell-in-Ok.new.desk c.as_slice-in-Ok.result.now (c.as_slice-in-Ok.ensures ∙ sym d.4)
-    (current_one journal content step d.0 (D.state mid) d.1 (kept.ok tells content bytes current whole)) (kept.said tells) other first (told.any_moment tells_mid settled)
+    done_by_telling D content step journal old mid c.tell-in-Ok.new.desk c.as_slice-in-Ok.result.now (c.as_slice-in-Ok.ensures ∙ sym d.4)
+    (current_one journal content step d.0 (D.state mid) d.1 (kept.ok tells content bytes current whole).current) (kept.rewrites tells).said other first (told.any_moment tells_mid settled)
     (room_for_one journal.limit content step d.0 before.end d.1 d.3 at (omega (arith, within, ap length entry, ap (λ j. j.limit) kept.journal)))
     (subst (λ (f : File). file_in f (D.state mid) ≡ file_after (file_in f (D.state old)) content (taken_by (step ∷ []))) (sym file) written)
     told.a told.b (said tells_mid) (told.settled tells_mid settled))
@@ -103,12 +104,12 @@ returns-in-Ok-clause-moments g c = IfErr-weaker c.tell-in-Ok.result _ _ (λ x wr
     let whole : IsFramed c.as_slice-in-Accept.result.now bytes = framed_as c.as_slice-in-Accept.result.now bytes (framed d.0) (c.as_slice-in-Accept.ensures ∙ d.2) d.3 in
     let kept = c.in-Ok.ensures in
     let file : journal.file ≡ before.file = ap (λ j. j.file) kept.journal in
-    let first = weakened D.moment D.left_since old mid (IsBeforeOrAfter before.file content bytes (D.state old)) (OfSteps journal.file content (step ∷ []) (D.state old)) (kept.any_moment tells content bytes current whole)
+    let first = weakened D old mid (IsBeforeOrAfter before.file content bytes (D.state old)) (OfSteps journal.file content (step ∷ []) (D.state old)) (kept.any_moment tells content bytes current whole)
     (λ i h. subst (λ (f : File). OfSteps f content (step ∷ []) (D.state old) i) (sym file) (of_append before.file content step d.0 (D.state old) i d.1 h)) in
-    let other : other_in journal.file (D.state mid) ≡ other_in journal.file (D.state old) = subst (λ (f : File). other_in f (D.state mid) ≡ other_in f (D.state old)) (sym file) (kept.other tells) in
-    subst (λ (f : File). LeavesOnly D.moment D.left_since old c.tell-in-Ok.new.desk (OfSteps f content (step ∷ []) (D.state old))) file
-    (leaves_telling D.moment D.left_since D.state D.may_leave content step journal old mid c.tell-in-Ok.new.desk c.as_slice-in-Ok.result.now (c.as_slice-in-Ok.ensures ∙ sym d.4)
-    (current_one journal content step d.0 (D.state mid) d.1 (kept.ok tells content bytes current whole)) (kept.said tells) other first (c.tell-in-Ok.ensures.any_moment (kept.tells ∙ tells) (kept.settled tells))))
+    let other : other_in journal.file (D.state mid) ≡ other_in journal.file (D.state old) = subst (λ (f : File). other_in f (D.state mid) ≡ other_in f (D.state old)) (sym file) (kept.rewrites tells).other in
+    subst (λ (f : File). LeavesOnly D old c.tell-in-Ok.new.desk (OfSteps f content (step ∷ []) (D.state old))) file
+    (leaves_telling D content step journal old mid c.tell-in-Ok.new.desk c.as_slice-in-Ok.result.now (c.as_slice-in-Ok.ensures ∙ sym d.4)
+    (current_one journal content step d.0 (D.state mid) d.1 (kept.ok tells content bytes current whole).current) (kept.rewrites tells).said other first (c.tell-in-Ok.ensures.any_moment (kept.counts.tells ∙ tells) (kept.rewrites tells).settled)))
     c.tell-in-Ok.ensures.write
 
 pub returns-in-Ok-clause-stands : goal.returns-in-Ok-clause-stands
@@ -124,12 +125,12 @@ returns-in-Ok-clause-stands g c = IfOk-weaker c.tell-in-Ok.result _ _ (λ x said
       ready = kept.ready;
       current = λ telling.
           let tells_mid = sym told.counts.telling ∙ telling in
-          let tells = sym kept.tells ∙ tells_mid in
+          let tells = sym kept.counts.tells ∙ tells_mid in
           let now = c.requires.stands.current tells in
-          (with_record now.0 framed.0, current_same c.append.new.self (with_record now.0 framed.0) (D.state mid) (D.state new) told.a told.b (kept.ok tells now.0 framed.0 now.1 whole));
+          (with_record now.0 framed.0, current_same c.append.new.self (with_record now.0 framed.0) (D.state mid) (D.state new) told.a told.b (kept.ok tells now.0 framed.0 now.1 whole).current);
       settled = λ telling.
           let tells_mid = sym told.counts.telling ∙ telling in
-          told.settled tells_mid (kept.settled (sym kept.tells ∙ tells_mid));
+          told.settled tells_mid ((kept.rewrites (sym kept.counts.tells ∙ tells_mid)).settled);
     }) c.tell-in-Ok.ensures.said
 
 pub returns-in-Err-Disk-clause-moments : goal.returns-in-Err-Disk-clause-moments
@@ -140,7 +141,7 @@ returns-in-Err-Disk-clause-moments g c = λ tells content step current does.
     let d = does_as c.args.plan.now (Accept c.in-Accept.entry c.in-Accept.reply) step c.in-Accept.is does in
     let bytes : List ℕ = entry_bytes d.0 in
     let whole : IsFramed c.as_slice-in-Accept.result.now bytes = framed_as c.as_slice-in-Accept.result.now bytes (framed d.0) (c.as_slice-in-Accept.ensures ∙ d.2) d.3 in
-    weakened D.moment D.left_since old c.append.new.desk (IsBeforeOrAfter before.file content bytes (D.state old)) (OfSteps before.file content (step ∷ []) (D.state old)) (c.append.ensures.any_moment tells content bytes current whole)
+    weakened D old c.append.new.desk (IsBeforeOrAfter before.file content bytes (D.state old)) (OfSteps before.file content (step ∷ []) (D.state old)) (c.append.ensures.any_moment tells content bytes current whole)
     (λ i h. of_append before.file content step d.0 (D.state old) i d.1 h)
 
 pub returns-in-Err-Full-clause-moments : goal.returns-in-Err-Full-clause-moments
@@ -151,7 +152,7 @@ returns-in-Err-Full-clause-moments g c = λ tells content step current does.
     let d = does_as c.args.plan.now (Accept c.in-Accept.entry c.in-Accept.reply) step c.in-Accept.is does in
     let bytes : List ℕ = entry_bytes d.0 in
     let whole : IsFramed c.as_slice-in-Accept.result.now bytes = framed_as c.as_slice-in-Accept.result.now bytes (framed d.0) (c.as_slice-in-Accept.ensures ∙ d.2) d.3 in
-    weakened D.moment D.left_since old c.append.new.desk (IsBeforeOrAfter before.file content bytes (D.state old)) (OfSteps before.file content (step ∷ []) (D.state old)) (c.append.ensures.any_moment tells content bytes current whole)
+    weakened D old c.append.new.desk (IsBeforeOrAfter before.file content bytes (D.state old)) (OfSteps before.file content (step ∷ []) (D.state old)) (c.append.ensures.any_moment tells content bytes current whole)
     (λ i h. of_append before.file content step d.0 (D.state old) i d.1 h)
 
 pub returns-in-Refuse-clause-why : goal.returns-in-Refuse-clause-why
@@ -160,7 +161,7 @@ returns-in-Refuse-clause-why g c = IfErr-weaker c.tell.result _ _ (λ x write te
     let old = c.args.desk.now in
     let journal = c.args.journal.now in
     let d = does_as c.args.plan.now (Refuse c.in-Refuse.reply) step c.in-Refuse.is does in
-    subst (λ (stop : Stop). Why D.state content stop journal (step ∷ []) old c.tell.new.desk) (sym write.0)
+    subst (λ (stop : Stop). Why D content stop journal (step ∷ []) old c.tell.new.desk) (sym write)
     (inl (taken_none step d.0), file_after-none _ _ content step d.0 (same_file journal.file (D.state old) (D.state c.tell.new.desk) c.tell.ensures.a c.tell.ensures.b))) c.tell.ensures.write
 
 pub returns-in-Ok-clause-why : goal.returns-in-Ok-clause-why
@@ -174,10 +175,10 @@ returns-in-Ok-clause-why g c = IfErr-weaker c.tell-in-Ok.result _ _ (λ x write 
     let told = c.tell-in-Ok.ensures in
     let entry : c.as_slice-in-Accept.result.now ≡ framed d.0 = c.as_slice-in-Accept.ensures ∙ d.2 in
     let at = content_end (file_in before.file (D.state old)) content before.end current.holds.file in
-    let within = fits before.limit (before.end + length c.as_slice-in-Accept.result.now) c.append.result c.append.ensures.fits (λ n e. cc (c.in-Ok.is, e)) in
+    let within = fits before.limit (before.end + length c.as_slice-in-Accept.result.now) c.append.result (λ over. c.append.ensures.fits _ (refl, over)) (λ n e. cc (c.in-Ok.is, e)) in
     let written : file_in before.file (D.state mid) ≡ file_after (file_in before.file (D.state old)) content (taken_by (step ∷ [])) =
-    file_after-one (file_in before.file (D.state old)) (file_in before.file (D.state mid)) content step d.0 before.end d.1 at (kept.bytes tells ∙ ap (appended (file_in before.file (D.state old)) before.end) entry) in
-    subst (λ (stop : Stop). Why D.state content stop before (step ∷ []) old c.tell-in-Ok.new.desk) (sym write.0)
+    file_after-one (file_in before.file (D.state old)) (file_in before.file (D.state mid)) content step d.0 before.end d.1 at ((kept.rewrites tells).bytes ∙ ap (appended (file_in before.file (D.state old)) before.end) entry) in
+    subst (λ (stop : Stop). Why D content stop before (step ∷ []) old c.tell-in-Ok.new.desk) (sym write)
     (room_for_one before.limit content step d.0 before.end d.1 d.3 at (omega (arith, within, ap length entry)), same_file before.file (D.state mid) (D.state c.tell-in-Ok.new.desk) told.a told.b ∙ written))
     c.tell-in-Ok.ensures.write
 
@@ -188,5 +189,10 @@ returns-in-Err-Disk-clause-why g c = λ tells content step current does.
     let d = does_as c.args.plan.now (Accept c.in-Accept.entry c.in-Accept.reply) step c.in-Accept.is does in
     let entry : c.as_slice-in-Accept.result.now ≡ framed d.0 = c.as_slice-in-Accept.ensures ∙ d.2 in
     let at = content_end (file_in before.file (D.state c.args.desk.now)) content before.end current.holds.file in
-    let within = fits before.limit (before.end + length c.as_slice-in-Accept.result.now) c.append.result c.append.ensures.fits (λ n e. cc (c.in-Err-Disk.is, e)) in
+    let within = fits before.limit (before.end + length c.as_slice-in-Accept.result.now) c.append.result (λ over. c.append.ensures.fits _ (refl, over)) (λ n e. cc (c.in-Err-Disk.is, e)) in
     room_for_one before.limit content step d.0 before.end d.1 d.3 at (omega (arith, within, ap length entry))
+
+pub returns-in-Ok-clause-faults : goal.returns-in-Ok-clause-faults
+returns-in-Ok-clause-faults g c =
+    let counts = c.in-Ok.ensures.counts in
+    call_then g.D.Desk c.args.desk.now c.append.new.desk c.tell-in-Ok.new.desk (record { disk = counts.disk; say = counts.say }) c.tell-in-Ok.result c.tell-in-Ok.ensures.faults

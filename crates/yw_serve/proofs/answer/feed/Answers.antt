@@ -2,13 +2,14 @@ use Rattle.std.proofs.Common.{◌≡◌, ◌+◌, ℕ, List, [], ◌∷◌, ◌+
 use Rattle.std.specs.Prelude.{IfErr, IsErrAnd}
 use Rattle.std.proofs.lemmas.List.{append-nil}
 use Rattle.std.proofs.lemmas.Result.{IfOk-weaker, IfErr-weaker}
-use Rattle.yw_model.specs.Lines.{newline, whole_lines}
-use Rattle.yw_model.proofs.LinesLemmas.{whole_lines-part}
+use Rattle.yw_lines.specs.Lines.{newline, whole_lines}
+use Rattle.yw_lines.proofs.LinesLemmas.{whole_lines-part}
 use Rattle.yw_serve.specs.declared.session.Stop.{Stop}
 use Rattle.yw_serve.specs.declared.session.Stop.TheVariants.{Memory}
 use Rattle.yw_journal.specs.Journal.{IsCurrent}
 use Rattle.yw_journal.specs.declared.journal.Journal.{Journal}
 use Rattle.yw_serve.specs.Session.{GoesOn, StopsWithin, with_steps}
+use Rattle.yw_serve.proofs.FaultLemmas.{faults_as, faults_of_memory, none_then, stop_then}
 use Rattle.yw_serve.proofs.Going.{goes_nowhere, goes_by_part, goes_further, stops_further, stops_short, stops_before}
 use Rattle.yw_serve.proofs.answer.feed.Goals as goal
 
@@ -28,13 +29,14 @@ loop-part-init g c =
     record {
       stands = c.requires.stands;
       counts = record { telling = refl; disk = omega arith; say = omega arith };
+      none = record { disk = refl; say = refl };
       file = refl;
       limit = refl;
       count = omega arith;
       went = (
         [],
         refl,
-        λ tells content taken current at. goes_nowhere D.moment D.left_since D.state D.may_leave content c.args.session.now taken desk
+        λ tells content taken current at. goes_nowhere D content c.args.session.now taken desk
             (record { settled = c.requires.stands.settled tells; said = g.met.D.Desk.said_by_now desk; only = g.met.D.Desk.only_now desk; current = current }) at,
       );
     }
@@ -48,8 +50,16 @@ returns-in_err-take_line-clause-err g c = err_as c.from_residual.result c.in_err
     let first = went.2 tells content taken current at in
     let cut = c.in_err-take_line.ensures.err (inv.counts.telling ∙ tells) (with_steps content first.answers.steps) (taken ++ went.0) first.answers.are_done.file first.at in
     let e = regrouped taken went.0 c.loop-part.rest.now c.args.piece.now c.in-Some.part.now c.in-Some.behind.now went.1 c.in-Some.ensures.1 in
-    stops_short D.moment D.left_since D.state D.may_leave content stop c.args.session.now (whole_lines taken) _ c.in-Some.behind.now (taken ++ c.args.piece.now) c.args.desk.now c.take_line.new.desk e
-    (stops_further D.moment D.left_since D.state D.may_leave content c.args.session.now c.loop-part.session taken went.0 c.args.desk.now c.loop-part.desk c.take_line.new.desk inv.file inv.limit first stop _ cut))
+    stops_short D content stop c.args.session.now (whole_lines taken) _ c.in-Some.behind.now (taken ++ c.args.piece.now) c.args.desk.now c.take_line.new.desk e
+    (stops_further D content c.args.session.now c.loop-part.session taken went.0 c.args.desk.now c.loop-part.desk c.take_line.new.desk inv.file inv.limit first stop _ cut))
+
+pub returns-in_err-take_line-clause-faults : goal.returns-in_err-take_line-clause-faults
+returns-in_err-take_line-clause-faults g c =
+    let D = g.D.Desk in
+    let old = c.args.desk.now in
+    let new = c.take_line.new.desk in
+    let stop = c.in_err-take_line.field-0.0 in
+    faults_as D old new c.from_residual.result stop c.from_residual.ensures.1 (stop_then D old c.loop-part.desk new c.loop-part.invariant.none stop c.in_err-take_line.ensures.faults)
 
 pub loop-part-preserved : goal.loop-part-preserved
 loop-part-preserved g c =
@@ -63,6 +73,7 @@ loop-part-preserved g c =
     record {
       stands = made.stands;
       counts = record { telling = made.counts.telling ∙ inv.counts.telling; disk = omega (arith, inv.counts.disk, made.counts.disk); say = omega (arith, inv.counts.say, made.counts.say) };
+      none = none_then D c.args.desk.now c.loop-part.desk c.take_line.new.desk inv.none made.faults;
       file = made.file ∙ inv.file;
       limit = made.limit ∙ inv.limit;
       count = omega (arith, inv.count, made.count, shorter);
@@ -71,7 +82,7 @@ loop-part-preserved g c =
         went.1 ∙ ap (λ (r : List ℕ). went.0 ++ r) c.in-Some.ensures.1 ∙ sym (simp append_assoc),
         λ tells content taken current at.
             let first = went.2 tells content taken current at in
-            goes_further D.moment D.left_since D.state D.may_leave content c.args.session.now c.loop-part.session taken went.0 c.args.desk.now c.loop-part.desk c.take_line.new.desk inv.file inv.limit first
+            goes_further D content c.args.session.now c.loop-part.session taken went.0 c.args.desk.now c.loop-part.desk c.take_line.new.desk inv.file inv.limit first
             c.take_line.new.session line made.file made.limit (made.ok (inv.counts.telling ∙ tells) (with_steps content first.answers.steps) (taken ++ went.0) first.answers.are_done.file first.at),
       );
     }
@@ -85,11 +96,11 @@ returns-clause-ok g c =
     IfOk-weaker c.take_part.result _ _ (λ x made tells content taken current at.
     let first = went.2 tells content taken current at in
     let there = inv.counts.telling ∙ tells in
-    let next = goes_by_part D.moment D.left_since D.state D.may_leave (with_steps content first.answers.steps) c.loop-part.session c.take_part.new.session (taken ++ went.0) c.loop-part.rest.now first.at c.in_default.ensures made
+    let next = goes_by_part D (with_steps content first.answers.steps) c.loop-part.session c.take_part.new.session (taken ++ went.0) c.loop-part.rest.now first.at c.in_default.ensures made
     c.take_part.ensures.state c.take_part.ensures.number c.take_part.ensures.journal desk desk
     (record { settled = inv.stands.settled there; said = g.met.D.Desk.said_by_now desk; only = g.met.D.Desk.only_now desk; current = subst (λ (j : Journal). IsCurrent j (with_steps content first.answers.steps) (D.state desk)) (sym c.take_part.ensures.journal) first.answers.are_done.file }) in
-    subst (λ (p : List ℕ). GoesOn D.moment D.left_since D.state D.may_leave content c.args.session.now c.take_part.new.session taken p c.args.desk.now desk) (sym went.1)
-    (goes_further D.moment D.left_since D.state D.may_leave content c.args.session.now c.loop-part.session taken went.0 c.args.desk.now desk desk inv.file inv.limit first c.take_part.new.session c.loop-part.rest.now (ap (λ j. j.file) c.take_part.ensures.journal) (ap (λ j. j.limit) c.take_part.ensures.journal) next))
+    subst (λ (p : List ℕ). GoesOn D content c.args.session.now c.take_part.new.session taken p c.args.desk.now desk) (sym went.1)
+    (goes_further D content c.args.session.now c.loop-part.session taken went.0 c.args.desk.now desk desk inv.file inv.limit first c.take_part.new.session c.loop-part.rest.now (ap (λ j. j.file) c.take_part.ensures.journal) (ap (λ j. j.limit) c.take_part.ensures.journal) next))
     c.take_part.ensures.ok
 
 pub returns-clause-err : goal.returns-clause-err
@@ -102,9 +113,12 @@ returns-clause-err g c =
     let first = went.2 tells content taken current at in
     let same : whole_lines (taken ++ c.args.piece.now) ≡ whole_lines (taken ++ went.0) =
     ap (λ (p : List ℕ). whole_lines (taken ++ p)) went.1 ∙ ap whole_lines (sym (append_assoc taken went.0 c.loop-part.rest.now)) ∙ whole_lines-part (taken ++ went.0) c.loop-part.rest.now c.in_default.ensures in
-    subst (λ (s : Stop). StopsWithin D.moment D.left_since D.state D.may_leave content s c.args.session.now (whole_lines taken) (whole_lines (taken ++ c.args.piece.now)) c.args.desk.now desk) (sym is)
-    (stops_further D.moment D.left_since D.state D.may_leave content c.args.session.now c.loop-part.session taken went.0 c.args.desk.now desk desk inv.file inv.limit first Memory (whole_lines (taken ++ c.args.piece.now))
-    (stops_before D.moment D.left_since D.state D.may_leave (with_steps content first.answers.steps) c.loop-part.session (whole_lines (taken ++ went.0)) _ [] desk
+    subst (λ (s : Stop). StopsWithin D content s c.args.session.now (whole_lines taken) (whole_lines (taken ++ c.args.piece.now)) c.args.desk.now desk) (sym is)
+    (stops_further D content c.args.session.now c.loop-part.session taken went.0 c.args.desk.now desk desk inv.file inv.limit first Memory (whole_lines (taken ++ c.args.piece.now))
+    (stops_before D (with_steps content first.answers.steps) c.loop-part.session (whole_lines (taken ++ went.0)) _ [] desk
     (record { settled = inv.stands.settled (inv.counts.telling ∙ tells); said = g.met.D.Desk.said_by_now desk; only = g.met.D.Desk.only_now desk; current = first.answers.are_done.file })
     (same ∙ sym (append-nil (whole_lines (taken ++ went.0)))))))
     c.take_part.ensures.memory
+
+pub returns-clause-faults : goal.returns-clause-faults
+returns-clause-faults g c = faults_of_memory g.D.Desk c.args.desk.now c.loop-part.desk c.take_part.result c.take_part.ensures.memory c.loop-part.invariant.none

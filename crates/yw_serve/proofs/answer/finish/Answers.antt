@@ -14,7 +14,7 @@ returns-then-is_empty-clause-ok g c = λ tells content taken current at.
     let desk = c.args.desk.now in
     let front = c.args.session.now.front in
     let empty : front.items ≡ [] = none _ (omega (arith, front.ok.0, eqb-true (vec_len front) 0 (sym c.if-is_empty.ensures))) in
-    ends_without_line D.moment D.left_since D.state D.may_leave content c.args.session.now taken at desk
+    ends_without_line D content c.args.session.now taken at desk
     (record { settled = c.requires.stands.settled tells; said = g.met.D.Desk.said_by_now desk; only = g.met.D.Desk.only_now desk; current = current }) empty
 
 pub returns-clause-ok : goal.returns-clause-ok
@@ -24,7 +24,7 @@ returns-clause-ok g c =
     let front = c.args.session.now.front in
     let some : 0 < length front.items = omega (arith, front.ok.0, eqb-false (vec_len front) 0 (sym c.if-is_empty.ensures)) in
     IfOk-weaker c.end_line.result _ _ (λ x e tells content taken current at.
-    ends_with_line D.moment D.left_since D.state D.may_leave content c.args.session.now taken at desk
+    ends_with_line D content c.args.session.now taken at desk
     (record { settled = c.requires.stands.settled tells; said = g.met.D.Desk.said_by_now desk; only = g.met.D.Desk.only_now desk; current = current }) c.end_line.new.desk some _ (e tells content current)) c.end_line.ensures.ok
 
 pub returns-clause-err : goal.returns-clause-err
@@ -34,5 +34,5 @@ returns-clause-err g c =
     let front = c.args.session.now.front in
     let some : 0 < length front.items = omega (arith, front.ok.0, eqb-false (vec_len front) 0 (sym c.if-is_empty.ensures)) in
     IfErr-weaker c.end_line.result _ _ (λ stop e tells content taken current at.
-    stops_in_last D.moment D.left_since D.state D.may_leave content c.args.session.now taken at desk
+    stops_in_last D content c.args.session.now taken at desk
     (record { settled = c.requires.stands.settled tells; said = g.met.D.Desk.said_by_now desk; only = g.met.D.Desk.only_now desk; current = current }) c.end_line.new.desk some stop (e tells content current)) c.end_line.ensures.err

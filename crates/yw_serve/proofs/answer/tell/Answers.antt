@@ -6,25 +6,25 @@ returns-in-Ok-clause-any_moment g c = λ tells settled.
     let D = g.D.Desk in
     let old = c.args.desk.now in
     let new = c.say.new.self in
-    told D.moment D.left_since old new (D.state old) (D.may_leave old) (D.may_leave new) c.args.text.now settled (g.met.D.Desk.said_by_now old) (g.met.D.Desk.only_now old) c.in-Ok.ensures.time
+    told D old new (D.state old) (D.may_leave old) (D.may_leave new) c.args.text.now settled (g.met.D.Desk.said_by_now old) (g.met.D.Desk.only_now old) c.in-Ok.ensures.time
 
 pub returns-in-Err-clause-any_moment : goal.returns-in-Err-clause-any_moment
 returns-in-Err-clause-any_moment g c = λ tells settled.
     let D = g.D.Desk in
     let old = c.args.desk.now in
     let new = c.say.new.self in
-    told D.moment D.left_since old new (D.state old) (D.may_leave old) (D.may_leave new) c.args.text.now settled (g.met.D.Desk.said_by_now old) (g.met.D.Desk.only_now old) c.in-Err.ensures.time
+    told D old new (D.state old) (D.may_leave old) (D.may_leave new) c.args.text.now settled (g.met.D.Desk.said_by_now old) (g.met.D.Desk.only_now old) c.in-Err.ensures.time
 
 pub returns-in-Ok-clause-passes : goal.returns-in-Ok-clause-passes
 returns-in-Ok-clause-passes g c = λ tells.
     let D = g.D.Desk in
     let old = c.args.desk.now in
     let new = c.say.new.self in
-    told_after D.moment D.left_since old new (D.may_leave old) (D.may_leave new) c.args.text.now (g.met.D.Desk.only_now old) c.in-Ok.ensures.time
+    told_after D old new (D.may_leave old) (D.may_leave new) c.args.text.now (g.met.D.Desk.only_now old) c.in-Ok.ensures.time
 
 pub returns-in-Err-clause-passes : goal.returns-in-Err-clause-passes
 returns-in-Err-clause-passes g c = λ tells.
     let D = g.D.Desk in
     let old = c.args.desk.now in
     let new = c.say.new.self in
-    told_after D.moment D.left_since old new (D.may_leave old) (D.may_leave new) c.args.text.now (g.met.D.Desk.only_now old) c.in-Err.ensures.time
+    told_after D old new (D.may_leave old) (D.may_leave new) c.args.text.now (g.met.D.Desk.only_now old) c.in-Err.ensures.time

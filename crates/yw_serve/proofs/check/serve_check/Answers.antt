@@ -1,5 +1,8 @@
-use Rattle.std.proofs.Common.{inl, inr, ap, ◌∙◌}
+use Rattle.std.proofs.Common.{inl, inr, ap, ◌∙◌, subst, sym}
 use Rattle.yw_serve.specs.Checked.{status_of}
+use Rattle.yw_serve.specs.Faults.{StatusFaults}
+use Rattle.yw_serve.specs.declared.top.Status.{Status}
+use Rattle.yw_serve.proofs.FaultLemmas.{checked_faults}
 use Rattle.yw_serve.proofs.check.serve_check.Goals as goal
 
 pub returns-clause-checks : goal.returns-clause-checks
@@ -26,3 +29,14 @@ returns-clause-judges g c = λ bytes finding left found.
         ]
       ]
     ]
+
+pub returns-clause-faults : goal.returns-clause-faults
+returns-clause-faults g c =
+    let D = g.D.Desk in
+    let said = c.judge_input.ensures in
+    let old = c.args.desk.now in
+    let new = c.judge_input.new.desk in
+    let before = g.S.Source.faults c.args.source.now in
+    let now = g.S.Source.faults c.judge_input.new.source in
+    subst (λ (s : Status). StatusFaults D s before now old new) (sym c.status_of.ensures)
+    (checked_faults D before now old new c.judge_input.result said.read_cause said.files.faults said.say_cause.say)

@@ -29,21 +29,21 @@ returns-in-Ok-clause-opened g c = λ tells.
       before = files.opening;
       held = subst (λ (s : State). HoldNow files.opening s i) (sym nobody) (held_nothing i chosen);
       now = begun;
-      holds = subst (λ (s : State). HoldNow begun s j) (sym nobody) (held_begun i chosen j c.in-Ok.journal.end (here.other tells) holds);
+      holds = subst (λ (s : State). HoldNow begun s j) (sym nobody) (held_begun i chosen j c.in-Ok.journal.end (here.rewrites tells).other holds);
       current = current;
       content = inr (refl, refl);
-      other = here.other tells;
-      said = here.said tells;
+      other = (here.rewrites tells).other;
+      said = (here.rewrites tells).said;
     }
 
 pub returns-in-Ok-clause-stands : goal.returns-in-Ok-clause-stands
 returns-in-Ok-clause-stands g c =
     let here = c.in-Ok.ensures in
-    let back = λ (t : IsTrue (g.D.Desk.tells c.make.new.desk)). sym here.tells ∙ t in
+    let back = λ (t : IsTrue (g.D.Desk.tells c.make.new.desk)). sym here.counts.tells ∙ t in
     record {
       ready = here.ready;
       current = λ tells. (begun, here.current (back tells) files.opening [] (inl (none_live (g.D.Desk.state c.args.desk.now) (c.requires.chosen (back tells)), refl)) framed_nothing);
-      settled = λ tells. here.settled (back tells);
+      settled = λ tells. (here.rewrites (back tells)).settled;
     }
 
 pub returns-in-Ok-clause-any_moment : goal.returns-in-Ok-clause-any_moment
@@ -51,7 +51,7 @@ returns-in-Ok-clause-any_moment g c = λ tells.
     let D = g.D.Desk in
     let i = D.state c.args.desk.now in
     let chosen = c.requires.chosen tells in
-    weakened D.moment D.left_since c.args.desk.now c.make.new.desk (IsBeforeOrMade A files.opening begun i) (LeftBehindSyncs i)
+    weakened D c.args.desk.now c.make.new.desk (IsBeforeOrMade A files.opening begun i) (LeftBehindSyncs i)
     (c.in-Ok.ensures.any_moment tells files.opening [] (inl (none_live i chosen, refl)) framed_nothing)
     (left_by_making i chosen)
 
@@ -60,6 +60,6 @@ returns-in-Err-Disk-clause-any_moment g c = λ tells.
     let D = g.D.Desk in
     let i = D.state c.args.desk.now in
     let chosen = c.requires.chosen tells in
-    weakened D.moment D.left_since c.args.desk.now c.make.new.desk (IsBeforeOrMade A files.opening begun i) (LeftBehindSyncs i)
+    weakened D c.args.desk.now c.make.new.desk (IsBeforeOrMade A files.opening begun i) (LeftBehindSyncs i)
     (c.in-Err-Disk.ensures.any_moment tells files.opening [] (inl (none_live i chosen, refl)) framed_nothing)
     (left_by_making i chosen)

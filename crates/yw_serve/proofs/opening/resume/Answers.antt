@@ -32,7 +32,7 @@ returns-in_err-tail-clause-fault g c =
     (λ f place all tells.
     let chosen = c.requires.chosen tells in
     damaged_within i c.args.head.now chosen f place (all 0 tells (subst (λ (p : State). IsReached i.a 29 [] p) nobody (chosen_start i c.args.head.now chosen))))
-    (omega arith) in
+    refl in
     subst (λ (r : Result Opened OpenFault). IfErr r (HasFaultCause whole (D.disk_faults old) (D.disk_faults new))) (sym is) cause
 
 pub returns-clause-opened : goal.returns-clause-opened
@@ -78,5 +78,5 @@ returns-clause-stands g c =
           let current = current_records i head chosen journal tail.gate read.1.0 s read.1.1 read.0 refl refl c.u64_in.ensures
           (ap (λ (n : ℕ). n + tail.records) c.u64_in-2.ensures ∙ ap (λ (n : ℕ). count_of head.bytes + n) (sym read.1.2)) in
           (content_of i.a read.1.0, subst (λ (j : Image). IsCurrent journal (content_of i.a read.1.0) j) (sym looked.same) current);
-      settled = λ telling. still_settled D.moment D.left_since D.state D.may_leave D.tells D.disk_faults D.say_faults c.args.desk.now c.read_entries.new.desk looked (c.requires.settled (back telling));
+      settled = λ telling. still_settled D c.args.desk.now c.read_entries.new.desk looked (c.requires.settled (back telling));
     }

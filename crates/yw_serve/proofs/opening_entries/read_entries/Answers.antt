@@ -28,7 +28,7 @@ returns-in_err-behind-clause-fault g c =
     let reached = inv.reached tells start in
     subst (λ (i : Image). IsDamagedAt i.a f place) inv.looked.same
     (all reached.0 (inv.looked.telling ∙ tells) (subst (λ (i : Image). IsReached i.a c.loop-behind.gate reached.0 t) (sym inv.looked.same) reached.1)))
-    inv.looked.disk in
+    inv.none_failed in
     subst (λ (r : Result Tail OpenFault). IfErr r (HasFaultCause whole (D.disk_faults old) (D.disk_faults new))) (sym is) cause
 
 pub loop-behind-preserved : goal.loop-behind-preserved
@@ -42,7 +42,8 @@ loop-behind-preserved g c =
     let t : State = library.state_of c.loop-behind.library in
     let u : State = library.state_of c.next_entry.new.library in
     record {
-      looked = looked_on D.moment D.left_since D.state D.may_leave D.tells D.disk_faults D.say_faults old mid new inv.looked c.in_ok-behind.ensures.looked;
+      looked = looked_on D old mid new inv.looked c.in_ok-behind.ensures.looked;
+      none_failed = c.in_ok-behind.ensures.none_failed ∙ inv.none_failed;
       low = search rules;
       within = search rules;
       few = search rules;

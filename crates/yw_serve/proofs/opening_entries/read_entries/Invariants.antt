@@ -6,7 +6,8 @@ use Rattle.yw_serve.proofs.opening_entries.read_entries.Given as goal
 abbrev pub invariant-loop-behind : goal.invariant-loop-behind
 invariant-loop-behind g l =
     let D = g.D.Desk in record {
-      looked : OnlyLooked D.moment D.left_since D.state D.may_leave D.tells D.disk_faults D.say_faults l.initial.desk l.desk;
+      looked : OnlyLooked D l.initial.desk l.desk;
+      none_failed : D.disk_faults l.desk ≡ D.disk_faults l.initial.desk;
       low : 29 ≤ l.gate;
       within : l.gate ≤ l.len;
       few : l.records + 29 ≤ l.gate;

@@ -2,6 +2,7 @@ use Rattle.std.proofs.Common.{ℕ, refl, ◌∙◌, subst, arith}
 use Rattle.yw_serve.specs.Ends.{EndsAs}
 use Rattle.yw_serve.specs.Session.{state_of}
 use Rattle.yw_serve.specs.declared.run.Ending.TheVariants.{Past}
+use Rattle.yw_serve.proofs.FaultLemmas.{ending_then, none_then}
 use Rattle.yw_serve.proofs.Reading.{read_nothing, read_past}
 use Rattle.yw_serve.proofs.run.run.Goals as goal
 
@@ -14,9 +15,10 @@ loop-taken-init g c =
       number = omega (arith, c.requires.number);
       stands = c.requires.stands;
       counts = record { telling = refl; disk = omega arith; say = omega arith };
-      source_later = omega arith;
+      none = record { disk = refl; say = refl };
+      read = refl;
       limited = refl;
-      went = λ tells content bytes current e. read_nothing D.moment D.left_since D.state D.may_leave content _ desk c.args.session.now c.args.limit bytes _ e c.requires.front c.requires.number refl
+      went = λ tells content bytes current e. read_nothing D content _ desk c.args.session.now c.args.limit bytes _ e c.requires.front c.requires.number refl
           (record { settled = c.requires.stands.settled tells; said = g.met.D.Desk.said_by_now desk; only = g.met.D.Desk.only_now desk; current = current });
     }
 
@@ -24,11 +26,12 @@ pub returns-in-Some-clause-ends : goal.returns-in-Some-clause-ends
 returns-in-Some-clause-ends g c = λ tells content bytes current e.
     let D = g.D.Desk in
     let inv = c.loop-taken.invariant in
-    subst (λ (n : ℕ). EndsAs D.moment D.left_since D.state D.may_leave c.in-Some.ending content (state_of c.args.session.now) n c.args.limit bytes (g.S.Source.left c.turn.new.source) (g.S.Source.piece c.turn.new.source) c.args.desk.now c.turn.new.desk)
+    subst (λ (n : ℕ). EndsAs D c.in-Some.ending content (state_of c.args.session.now) n c.args.limit bytes (g.S.Source.left c.turn.new.source) (g.S.Source.piece c.turn.new.source) c.args.desk.now c.turn.new.desk)
     inv.limited (c.in-Some.ensures.ends (inv.counts.telling ∙ tells) content (state_of c.args.session.now) bytes c.args.desk.now (inv.went tells content bytes current e))
 
 pub loop-taken-preserved : goal.loop-taken-preserved
 loop-taken-preserved g c =
+    let D = g.D.Desk in
     let inv = c.loop-taken.invariant in
     let made = c.in_default.ensures in
     let on = made.progress refl in
@@ -37,7 +40,8 @@ loop-taken-preserved g c =
       number = on.2;
       stands = made.stands refl;
       counts = record { telling = made.counts.telling ∙ inv.counts.telling; disk = omega (arith, inv.counts.disk, made.counts.disk); say = omega (arith, inv.counts.say, made.counts.say) };
-      source_later = omega (arith, inv.source_later, made.source_later);
+      none = none_then D c.args.desk.now c.loop-taken.desk c.turn.new.desk inv.none made.faults.1;
+      read = made.faults.0 ∙ inv.read;
       limited = made.limited ∙ inv.limited;
       went = λ tells content bytes current e. made.ends (inv.counts.telling ∙ tells) content (state_of c.args.session.now) bytes c.args.desk.now (inv.went tells content bytes current e);
     }
@@ -46,6 +50,12 @@ pub returns-clause-ends : goal.returns-clause-ends
 returns-clause-ends g c = λ tells content bytes current e.
     let D = g.D.Desk in
     let inv = c.loop-taken.invariant in
-    subst (λ (n : ℕ). EndsAs D.moment D.left_since D.state D.may_leave Past content (state_of c.args.session.now) n c.args.limit bytes (g.S.Source.left c.loop-taken.source) (g.S.Source.piece c.loop-taken.source) c.args.desk.now c.loop-taken.desk)
+    subst (λ (n : ℕ). EndsAs D Past content (state_of c.args.session.now) n c.args.limit bytes (g.S.Source.left c.loop-taken.source) (g.S.Source.piece c.loop-taken.source) c.args.desk.now c.loop-taken.desk)
     inv.limited
-    (read_past D.moment D.left_since D.state D.may_leave content (state_of c.args.session.now) c.args.desk.now c.loop-taken.session _ _ bytes _ c.loop-taken.desk (inv.went tells content bytes current e) c.loop-taken-test.false inv.small)
+    (read_past D content (state_of c.args.session.now) c.args.desk.now c.loop-taken.session _ _ bytes _ c.loop-taken.desk (inv.went tells content bytes current e) c.loop-taken-test.false inv.small)
+
+pub returns-in-Some-clause-faults : goal.returns-in-Some-clause-faults
+returns-in-Some-clause-faults g c =
+    let D = g.D.Desk in
+    let inv = c.loop-taken.invariant in
+    ending_then D c.args.desk.now c.loop-taken.desk c.turn.new.desk inv.none c.in-Some.ending _ _ _ inv.read c.in-Some.ensures.faults

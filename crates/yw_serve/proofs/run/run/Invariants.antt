@@ -2,6 +2,7 @@ use Rattle.std.proofs.Common.{◌≡◌, ◌≤◌, ◌+◌, ◌-◌, List, ℕ,
 use Rattle.std.specs.Prelude.{IsTrue}
 use Rattle.yw_journal.specs.Files.{Content}
 use Rattle.yw_journal.specs.Journal.{IsCurrent}
+use Rattle.yw_outside.specs.Since.{NoneFailed}
 use Rattle.yw_serve.specs.Desks.{Stands, KeepsCounts}
 use Rattle.yw_serve.specs.Reading.{HasRead}
 use Rattle.yw_serve.specs.Session.{state_of}
@@ -14,12 +15,13 @@ invariant-loop-taken g l =
     record {
       small : l.taken ≤ l.limit + 1;
       number : l.session.number ≤ l.taken + 1;
-      stands : Stands D.tells D.state D.may_leave l.session.journal l.desk;
-      counts : KeepsCounts D.tells D.disk_faults D.say_faults l.fn.desk l.desk;
-      source_later : S.faults l.fn.source ≤ S.faults l.source;
+      stands : Stands D l.session.journal l.desk;
+      counts : KeepsCounts D l.fn.desk l.desk;
+      none : NoneFailed D l.fn.desk l.desk;
+      read : S.faults l.source ≡ S.faults l.fn.source;
       limited : l.session.journal.limit ≡ l.fn.session.journal.limit;
       went : IsTrue (D.tells l.fn.desk) → (c : Content) (bytes : List ℕ) → IsCurrent l.fn.session.journal c (D.state l.fn.desk) → S.left l.fn.source ≡ Some bytes
-          → HasRead D.moment D.left_since D.state D.may_leave c (state_of l.fn.session) l.session l.limit l.taken bytes (S.left l.source) l.fn.desk l.desk;
+          → HasRead D c (state_of l.fn.session) l.session l.limit l.taken bytes (S.left l.source) l.fn.desk l.desk;
     }
 
 abbrev pub decreases-loop-taken : goal.decreases-loop-taken

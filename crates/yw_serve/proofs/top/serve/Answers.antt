@@ -4,6 +4,8 @@ use Rattle.yw_serve.proofs.HeadlineLemmas.{crash_left, served}
 use Rattle.yw_serve.proofs.OpenLaws.{held_or_damaged}
 use Rattle.yw_serve.proofs.ServedLemmas.{completed, completed_opening}
 use Rattle.yw_serve.proofs.WordsLemmas.{not_both, one_limit}
+use Rattle.yw_serve.specs.Faults.{StatusFaults}
+use Rattle.yw_serve.specs.declared.top.Status.TheVariants as statuses
 use Rattle.yw_serve.specs.Served.{IsOfRun, OpeningEnds, RunEnds, RunsFrom}
 use Rattle.yw_serve.specs.declared.top.Status.{Status}
 use Rattle.yw_serve.specs.declared.top.TheConstants.{INPUT_LIMIT}
@@ -15,8 +17,8 @@ returns-in-Some-clause-ends g c = λ tells limit bytes run left.
     let new = c.serve_files.new.desk in
     let still = g.S.Source.left c.serve_files.new.source in
     let piece = g.S.Source.piece c.serve_files.new.source in
-    let Ends : ℕ → Type 0 = λ n. (OpeningEnds D.moment D.left_since D.state D.may_leave c.serve_files.result c.args.desk.now new × (c.serve_files.new.source ≡ c.args.source.now))
-    ⊎ RunsFrom D.moment D.left_since D.state D.may_leave (λ k s opened. RunEnds D.moment D.left_since D.state D.may_leave c.serve_files.result k s n INPUT_LIMIT bytes still piece opened new) c.args.desk.now in
+    let Ends : ℕ → Type 0 = λ n. (OpeningEnds D c.serve_files.result c.args.desk.now new × (c.serve_files.new.source ≡ c.args.source.now))
+    ⊎ RunsFrom D (λ k s opened. RunEnds D c.serve_files.result k s n INPUT_LIMIT bytes still piece opened new) c.args.desk.now in
     subst Ends (one_limit c.args.words.now c.in-Some.limit limit c.in-Some.ensures.some run) (c.serve_files.ensures.ends tells bytes left)
 
 pub returns-in-Some-clause-usage : goal.returns-in-Some-clause-usage
@@ -34,10 +36,15 @@ returns-in-Some-clause-complete g c = λ tells limit bytes content s run left ho
     let piece = g.S.Source.piece c.serve_files.new.source in
     let Disk = Rose (D.disk_faults old) (D.disk_faults new) in
     let Say = Rose (D.say_faults old) (D.say_faults new) in
+    let faults : (q : Status) → status ≡ q → StatusFaults D q (g.S.Source.faults c.args.source.now) (g.S.Source.faults c.serve_files.new.source) old new = λ q is.
+    subst (λ (x : Status). StatusFaults D x (g.S.Source.faults c.args.source.now) (g.S.Source.faults c.serve_files.new.source) old new) is e.faults in
+    let disk = λ (is : status ≡ statuses.Disk). (faults statuses.Disk is).1.disk in
+    let read = λ (is : status ≡ statuses.Read). (faults statuses.Read is).0 in
+    let write = λ (is : status ≡ statuses.Write). (faults statuses.Write is).1.say in
     elim (e.ends tells bytes left) [
-      | inl opening ↦ completed_opening D.moment D.left_since D.state D.may_leave status old new Disk Say opening.0 (λ f place. held_or_damaged (D.state old) content s f place hold) e.disk e.write no_disk no_say
-      | inr from ↦ completed D.moment D.left_since D.state D.may_leave from.c from.s c.in-Some.limit INPUT_LIMIT bytes still piece from.opened status new
-          Disk (Rose (g.S.Source.faults c.args.source.now) (g.S.Source.faults c.serve_files.new.source)) Say from.ends small e.disk e.read e.write no_disk no_read no_say
+      | inl opening ↦ completed_opening D status old new Disk Say opening.0 (λ f place. held_or_damaged (D.state old) content s f place hold) disk write no_disk no_say
+      | inr from ↦ completed D from.c from.s c.in-Some.limit INPUT_LIMIT bytes still piece from.opened status new
+          Disk (Rose (g.S.Source.faults c.args.source.now) (g.S.Source.faults c.serve_files.new.source)) Say from.ends small disk read write no_disk no_read no_say
     ]
 
 pub returns-in-Some-clause-served : goal.returns-in-Some-clause-served
@@ -46,7 +53,7 @@ returns-in-Some-clause-served g c = λ tells ok limit bytes run left.
     let new = c.serve_files.new.desk in
     let still = g.S.Source.left c.serve_files.new.source in
     let piece = g.S.Source.piece c.serve_files.new.source in
-    served D.moment D.left_since D.state D.may_leave c.serve_files.result c.args.desk.now new c.in-Some.limit INPUT_LIMIT bytes still piece (c.serve_files.new.source ≡ c.args.source.now) ok (c.serve_files.ensures.ends tells bytes left)
+    served D c.serve_files.result c.args.desk.now new c.in-Some.limit INPUT_LIMIT bytes still piece (c.serve_files.new.source ≡ c.args.source.now) ok (c.serve_files.ensures.ends tells bytes left)
 
 pub returns-in-Some-clause-crash : goal.returns-in-Some-clause-crash
 returns-in-Some-clause-crash g c = λ tells limit bytes content s run left hold.
@@ -54,7 +61,7 @@ returns-in-Some-clause-crash g c = λ tells limit bytes content s run left hold.
     let new = c.serve_files.new.desk in
     let still = g.S.Source.left c.serve_files.new.source in
     let piece = g.S.Source.piece c.serve_files.new.source in
-    let leaves = crash_left D.moment D.left_since D.state D.may_leave g.met.D.Desk.said_by_now content s c.args.desk.now hold (g.met.D.Desk.as_it_reads c.args.desk.now tells) bytes c.serve_files.result new c.in-Some.limit INPUT_LIMIT still piece (c.serve_files.new.source ≡ c.args.source.now) (c.serve_files.ensures.ends tells bytes left) in
+    let leaves = crash_left D g.met.D.Desk.said_by_now content s c.args.desk.now hold (g.met.D.Desk.as_it_reads c.args.desk.now tells) bytes c.serve_files.result new c.in-Some.limit INPUT_LIMIT still piece (c.serve_files.new.source ≡ c.args.source.now) (c.serve_files.ensures.ends tells bytes left) in
     leaves.each
 
 pub returns-in-Some-clause-of_check : goal.returns-in-Some-clause-of_check

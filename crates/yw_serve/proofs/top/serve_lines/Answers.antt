@@ -16,6 +16,9 @@ returns-clause-ends g c = λ tells content bytes current left.
     let opened = c.args.opened in
     let still = g.S.Source.left c.run-ending.new.source in
     let piece = g.S.Source.piece c.run-ending.new.source in
-    let ends = ends_from D.moment D.left_since D.state D.may_leave c.new-session.result (opened_state opened) opened.journal first.state first.journal
+    let ends = ends_from D c.new-session.result (opened_state opened) opened.journal first.state first.journal
     c.run-ending.result content INPUT_LIMIT piece bytes still c.args.desk.now c.run-ending.new.desk (then.ends tells content bytes at_start left) in
     c.status_of.ensures.ends (subst (λ (b : Bool). IsTrue b) (sym then.counts.telling) tells) content (opened_state opened) opened.journal.limit INPUT_LIMIT piece bytes still c.args.desk.now ends
+
+pub returns-clause-faults : goal.returns-clause-faults
+returns-clause-faults g c = c.status_of.ensures.faults (g.S.Source.faults c.args.source.now) (g.S.Source.faults c.run-ending.new.source) c.args.desk.now c.run-ending.ensures.faults

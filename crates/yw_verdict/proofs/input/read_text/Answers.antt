@@ -1,4 +1,4 @@
-use Rattle.std.proofs.Common.{◌≡◌, List, ℕ, length, take, sym, subst, arith, length-take}
+use Rattle.std.proofs.Common.{◌≡◌, ◌∙◌, List, ℕ, length, take, sym, subst, arith, length-take}
 use Rattle.yw_outside.proofs.Reading.{consumes_none}
 use Rattle.yw_verdict.specs.Taken.{HasTaken}
 use Rattle.yw_verdict.proofs.ReadLemmas.{taken_still, taken_more, taken_whole, kept_piece, took_whole, took_past, took_some, took_more}
@@ -37,7 +37,7 @@ loop-source-preserved g c =
     record {
       room = inv.room;
       small = omega (arith, text.ok.0, read.count.0, c.len-in-loop-source.ensures, kept.len, inv.small, length-take c.in_ok-count.count c.deref.result.now);
-      later = omega (arith, inv.later, read.cause.later);
+      none_failed = read.cause.none_failed ∙ inv.none_failed;
       taken = λ bytes e. subst (λ (xs : List ℕ). HasTaken bytes xs (g.S.Source.left c.read_piece.new.source)) (sym (kept_piece _ c.read_piece.new.piece _ _ _ _ _ whole c.deref.ensures.value kept.items))
           (taken_more bytes text.items (take c.in_ok-count.count c.read_piece.new.piece) _ _ (inv.taken bytes e) read.bytes.0);
     }

@@ -8,7 +8,7 @@ invariant-loop-source g l =
     record {
       room : vec_len l.piece ≡ 65536;
       small : vec_len l.text ≤ l.limit + 1;
-      later : S.faults l.fn.source ≤ S.faults l.source;
+      none_failed : S.faults l.source ≡ S.faults l.fn.source;
       taken : (bytes : List ℕ) → S.left l.fn.source ≡ Some bytes → HasTaken bytes l.text.items (S.left l.source);
     }
 

@@ -11,9 +11,9 @@ returns-clause-says g c = λ tells.
     let new = c.say.new.self in
     let said = c.in-Err-say.ensures in
     let line : c.as_slice.result.now ≡ finding_line c.args.finding.now = c.as_slice.ensures ∙ c.in-Ok.ensures in
-    subst (λ (l : List ℕ). Tells D.moment D.left_since D.state D.may_leave l old new) line (record {
+    subst (λ (l : List ℕ). Tells D l old new) line (record {
       a = said.files_a;
       b = said.files_b;
       said = said.said tells;
-      moments = told D.moment D.left_since old new (D.may_leave old) (D.may_leave new) (g.met.D.Desk.only_now old) c.as_slice.result.now said.time;
+      moments = told D old new (D.may_leave old) (D.may_leave new) (g.met.D.Desk.only_now old) c.as_slice.result.now said.time;
     })

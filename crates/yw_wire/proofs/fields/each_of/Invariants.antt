@@ -1,6 +1,6 @@
 use Rattle.std.proofs.Common.{◌≡◌, ◌++◌, drop, option_map}
 use Rattle.serde_json.specs.View.{items_view}
-use Rattle.yw_model.specs.Values.{each_of}
+use Rattle.yw_lines.specs.Values.{each_of}
 use Rattle.yw_wire.proofs.fields.each_of.Given as goal
 
 -- the items so far and those of what is left are all of the kind

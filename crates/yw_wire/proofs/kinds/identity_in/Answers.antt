@@ -1,5 +1,5 @@
 use Rattle.std.proofs.Common.{sym, ap, ◌∙◌}
-use Rattle.yw_model.specs.Identities.{identity_in}
+use Rattle.yw_lines.specs.Identities.{identity_in}
 use Rattle.yw_wire.proofs.IdentityLemmas.{identity_in-dotted, identity_in-none}
 use Rattle.yw_wire.proofs.kinds.identity_in.Goals as goal
 

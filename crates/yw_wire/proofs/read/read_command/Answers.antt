@@ -1,6 +1,6 @@
 use Rattle.std.proofs.Common.{◌≡◌, Result, Ok, Err}
 use Rattle.std.specs.Prelude.{IfOk}
-use Rattle.yw_model.specs.Meaning.{AsksProperly}
+use Rattle.yw_lines.specs.Meaning.{AsksProperly}
 use Rattle.yw_state.specs.declared.command.Asked.{Asked}
 use Rattle.yw_state.specs.declared.rule.Rule.{Rule}
 use Rattle.yw_wire.proofs.ProperLemmas.{asks_properly}

@@ -1,13 +1,12 @@
-use Rattle.std.proofs.Common.{◌≡◌, ℕ, List, [], ◌∷◌, map, Bool, false, refl}
-use Rattle.serde_json.specs.Data.{string}
-use Rattle.serde_json.specs.View.{view, items_of}
+use Rattle.std.proofs.Common.{◌≡◌, ℕ, List, [], ◌∷◌, Bool, false, refl, subst}
+use Rattle.std.specs.Prelude.{IfOk}
 use Rattle.serde_json.specs.Written.{has_float, items_have_float}
-use Rattle.yw_model.specs.Replies.{done, done_data}
-use Rattle.yw_model.specs.EventTexts.{step_text}
+use Rattle.yw_lines.specs.Replies.{done, done_data, line_of}
 use Rattle.yw_state.specs.declared.event.Event.{Event}
+use Rattle.yw_wire.specs.Sent.{steps_data}
 use Rattle.yw_wire.proofs.reply.reply_done.Goals as goal
 
-no_step_floats : (es : List Event) → items_have_float (items_of (map (λ e. string (step_text e)) es)) ≡ false
+no_step_floats : (es : List Event) → items_have_float (steps_data es) ≡ false
 no_step_floats [] = refl
 no_step_floats (e ∷ es) = no_step_floats es
 
@@ -17,5 +16,8 @@ has_float-done_data n es quiet = rw (no_step_floats es)
 pub returns : goal.returns
 unfolding done
 returns c =
-    let plain : has_float (view c.in_ok-value.value) ≡ false = rw c.in_ok-value.ensures (has_float-done_data c.args.n c.args.events.now c.args.quiet) in
-    rw c.in_ok-value.ensures at (c.value_line.ensures plain)
+    let n = c.args.n in
+    let quiet = c.args.quiet in
+    let events = c.as_slice-events.result.now in
+    let said = c.sent_line.ensures (done_data n events quiet) (λ log sent. sent) (has_float-done_data n events quiet) in
+    subst (λ es. IfOk c.sent_line.result (λ line. line ≡ line_of (done_data n es quiet))) c.as_slice-events.ensures said

@@ -1,6 +1,6 @@
 use Rattle.std.proofs.Common.{◌≡◌, ◌++◌}
 use Rattle.serde_json.specs.View.{members_view}
-use Rattle.yw_model.specs.Values.{givens_in}
+use Rattle.yw_lines.specs.Values.{givens_in}
 use Rattle.yw_wire.proofs.values.givens_in.Given as goal
 
 -- what was given so far and what is left are all

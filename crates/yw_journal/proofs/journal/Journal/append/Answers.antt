@@ -16,7 +16,7 @@ returns-then-end-self-clause-any_moment g c = λ tells content bytes current who
     let old = c.args.desk.now in
     let P = IsBeforeOrAfter j.file content bytes (D.state old) in
     let only = settled_is (D.state old) (D.may_leave old) (c.requires.settled tells) (g.met.D.Desk.said_by_now old) in
-    started D.moment D.left_since old P
+    started D old P
     (λ i left. subst P (sym (only i (g.met.D.Desk.only_now old i left))) (untouched j.file content bytes j.end c.args.framed.now (D.state old) current.holds whole))
 
 pub returns-in_default-clause-any_moment : goal.returns-in_default-clause-any_moment
@@ -28,7 +28,7 @@ returns-in_default-clause-any_moment g c = λ tells content bytes current whole.
     let n = length c.args.framed.now in
     let P = IsBeforeOrAfter j.file content bytes (D.state old) in
     let only = settled_is (D.state old) (D.may_leave old) (c.requires.settled tells) (g.met.D.Desk.said_by_now old) in
-    weakened D.moment D.left_since old mid (After (Writes j.file j.end n) (D.may_leave old)) P c.write_synced.ensures.any_moment
+    weakened D old mid (After (Writes j.file j.end n) (D.may_leave old)) P c.write_synced.ensures.any_moment
     (λ i a. first_image j.file content bytes j.end c.args.framed.now (D.state old) current.holds whole i (after_settled j.file j.end n (D.state old) (D.may_leave old) only i a))
 
 pub write_synced-requires-2-clause-within : goal.write_synced-requires-2-clause-within
@@ -37,7 +37,7 @@ write_synced-requires-2-clause-within g c = λ tells.
     let j = c.args.self.now in
     let old = c.args.desk.now in
     let mid = c.write_synced.new.desk in
-    let before : IsTrue (D.tells old) = subst IsTrue c.write_synced.ensures.tells tells in
+    let before : IsTrue (D.tells old) = subst IsTrue c.write_synced.ensures.counts.tells tells in
     let current = c.requires.current before in
     let whole = c.requires.framed in
     let head = current.1.holds.file.0 in
@@ -58,13 +58,13 @@ returns-in_default-write_synced-clause-any_moment g c = λ tells content bytes c
     let q = j.end - 1 in
     let P = IsBeforeOrAfter j.file content bytes (D.state old) in
     let only = settled_is (D.state old) (D.may_leave old) (c.requires.settled tells) (g.met.D.Desk.said_by_now old) in
-    let first = weakened D.moment D.left_since old mid (After (Writes j.file j.end n) (D.may_leave old)) P c.write_synced.ensures.any_moment
+    let first = weakened D old mid (After (Writes j.file j.end n) (D.may_leave old)) P c.write_synced.ensures.any_moment
     (λ i a. first_image j.file content bytes j.end c.args.framed.now (D.state old) current.holds whole i (after_settled j.file j.end n (D.state old) (D.may_leave old) only i a)) in
     let written = c.in-Ok.ensures.written tells in
     let staged = first_written current.holds.file.0 content.records bytes j.end (file_in j.file (D.state old)) c.args.framed.now current.holds.file.2 whole (file_in j.file (D.state mid)) written.ok in
-    let only_mid = settled_is (D.state mid) (D.may_leave mid) (c.in-Ok.ensures.settled tells (c.requires.settled tells)) (g.met.D.Desk.said_by_now mid) in
+    let only_mid = settled_is (D.state mid) (D.may_leave mid) (c.in-Ok.ensures.settled c.requires.settled (c.in-Ok.ensures.counts.tells ∙ tells)) (g.met.D.Desk.said_by_now mid) in
     let place : q + 1 ≡ j.end = omega (arith, c.requires.ready.some) in
-    and_then D.moment D.left_since old mid new P (After (Writes j.file q 1) (D.may_leave mid)) first c.write_synced-2.ensures.any_moment
+    and_then D old mid new P (After (Writes j.file q 1) (D.may_leave mid)) first c.write_synced-2.ensures.any_moment
     (λ i a. second_image j.file content bytes j.end c.args.framed.now (D.state old) current.holds whole q place (D.state mid) staged.0 staged.1 written.other written.said i (after_settled j.file q 1 (D.state mid) (D.may_leave mid) only_mid i a))
 
 pub returns-clause-any_moment : goal.returns-clause-any_moment
@@ -78,13 +78,13 @@ returns-clause-any_moment g c = λ tells content bytes current whole.
     let q = j.end - 1 in
     let P = IsBeforeOrAfter j.file content bytes (D.state old) in
     let only = settled_is (D.state old) (D.may_leave old) (c.requires.settled tells) (g.met.D.Desk.said_by_now old) in
-    let first = weakened D.moment D.left_since old mid (After (Writes j.file j.end n) (D.may_leave old)) P c.write_synced.ensures.any_moment
+    let first = weakened D old mid (After (Writes j.file j.end n) (D.may_leave old)) P c.write_synced.ensures.any_moment
     (λ i a. first_image j.file content bytes j.end c.args.framed.now (D.state old) current.holds whole i (after_settled j.file j.end n (D.state old) (D.may_leave old) only i a)) in
     let written = c.in-Ok.ensures.written tells in
     let staged = first_written current.holds.file.0 content.records bytes j.end (file_in j.file (D.state old)) c.args.framed.now current.holds.file.2 whole (file_in j.file (D.state mid)) written.ok in
-    let only_mid = settled_is (D.state mid) (D.may_leave mid) (c.in-Ok.ensures.settled tells (c.requires.settled tells)) (g.met.D.Desk.said_by_now mid) in
+    let only_mid = settled_is (D.state mid) (D.may_leave mid) (c.in-Ok.ensures.settled c.requires.settled (c.in-Ok.ensures.counts.tells ∙ tells)) (g.met.D.Desk.said_by_now mid) in
     let place : q + 1 ≡ j.end = omega (arith, c.requires.ready.some) in
-    and_then D.moment D.left_since old mid new P (After (Writes j.file q 1) (D.may_leave mid)) first c.write_synced-2.ensures.any_moment
+    and_then D old mid new P (After (Writes j.file q 1) (D.may_leave mid)) first c.write_synced-2.ensures.any_moment
     (λ i a. second_image j.file content bytes j.end c.args.framed.now (D.state old) current.holds whole q place (D.state mid) staged.0 staged.1 written.other written.said i (after_settled j.file q 1 (D.state mid) (D.may_leave mid) only_mid i a))
 
 pub returns-clause-ok : goal.returns-clause-ok
@@ -98,23 +98,26 @@ returns-clause-ok g c = λ tells content bytes current whole.
     let written = c.in-Ok.ensures.written tells in
     let staged = first_written current.holds.file.0 content.records bytes j.end (file_in j.file (D.state old)) c.args.framed.now current.holds.file.2 whole (file_in j.file (D.state mid)) written.ok in
     let place : q + 1 ≡ j.end = omega (arith, c.requires.ready.some) in
-    let gate = c.in-Ok-write_synced.ensures.written (c.in-Ok.ensures.tells ∙ tells) in
+    let tells_mid = c.in-Ok.ensures.counts.tells ∙ tells in
+    let gate = c.in-Ok-write_synced.ensures.written tells_mid in
+    let holds = appended j.file content bytes j.end c.args.framed.now (D.state old) current.holds whole q place staged.0 (D.state new) (rw staged.1 at gate.ok) (gate.other ∙ written.other) in
+    let settled = c.in-Ok-write_synced.ensures.settled (c.in-Ok.ensures.settled c.requires.settled) (c.in-Ok-write_synced.ensures.counts.tells ∙ tells_mid) in
     record {
-      holds = appended j.file content bytes j.end c.args.framed.now (D.state old) current.holds whole q place staged.0 (D.state new) (rw staged.1 at gate.ok) (gate.other ∙ written.other);
-      generation = current.generation;
-      number = omega (arith, current.number, length-append content.records (bytes ∷ []));
+      current = record { holds = holds; generation = current.generation; number = omega (arith, current.number, length-append content.records (bytes ∷ [])) };
+      each_has = λ i left.
+          subst (λ (x : Image). Holds j.file (with_record content bytes) (j.end + length c.args.framed.now) x)
+          (sym (settled_is (D.state new) (D.may_leave new) settled (g.met.D.Desk.said_by_now new) i left)) holds;
     }
 
-pub returns-clause-bytes : goal.returns-clause-bytes
-returns-clause-bytes g c = λ tells.
+pub returns-clause-rewrites : goal.returns-clause-rewrites
+returns-clause-rewrites g c = λ tells.
     let q = c.args.self.now.end - 1 in
-    (c.in-Ok-write_synced.ensures.written (c.in-Ok.ensures.tells ∙ tells)).ok ∙ ap (λ (file : List ℕ). overwritten file q (1 ∷ [])) (c.in-Ok.ensures.written tells).ok
-
-pub returns-clause-each_has : goal.returns-clause-each_has
-returns-clause-each_has g c = λ tells content bytes current whole i left.
-    let D = g.D.Desk in
-    let j = c.args.self.now in
-    let new = c.write_synced-2.new.desk in
-    let settled = c.in-Ok-write_synced.ensures.settled (c.in-Ok.ensures.tells ∙ tells) (c.in-Ok.ensures.settled tells (c.requires.settled tells)) in
-    let is = settled_is (D.state new) (D.may_leave new) settled (g.met.D.Desk.said_by_now new) i left in
-    subst (λ (x : Image). Holds j.file (with_record content bytes) (j.end + length c.args.framed.now) x) (sym is) (returns-clause-ok g c tells content bytes current whole).holds
+    let tells_mid = c.in-Ok.ensures.counts.tells ∙ tells in
+    let first = c.in-Ok.ensures.written tells in
+    let second = c.in-Ok-write_synced.ensures.written tells_mid in
+    record {
+      bytes = second.ok ∙ ap (λ (file : List ℕ). overwritten file q (1 ∷ [])) first.ok;
+      other = second.other ∙ first.other;
+      said = second.said ∙ first.said;
+      settled = c.in-Ok-write_synced.ensures.settled (c.in-Ok.ensures.settled c.requires.settled) (c.in-Ok-write_synced.ensures.counts.tells ∙ tells_mid);
+    }

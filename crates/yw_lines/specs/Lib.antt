@@ -1,0 +1,11 @@
+pub mod Lines
+pub mod Words
+pub mod Identities
+pub mod Values
+pub mod Kinds
+pub mod Primitives
+pub mod Fields
+pub mod Shapes
+pub mod Meaning
+pub mod EventTexts
+pub mod Replies

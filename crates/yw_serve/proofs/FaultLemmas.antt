@@ -1,0 +1,89 @@
+-- Calls in turn, of which the first ones didn't fail.
+use Rattle.std.proofs.Common.{◌≡◌, ◌⊎◌, ℕ, Option, Some, None, Result, Ok, Err, inl, inr, sym, ◌∙◌, subst}
+use Rattle.std.specs.Prelude.{IfErr, IsErrAnd}
+use Rattle.yw_outside.specs.Causes.{Rose}
+use Rattle.yw_outside.specs.Since.{NoneFailed}
+use Rattle.yw_outside.specs.declared.desk.Desk.{Ghosts}
+use Rattle.yw_verdict.specs.Counts.{CountsRead, CountsWrite}
+use Rattle.yw_verdict.specs.declared.verdict.Verdict.{Verdict}
+use Rattle.yw_verdict.specs.declared.verdict.Verdict.TheVariants as verdicts
+use Rattle.yw_serve.specs.Checked.{status_of}
+use Rattle.yw_serve.specs.Faults.{FilesFailed, SayFailed, StopFaults, CallFaults, EndingFaults, TurnFaults, NoticeFaults, StatusFaults}
+use Rattle.yw_serve.specs.declared.run.Ending.{Ending}
+use Rattle.yw_serve.specs.declared.run.Ending.TheVariants as endings
+use Rattle.yw_serve.specs.declared.session.Stop.{Stop}
+use Rattle.yw_serve.specs.declared.session.Stop.TheVariants as stops
+use Rattle.yw_serve.specs.declared.top.Status.{Status}
+use Rattle.yw_serve.specs.declared.top.Status.TheVariants as statuses
+
+module _ {D : Type 0} (g : Ghosts D) (old mid new : D) (first : NoneFailed g old mid) where
+  pub none_then : NoneFailed g mid new → NoneFailed g old new
+  none_then n = record { disk = n.disk ∙ first.disk; say = n.say ∙ first.say }
+
+  pub files_then : FilesFailed g mid new → FilesFailed g old new
+  files_then f = record { disk = subst (λ (n : ℕ). Rose n (g.disk_faults new)) first.disk f.disk; say = f.say ∙ first.say }
+
+  pub say_then : SayFailed g mid new → SayFailed g old new
+  say_then s = record { disk = s.disk ∙ first.disk; say = subst (λ (n : ℕ). Rose n (g.say_faults new)) first.say s.say }
+
+  pub stop_then : (stop : Stop) → StopFaults g stop mid new → StopFaults g stop old new
+  stop_then stops.Disk f = files_then f
+  stop_then stops.Write f = say_then f
+  stop_then stops.Memory f = none_then f
+  stop_then (stops.Full n) f = none_then f
+
+  pub call_then : {T : Type 0} (result : Result T Stop) → CallFaults g result mid new → CallFaults g result old new
+  call_then (Ok v) f = none_then f
+  call_then (Err stop) f = stop_then stop f
+
+  pub ending_then : (ending : Ending) (before between now : ℕ) → between ≡ before → EndingFaults g ending between now mid new → EndingFaults g ending before now old new
+  ending_then endings.Whole before between now e f = (f.0 ∙ e, none_then f.1)
+  ending_then endings.Unread before between now e f = (subst (λ (n : ℕ). Rose n now) e f.0, none_then f.1)
+  ending_then endings.Past before between now e f = (f.0 ∙ e, none_then f.1)
+  ending_then (endings.Stopped stop) before between now e f = (f.0 ∙ e, stop_then stop f.1)
+
+  pub status_then : (status : Status) (before now : ℕ) → StatusFaults g status before now mid new → StatusFaults g status before now old new
+  status_then statuses.Ok before now f = (f.0, none_then f.1)
+  status_then statuses.Findings before now f = (f.0, none_then f.1)
+  status_then statuses.Usage before now f = (f.0, none_then f.1)
+  status_then statuses.Memory before now f = (f.0, none_then f.1)
+  status_then statuses.Damaged before now f = (f.0, none_then f.1)
+  status_then statuses.Full before now f = (f.0, none_then f.1)
+  status_then statuses.InputLimit before now f = (f.0, none_then f.1)
+  status_then statuses.Disk before now f = (f.0, files_then f.1)
+  status_then statuses.Read before now f = (f.0, none_then f.1)
+  status_then statuses.Write before now f = (f.0, say_then f.1)
+
+module _ {D : Type 0} (g : Ghosts D) (old new : D) where
+  -- an answer that hands a stop on
+  pub faults_as : {T : Type 0} (result : Result T Stop) (stop : Stop) → IsErrAnd result (λ x. x ≡ stop) → StopFaults g stop old new → CallFaults g result old new
+  faults_as (Ok v) stop is f = absurd is
+  faults_as (Err s) stop is f = subst (λ (x : Stop). StopFaults g x old new) (sym is) f
+
+  -- an answer that stops for want of memory alone
+  pub faults_of_memory : {T : Type 0} (result : Result T Stop) → IfErr result (λ stop. stop ≡ stops.Memory) → NoneFailed g old new → CallFaults g result old new
+  faults_of_memory (Ok v) is none = none
+  faults_of_memory (Err s) is none = subst (λ (x : Stop). StopFaults g x old new) (sym is) none
+
+module _ {D : Type 0} (g : Ghosts D) (before now : ℕ) (same : now ≡ before) (old new : D) where
+  -- a notice with a status whose calls didn't fail
+  pub notice_faults : (status wanted : Status) → (NoneFailed g old new → StatusFaults g wanted before now old new) → NoticeFaults g status wanted old new → StatusFaults g status before now old new
+  notice_faults status wanted of_none faults =
+      let with_status : (q : Status) → status ≡ q → StatusFaults g q before now old new → StatusFaults g status before now old new =
+      λ q e h. subst (λ (x : Status). StatusFaults g x before now old new) (sym e) h in
+      elim faults [
+        | inl whole ↦ with_status wanted whole.0 (of_none whole.1)
+        | inr other ↦ elim other [
+          | inl part ↦ with_status statuses.Write part.0 (same, part.1)
+          | inr none ↦ with_status statuses.Memory none.0 (same, none.1)
+        ]
+      ]
+
+-- a verdict as a status
+pub checked_faults : {D : Type 0} (g : Ghosts D) (before now : ℕ) (old new : D) (verdict : Verdict) → CountsRead verdict before now → g.disk_faults new ≡ g.disk_faults old
+    → CountsWrite verdict (g.say_faults old) (g.say_faults new) → StatusFaults g (status_of verdict) before now old new
+checked_faults g before now old new verdicts.Accepted read disk say = (read, record { disk = disk; say = say })
+checked_faults g before now old new verdicts.Refused read disk say = (read, record { disk = disk; say = say })
+checked_faults g before now old new verdicts.Memory read disk say = (read, record { disk = disk; say = say })
+checked_faults g before now old new verdicts.Read read disk say = (read, record { disk = disk; say = say })
+checked_faults g before now old new verdicts.Write read disk say = (read, record { disk = disk; say = say })
