@@ -1,0 +1,10 @@
+pub mod Children
+pub mod Dropped
+pub mod Each
+pub mod OnTests
+pub mod Parts
+pub mod Picked
+pub mod Prefix
+pub mod Swaps
+pub mod Unique
+pub mod Gained

@@ -1,0 +1,8 @@
+use Rattle.yw_tree.proofs.NetAt.{net_here}
+use Rattle.yw_tree.proofs.Parents.{identity_long}
+use Rattle.yw_tree.proofs.laws.net_changes.Goals as goal
+
+pub returns : goal.returns
+returns c = λ names f id s w m b i e wb fewer shows own outside.
+    let h = net_here f id s b (identity_long id i) e in
+    h.lift w wb (fewer h.others h.here) names m (shows (h.beside names) (h.stands names) (h.shows names)) own outside

@@ -1,0 +1,9 @@
+pub mod Entries
+pub mod Boxed
+pub mod Ways
+pub mod Lending
+pub mod Cases
+pub mod Forest
+pub mod Places
+pub mod Shows
+pub mod Spots
