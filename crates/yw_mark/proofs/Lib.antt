@@ -1,0 +1,3 @@
+pub mod TokenLemmas
+pub mod JoinLemmas
+pub mod SplitLemmas

@@ -1,0 +1,9 @@
+pub mod BitLemmas
+pub mod FirstLemmas
+pub mod ClosureLemmas
+pub mod DirectLemmas
+pub mod PlaceLemmas
+pub mod WithinLemmas
+pub mod NetLemmas
+pub mod UpstreamLemmas
+pub mod WaitLemmas
