@@ -1,0 +1,4 @@
+pub mod Numbered
+pub mod Flows
+pub mod Branches
+pub mod Whole

@@ -1,0 +1,6 @@
+pub mod Lexing
+pub mod Parsing
+pub mod Reading
+pub mod Deciding
+pub mod LinesGiven
+pub mod LinesAnswered

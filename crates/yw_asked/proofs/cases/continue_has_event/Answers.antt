@@ -1,0 +1,5 @@
+use Rattle.yw_asked.proofs.CasesAsked as cases
+use Rattle.yw_asked.proofs.cases.continue_has_event.Goals as goal
+
+pub returns : goal.returns
+returns g c = λ s j. cases.continue_has_event g.R.Reads.reader s j

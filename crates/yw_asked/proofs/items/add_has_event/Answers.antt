@@ -1,0 +1,5 @@
+use Rattle.yw_asked.proofs.TasksAsked as tasks
+use Rattle.yw_asked.proofs.items.add_has_event.Goals as goal
+
+pub returns : goal.returns
+returns g c = λ s who i t value well holds. tasks.add_has_event g.R.Reads.reader s well holds who i t value

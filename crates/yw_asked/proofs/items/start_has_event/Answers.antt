@@ -1,0 +1,5 @@
+use Rattle.yw_asked.proofs.ItemsAsked as items
+use Rattle.yw_asked.proofs.items.start_has_event.Goals as goal
+
+pub returns : goal.returns
+returns g c = λ s who j well. items.start_has_event g.R.Reads.reader s well who j

@@ -1,0 +1,5 @@
+use Rattle.yw_still.proofs.ItemsGoOn as items
+use Rattle.yw_still.proofs.comes.compensation_end_comes.Goals as goal
+
+pub returns : goal.returns
+returns c = λ s j may. items.compensation_comes s j may

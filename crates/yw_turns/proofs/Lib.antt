@@ -1,0 +1,2 @@
+pub mod RunningOut
+pub mod Entries
