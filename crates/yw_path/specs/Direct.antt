@@ -50,3 +50,7 @@ are_below n cs = list_all (λ c. nat_lt c n) cs
 -- the task's flows go to and from numbers below n
 abbrev pub fits : ℕ → Task → Bool
 fits n t = are_below n t.before && are_below n t.after
+
+-- each task's flows do
+abbrev pub has_its_places : Net → Bool
+has_its_places net = list_all (fits (length net.places)) net.tasks

@@ -1,7 +1,7 @@
 // Whether flows go to and from places of the net.
-ghost use Rattle.std.specs.Prelude.{◌≡◌, IsTrue, length};
+ghost use Rattle.std.specs.Prelude.{◌≡◌, IsTrue};
 ghost use Rattle.std.specs.List.{list_all};
-ghost use Rattle.yw_path.specs.Direct.{HasItsPlaces, are_below, fits};
+ghost use Rattle.yw_path.specs.Direct.{HasItsPlaces, are_below, fits, has_its_places};
 
 use yw_spec::{Net, Task};
 
@@ -25,9 +25,10 @@ fn all_fit(count: usize, tasks: &[Task]) -> bool
     tasks.iter().all(|task| fits(count, task))
 }
 
-/// Where it says yes, flows go to and from places of the net, which is the condition of `Upstream::build`. It takes no memory.
+/// Flows go to and from places of the net, which is the condition of `Upstream::build`. It takes no memory.
 pub fn has_its_places(net: &Net) -> bool
-    ensures { IsTrue result → HasItsPlaces net.now }
+    ensures value { result ≡ has_its_places net.now }
+    ensures holds { IsTrue result → HasItsPlaces net.now }
 {
     all_fit(net.places.as_slice().len(), net.tasks.as_slice())
 }
