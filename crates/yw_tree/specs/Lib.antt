@@ -7,3 +7,4 @@ pub mod Forest
 pub mod Places
 pub mod Shows
 pub mod Spots
+pub mod Changes
