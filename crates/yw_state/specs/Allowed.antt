@@ -104,7 +104,7 @@ may_complete s j out x =
 abbrev pub element_param : Task → Option Param
 element_param t = option_and_then (λ (m : Many). slice_get t.ins m.item) t.many
 
-abbrev may_add : State → Ident → Value → TaskAt → Bool
+abbrev pub may_add : State → Ident → Value → TaskAt → Bool
 may_add s i value x =
     active s i x.number
     && is_some_and x.task.many (λ m. m.dynamic && nat_lt (length (items_of s i x.number)) m.max)
@@ -112,10 +112,10 @@ may_add s i value x =
     && is_some (given_values x.task x.within.part.vals (Some value))
 
 -- the item of a composite task, or of an atomic one, or of an empty one, is at this stage
-abbrev composite_is : (ItemAt → Bool) → ItemAt → Bool
+abbrev pub composite_is : (ItemAt → Bool) → ItemAt → Bool
 composite_is at_stage x = at_stage x && is_some (child_net x.of_task.task)
 
-abbrev atomic_is : (ItemAt → Bool) → ItemAt → Bool
+abbrev pub atomic_is : (ItemAt → Bool) → ItemAt → Bool
 atomic_is at_stage x = at_stage x && is_atomic x.of_task.task
 
 abbrev ready : ItemAt → Bool
@@ -140,7 +140,7 @@ abbrev pub most_tokens : ℕ
 most_tokens = 1000000
 
 -- one token more is not too many, once the removal set is emptied
-abbrev has_room_for : State → Ident → TaskAt → ℕ → Bool
+abbrev pub has_room_for : State → Ident → TaskAt → ℕ → Bool
 has_room_for s i x c = is_among x.task.drop_places c || nat_lt (tokens_on s i c) most_tokens
 
 abbrev puts_on : State → Ident → TaskAt → List ℕ → Bool
@@ -174,11 +174,11 @@ abbrev pub depth_end : ℕ
 depth_end = 32
 
 -- what the tree concludes can't be begun: a worklet would stand too deep, or no number is left for a run
-abbrev cannot_begin : State → Ident → Bool → Bool
+abbrev pub cannot_begin : State → Ident → Bool → Bool
 cannot_begin s j true = nat_le depth_end (length j)
 cannot_begin s j false = s.next == number_end
 
-abbrev is_worklet : List ℕ → Conclusion → Bool
+abbrev pub is_worklet : List ℕ → Conclusion → Bool
 is_worklet name (Worklet other) = bytes_eq other name
 is_worklet name conclusion = false
 
@@ -198,7 +198,7 @@ same_primitive (primitives.Compensate a) (primitives.Compensate b) = bytes_eq a 
 same_primitive (primitives.Unknown a) (primitives.Unknown b) = bytes_eq a b
 same_primitive p q = false
 
-abbrev is_first : Primitive → List Primitive → Bool
+abbrev pub is_first : Primitive → List Primitive → Bool
 is_first p [] = false
 is_first p (q ∷ qs) = same_primitive p q
 

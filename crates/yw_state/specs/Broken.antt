@@ -91,7 +91,7 @@ abbrev at_item : State → Ident → (ItemAt → Bool) → Bool
 at_item s j p = is_some_and (item_at s j) p
 
 -- so many numbers are no longer left
-abbrev is_spent : State → ℕ → Bool
+abbrev pub is_spent : State → ℕ → Bool
 is_spent s count = nat_lt number_end (s.next + count)
 
 -- something is still to come of itself
@@ -107,11 +107,11 @@ no_target s j = test (is_case_ident j && not (is_case s j)) UnknownCase ∷ test
 abbrev undefined_value : Row → Param → Bool
 undefined_value row p = is_some_and p.value (λ e. is_none (val e row))
 
-abbrev undefined_in : TaskAt → Option (List ℕ)
+abbrev pub undefined_in : TaskAt → Option (List ℕ)
 undefined_in x = option_map (λ (p : Param). p.name) (find (undefined_value x.within.part.vals) x.task.ins)
 
 -- `each`, or the first parameter
-abbrev undefined_entry : TaskAt → Option (List ℕ)
+abbrev pub undefined_entry : TaskAt → Option (List ℕ)
 undefined_entry x = if is_none (elements_for x.task.many x.within.part.vals) then Some (codes "each") else undefined_in x
 
 abbrev var_name : NetAt → ℕ → List ℕ
@@ -151,7 +151,7 @@ launch_checks s name gs =
     ∷ test (is_spent s 1) Numbers
     ∷ []
 
-abbrev misses_bounds : TaskAt → Bool
+abbrev pub misses_bounds : TaskAt → Bool
 misses_bounds x = not (within_bounds x.task.many (length (unwrap_or (entry_values x.task x.within.part.vals) [])))
 
 abbrev entry_count : TaskAt → ℕ

@@ -66,7 +66,7 @@ has_place spec net task kind = false
 abbrev pub is_tree_place : Spec → TreePlace → Bool
 is_tree_place spec p = has_place spec p.net p.task p.kind
 
-abbrev case_place : NetPart → TreeKind → TreePlace
+abbrev pub case_place : NetPart → TreeKind → TreePlace
 case_place n kind = record { spec = n.spec; net = None; task = None; kind = kind }
 
 abbrev pub task_place : TaskAt → TreeKind → TreePlace

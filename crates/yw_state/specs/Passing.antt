@@ -113,14 +113,14 @@ is_defined t rows vals = list_all (λ (a : Assign). is_some (val a.value (set_ro
 
 -- ---- the split
 
-abbrev is_true : Row → Branch → Bool
+abbrev pub is_true : Row → Branch → Bool
 is_true row b = is_some_and b.when (λ e. holds e row)
 
-abbrev leads_to : (Branch → Bool) → List Branch → List ℕ
+abbrev pub leads_to : (Branch → Bool) → List Branch → List ℕ
 leads_to p bs = map (λ (b : Branch). b.to) (filter p bs)
 
 -- the places of the branches that are true, or of the default where none is
-abbrev true_places : List Branch → Row → List ℕ
+abbrev pub true_places : List Branch → Row → List ℕ
 true_places bs row = true_or_default (leads_to (is_true row) bs)
   where
     true_or_default : List ℕ → List ℕ
