@@ -1,4 +1,4 @@
--- The branches of a split share out the places behind its task, as those of the document share out where its flows lead.
+-- The branches of a split share out the places after its task, as those of the document share out where its flows lead.
 use Rattle.std.specs.Prelude.{◌≡◌, ◌+◌, ◌==◌, ◌&&◌, ◌||◌, ℕ, Bool, true, false, List, [], ◌∷◌, count_by, cond, length, map, nat_eq, None, Option, Some, is_none, slice_get, refl, if◌then◌else◌}
 use Rattle.std.specs.List.{All, AllZip, list_all}
 use Rattle.std.specs.Str.{bytes_eq}
@@ -83,7 +83,7 @@ module _ (net : RawNet) (name : List ℕ) (task : is_task net name ≡ true) (ap
     branch_at : (rb : RawBranch) (b : Branch) → IsBranch net said rb b → IsPlaceOf net (flow_to rb.to) b.to
     branch_at rb b is = is.to ∙ ap (λ (n : List ℕ). Some (place_of net (record { from = n; to = rb.to }))) called
 
-    -- each branch leads to a place behind the task
+    -- each branch leads to a place after the task
     branch_among : (rb : RawBranch) (b : Branch) → IsBranch net said rb b → (fs : List RawFlow) (cs : List ℕ) → All IsFrom fs → AllZip (IsPlaceOf net) fs cs → is_among (map (λ (f : RawFlow). f.to) fs) rb.to ≡ true
         → numbers.is_among cs b.to ≡ true
     branch_among rb b is [] [] from zip among = never among
@@ -111,7 +111,7 @@ module _ (net : RawNet) (name : List ℕ) (task : is_task net name ≡ true) (ap
         let from = filter_passes (λ (flow : RawFlow). bytes_eq flow.from name) net.flows in
         and_from _ _ (branch_among rb b zip.0 (flows_from net name) cs from after parts.0) (all_among rbs bs zip.1 cs after parts.1)
 
-    -- each place behind the task has one branch
+    -- each place after the task has one branch
     module _ (rbs : List RawBranch) (bs : List Branch) (zip : AllZip (IsBranch net said) rbs bs) where
       each_once : (fs : List RawFlow) (cs : List ℕ) → All IsFrom fs → AllZip (IsPlaceOf net) fs cs
           → list_all (λ output. count_by (λ (rb : RawBranch). bytes_eq output rb.to) rbs == 1) (map (λ (f : RawFlow). f.to) fs) ≡ true → list_all (λ c. count_by (λ (b : Branch). b.to == c) bs == 1) cs ≡ true

@@ -1,4 +1,4 @@
--- What flows tell of a task of an accepted document: which places stand before and behind it, and that one stands before it.
+-- What flows tell of a task of an accepted document: which places stand before and after it, and that one stands before it.
 use Rattle.std.specs.Prelude.{◌≡◌, ◌≤◌, ◌<◌, ◌||◌, ℕ, zero, suc, Bool, true, List, [], ◌∷◌, ◌++◌, map, filter, length, get_or, cond, None, refl, if◌then◌else◌}
 use Rattle.std.specs.List.{All, AllZip, list_all, list_any}
 use Rattle.std.specs.Str.{bytes_eq}
@@ -70,7 +70,7 @@ module _ (net : RawNet) where
       (named_are_named (named_places net) (all_left (λ n. is_usable n ≡ true) (named_places net) (task_names net.task) named.nodes_are.usable))
       (betweens net.flows leads.from leads.to named.nodes_are.usable)
 
-  -- ---- places before and behind a task
+  -- ---- places before and after a task
 
   pub flows_within : (fs : List RawFlow) (cs : List ℕ) → AllZip (IsPlaceOf net) fs cs → list_all (has_number (places_of net)) cs ≡ true
   flows_within fs cs zip = all_made (IsPlaceOf net) (has_number (places_of net)) (λ f c at. has_it (places_of net) c (place_of net f) at) fs cs zip

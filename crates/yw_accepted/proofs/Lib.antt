@@ -1,4 +1,11 @@
+pub mod Found
+pub mod Expressions
+pub mod Items
+pub mod Exits
+pub mod Levels
+pub mod Soundness
 pub mod Numbered
 pub mod Flows
 pub mod Branches
 pub mod Whole
+pub mod Loaded

@@ -1,4 +1,4 @@
--- An accepted specification is within, by the checks that find nothing.
+-- A specification in which the checks find nothing is within.
 use Rattle.std.specs.Prelude.{◌≡◌, ℕ, true, not, List, [], ◌∷◌, map, filter, Option, Some, None, get_or, is_some, option_and_then, option_map, slice_get, refl}
 use Rattle.std.specs.List.{All, AllZip, list_all}
 use Rattle.std.proofs.Common.{sym, ◌∙◌, ap, subst}
@@ -12,11 +12,10 @@ use Rattle.yw_accept.specs.Names.{FlowsFit, NamesFit, is_usable}
 use Rattle.yw_accept.specs.Nodes.{is_task, named_places, net_names, nodes, task_names}
 use Rattle.yw_accept.specs.Verdict.{IsVerdict}
 use Rattle.yw_base.specs.Spelling.{is_name}
-use Rattle.yw_invariant.proofs.Accepted.{accepted_are_sound}
-use Rattle.yw_invariant.proofs.AcceptedExits.{is_called}
-use Rattle.yw_invariant.proofs.Found.{all_at, zip_at, zip_names}
-use Rattle.yw_invariant.specs.Sound.{IsSound}
-use Rattle.yw_model.specs.Texts.{reader}
+use Rattle.yw_accepted.proofs.Exits.{is_called}
+use Rattle.yw_accepted.proofs.Found.{all_at, zip_at, zip_names}
+use Rattle.yw_sound.specs.Sound.{IsSound}
+use Rattle.yw_read.specs.Inits.{HasInits}
 use Rattle.yw_read.specs.declared.raw.RawIn.{RawIn}
 use Rattle.yw_read.specs.declared.raw.RawKind.{RawKind}
 use Rattle.yw_read.specs.declared.raw.RawKind.TheVariants as raw_kinds
@@ -41,9 +40,10 @@ use Rattle.yw_spec.specs.declared.task.Task.{Task}
 use Rattle.yw_state.proofs.Tests.{nowhere, some_same}
 use Rattle.yw_state.specs.Allowed.{element_param}
 use Rattle.yw_state.specs.Nets.{child_net}
-use Rattle.yw_within.specs.Within.{IsWithin, NetIsWithin, ReadsWithin, SplitFits, TaskIsWithin, are_places, has_number, is_named_place}
+use Rattle.yw_within.specs.Within.{IsWithin, NetIsWithin, SplitFits, TaskIsWithin, are_places, has_number, is_named_place}
 use Rattle.yw_accepted.proofs.Branches.{split_right}
 use Rattle.yw_accepted.proofs.Flows.{flows_within, names_all, paths_fit, places_named, some_before, usable_is_name}
+use Rattle.yw_accepted.proofs.Soundness.{is_sound}
 use Rattle.yw_accepted.proofs.Numbered.{all_made, has_called, has_first, has_second, map_has, named_at, place_at, zip_has}
 
 -- ---- a task
@@ -136,12 +136,12 @@ module _ (raw : RawSpec) (verdict : IsVerdict raw None) (spec : Spec) (is_spec :
       each_task = task_within;
     }
 
-  is_within : IsWithin spec
+  pub is_within : IsWithin spec
   is_within = record {
     name = ap is_name is_spec.name ∙ usable_is_name raw.name (is_named raw names_fit).name;
     top = zip_has (IsNet raw) raw.net spec.nets is_spec.nets spec.top (has_called (λ (n : RawNet). n.name) raw.net spec.top raw.top is_spec.top);
     nets = λ k net at. let (rn, rat, built) = zip_at (IsNet raw) raw.net spec.nets is_spec.nets k net at in net_within rn k rat net at built;
   }
 
-pub accepted_are_within : ReadsWithin reader
-accepted_are_within text spec accepted = is_within accepted.raw accepted.accepted spec accepted.is_spec (accepted_are_sound text spec accepted)
+pub checked_is_within : (raw : RawSpec) (spec : Spec) → HasInits raw → IsVerdict raw None → IsSpec raw spec → IsWithin spec
+checked_is_within raw spec inits verdict is_spec = is_within raw verdict spec is_spec (is_sound raw verdict inits spec is_spec)

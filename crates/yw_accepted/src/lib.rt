@@ -1,20 +1,39 @@
-//! What each specification has that can be loaded, by the checks that find nothing: it is within (`IsWithin` of `yw_within`). So is
-//! what is loaded in a state that is reached. Each law is the contract of a function that does nothing.
+//! What each specification has in which the twelve checks find nothing: it is sound (`IsSound` of `yw_sound`) and within (`IsWithin` of
+//! `yw_within`), whatever of it is built. So is each that can be loaded. Each law is the contract of a function that does nothing.
 #![tactic(auto)]
 
-ghost use Rattle.std.specs.Prelude.{List};
+ghost use Rattle.std.specs.Prelude.{◌≡◌, ℕ, List, None, Ok};
+ghost use Rattle.yw_accept.specs.Built.{IsSpec};
+ghost use Rattle.yw_accept.specs.Verdict.{IsVerdict};
 ghost use Rattle.yw_model.specs.Texts.{reader};
-ghost use Rattle.yw_state.specs.Events.{LeadAll};
-ghost use Rattle.yw_state.specs.State.{State, opening};
-ghost use Rattle.yw_state.specs.declared.event.Event.{Event};
-ghost use Rattle.yw_within.specs.Within.{HoldsWithin, ReadsWithin};
+ghost use Rattle.yw_read.specs.Inits.{HasInits};
+ghost use Rattle.yw_read.specs.Reading.{spec_in};
+ghost use Rattle.yw_read.specs.declared.raw.RawSpec.{RawSpec};
+ghost use Rattle.yw_sound.specs.Sound.{IsSound, ReadsSound};
+ghost use Rattle.yw_spec.specs.declared.spec.Spec.{Spec};
+ghost use Rattle.yw_within.specs.Within.{IsWithin, ReadsWithin};
 
-/// Each specification that can be loaded, which is accepted and uses what is built alone, is within.
-pub fn accepted_are_within()
-    ensures { ReadsWithin reader }
+/// What a text says gives each variable a first value of its sort, within the limits, where it gives one.
+pub fn said_has_inits()
+    ensures { (text : List ℕ) (raw : RawSpec) → spec_in text ≡ Ok raw → HasInits raw }
 {}
 
-/// What is loaded in each state to which allowed events lead from the opening is within.
-pub fn reached_holds_within()
-    ensures { (es : List Event) (t : State) → LeadAll reader opening es t → HoldsWithin t }
+/// A specification in which the checks find nothing, and whose first values are of their sorts, is sound.
+pub fn checked_is_sound()
+    ensures { (raw : RawSpec) (spec : Spec) → HasInits raw → IsVerdict raw None → IsSpec raw spec → IsSound spec }
+{}
+
+/// It is within.
+pub fn checked_is_within()
+    ensures { (raw : RawSpec) (spec : Spec) → HasInits raw → IsVerdict raw None → IsSpec raw spec → IsWithin spec }
+{}
+
+/// Each specification that can be loaded, which is accepted and uses what is built alone, is sound.
+pub fn accepted_are_sound()
+    ensures { ReadsSound reader }
+{}
+
+/// Each specification that can be loaded is within.
+pub fn accepted_are_within()
+    ensures { ReadsWithin reader }
 {}

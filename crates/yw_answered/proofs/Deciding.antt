@@ -10,7 +10,7 @@ use Rattle.yw_asked.specs.Asked.{HasEvent}
 use Rattle.yw_expr.specs.Tree.{Tree}
 use Rattle.yw_model.proofs.Lacking.{decided, follows, here}
 use Rattle.yw_lines.specs.Replies.{done, refused}
-use Rattle.yw_model.specs.Run.{CannotLack}
+use Rattle.yw_model.specs.Run.{CannotLack, Entry}
 use Rattle.yw_model.specs.Texts.{reader}
 use Rattle.yw_spec.specs.declared.spec.Spec.{Spec}
 use Rattle.yw_state.specs.Broken.{Breaks, Check, First, checks, fact, fact_at, fault, placed, placeless, test, test_at}
@@ -116,4 +116,5 @@ module _ (reads : ReadsAll reader) (s : State) (n : ℕ) (well : IsWell reader s
       by_found : (found : Option Refusal) → Breaks reader s c found → CommandHasAnswer s n c
       by_found (Some refusal) breaks = here (record { taken = []; reply = refused n refusal }, s, (Some refusal, breaks, record { nothing = refl; told = refl; same = refl }))
       by_found None breaks = follows (unbroken_has_entry reader reads s well holds c right breaks) (λ e.
-          here (record { taken = e.0 ∷ []; reply = done n e.0 e.1 }, e.2, (None, breaks, record { entry = e.0; quiet = e.1; legal = e.3; one = refl; told = refl })))
+          let entry : Entry = record { events = e.0; quiet = e.1 } in
+          here (record { taken = entry ∷ []; reply = done n e.0 e.1 }, e.2, (None, breaks, record { entry = entry; legal = e.3; one = refl; told = refl })))

@@ -1,6 +1,8 @@
 pub mod Lexing
 pub mod Parsing
 pub mod Reading
+pub mod Reached
 pub mod Deciding
 pub mod LinesGiven
 pub mod LinesAnswered
+pub mod Runs

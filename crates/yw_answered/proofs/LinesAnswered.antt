@@ -1,6 +1,6 @@
 -- In a state that is well no line lacks an answer.
 use Rattle.std.specs.Prelude.{ℕ, List, [], Result, Ok, Err, refl}
-use Rattle.yw_accepted.proofs.Whole.{accepted_are_within}
+use Rattle.yw_accepted.proofs.Loaded.{accepted_are_within}
 use Rattle.yw_model.proofs.Lacking.{here}
 use Rattle.yw_lines.specs.Meaning.{meaning}
 use Rattle.yw_lines.specs.Replies.{refused}

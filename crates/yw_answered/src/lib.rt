@@ -1,16 +1,19 @@
 //! No line lacks an answer in a state that is well, whichever words are built. Each command breaks a first rule or none, and one that breaks
-//! none has an entry: one law for all commands. Each law is the contract of a function that does nothing.
+//! none has an entry: one law for all commands. A state that is well stays so over what comes of lines, so that no lines lack a run. Each law
+//! is the contract of a function that does nothing.
 #![tactic(auto)]
 
 ghost use Rattle.std.specs.Prelude.{ℕ, List, None};
 ghost use Rattle.yw_answered.specs.Answered.{CommandHasAnswer, IsGivenRightly, FindsRule, LineHasAnswer, ReadsAll};
-ghost use Rattle.yw_model.specs.Run.{CannotLack};
+ghost use Rattle.yw_model.specs.Run.{Answers, CannotLack, EntriesLead, HasRun, Run, Step, taken_by};
 ghost use Rattle.yw_model.specs.Texts.{reader};
 ghost use Rattle.yw_lines.specs.declared.word.Word.{Word};
 ghost use Rattle.yw_state.specs.Broken.{Breaks};
-ghost use Rattle.yw_state.specs.State.{State};
+ghost use Rattle.yw_state.specs.Events.{LeadAll};
+ghost use Rattle.yw_state.specs.State.{State, opening};
 ghost use Rattle.yw_state.specs.Well.{IsWell};
 ghost use Rattle.yw_state.specs.declared.command.Command.{Command};
+ghost use Rattle.yw_state.specs.declared.event.Event.{Event};
 ghost use Rattle.yw_turns.specs.Turns.{HasEntry};
 ghost use Rattle.yw_within.specs.Within.{HoldsWithin};
 
@@ -40,4 +43,34 @@ pub fn command_has_answer()
 /// In a state that is well, each line has an answer, whichever words are built.
 pub fn line_has_answer()
     ensures { (built : List Word) (s : State) (n : ℕ) (line : List ℕ) → IsWell reader s → LineHasAnswer built s n line }
+{}
+
+/// Each state to which allowed events lead from the opening is well. What they load are texts that can be loaded today.
+pub fn reached_is_well()
+    ensures { (es : List Event) (t : State) → LeadAll reader opening es t → IsWell reader t }
+{}
+
+/// What is loaded in each such state is within.
+pub fn reached_holds_within()
+    ensures { (es : List Event) (t : State) → LeadAll reader opening es t → HoldsWithin t }
+{}
+
+/// The entries that a run takes lead to its state: the events of each are allowed in their turn.
+pub fn taken_lead()
+    ensures { (s t : State) (n : ℕ) (lines : List (List ℕ)) (steps : List Step) → Run s n lines steps t → EntriesLead reader s (taken_by steps) t }
+{}
+
+/// A state that is well stays so over what comes of a line.
+pub fn answers_keep_well()
+    ensures { (s t : State) (n : ℕ) (line : List ℕ) (step : Step) → IsWell reader s → Answers s n line step t → IsWell reader t }
+{}
+
+/// It stays so over what comes of lines.
+pub fn run_keeps_well()
+    ensures { (s t : State) (n : ℕ) (lines : List (List ℕ)) (steps : List Step) → IsWell reader s → Run s n lines steps t → IsWell reader t }
+{}
+
+/// In a state that is well, lines can't be lacking a run.
+pub fn lines_have_run()
+    ensures { (s : State) (n : ℕ) (lines : List (List ℕ)) → IsWell reader s → HasRun s n lines }
 {}

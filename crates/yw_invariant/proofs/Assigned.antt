@@ -12,9 +12,8 @@ use Rattle.yw_base.specs.declared.value.Value.{Value}
 use Rattle.yw_base.specs.declared.value.Value.TheVariants as values
 use Rattle.yw_expr.specs.Meaning.{val}
 use Rattle.yw_expr.specs.Small.{HasSmallConstants}
-use Rattle.yw_invariant.proofs.Expressions.{gives_fits, holds, vals_hold}
-use Rattle.yw_invariant.proofs.Values.{zero_fits}
-use Rattle.yw_invariant.specs.Sound.{Assigns, HasSmallAssigns, set_sorts}
+use Rattle.yw_sound.proofs.Giving.{gives_fits, holds, vals_hold, zero_fits}
+use Rattle.yw_sound.specs.Sound.{Assigns, HasSmallAssigns, set_sorts}
 use Rattle.yw_spec.specs.declared.spec.Net.{Net}
 use Rattle.yw_spec.specs.declared.spec.Var.{Var}
 use Rattle.yw_spec.specs.declared.task.Assign.{Assign}

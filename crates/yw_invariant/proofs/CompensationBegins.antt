@@ -11,7 +11,7 @@ use Rattle.yw_invariant.proofs.Places.{deep_is_no_case}
 use Rattle.yw_invariant.proofs.RunsGoOn as runs
 use Rattle.yw_invariant.proofs.Turning.{Begins, Turns, turned_is_well, same_option}
 use Rattle.yw_invariant.proofs.Values.{GivesSmall, given_small, vars_small_found}
-use Rattle.yw_invariant.specs.Sound.{ReadsSound}
+use Rattle.yw_sound.specs.Sound.{ReadsSound}
 use Rattle.yw_state.proofs.Alike.{net_by, net_in}
 use Rattle.yw_state.proofs.Gone.{same_item_at}
 use Rattle.yw_state.proofs.MapLemmas.{by_name, by_option, get-update_same, nowhere, some_same}

@@ -9,7 +9,7 @@ use Rattle.yw_invariant.proofs.PrimitivesWell as primitives
 use Rattle.yw_invariant.proofs.RunsBegin as runs_begin
 use Rattle.yw_invariant.proofs.TasksEntered as entering
 use Rattle.yw_invariant.proofs.WorkletBegins as worklets
-use Rattle.yw_invariant.specs.Sound.{ReadsSound}
+use Rattle.yw_sound.specs.Sound.{ReadsSound}
 use Rattle.yw_state.proofs.AddRuleWell as add_rule
 use Rattle.yw_state.proofs.EndWell as ending
 use Rattle.yw_state.proofs.LaunchWell as launching

@@ -16,7 +16,7 @@ use Rattle.yw_invariant.proofs.NetGoesOn.{KeepsNet, goes_on_is_well, net_here_no
 use Rattle.yw_invariant.proofs.NetsEnd.{is_not_select}
 use Rattle.yw_invariant.proofs.Tasks.{OfTask, net_sound, of_spec, part_of, task_there}
 use Rattle.yw_invariant.proofs.TokensFit.{apart_where, count, given_few, given_length, none_on, one_on, room_once_wiped, wiped_few, wiped_length}
-use Rattle.yw_invariant.specs.Sound.{ReadsSound, TaskIsSound, are_apart}
+use Rattle.yw_sound.specs.Sound.{ReadsSound, TaskIsSound, are_apart}
 use Rattle.yw_spec.specs.declared.spec.Net.{Net}
 use Rattle.yw_spec.specs.declared.spec.Place.{Place}
 use Rattle.yw_spec.specs.declared.task.Task.{Task}

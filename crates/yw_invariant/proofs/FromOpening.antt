@@ -1,9 +1,8 @@
--- What accepted texts and allowed events lead to is well.
+-- What allowed events lead to from the opening is well, where specifications are sound.
 use Rattle.std.specs.Prelude.{◌≡◌, true, List, [], ◌∷◌}
 use Rattle.std.proofs.Common.{sym, subst, arith}
-use Rattle.yw_invariant.proofs.Accepted.{accepted_are_sound}
 use Rattle.yw_invariant.proofs.EventsWell.{event_keeps_well}
-use Rattle.yw_model.specs.Texts as texts
+use Rattle.yw_sound.specs.Sound.{ReadsSound}
 use Rattle.yw_state.proofs.MapLemmas.{never, nowhere}
 use Rattle.yw_state.specs.Events.{LeadAll}
 use Rattle.yw_state.specs.State.{State, no_checks, opening}
@@ -22,7 +21,7 @@ none_due Post e = never e
 none_due kind e = never e
 
 -- nothing stands there
-opening_is_well : (reader : Reader) → IsWell reader opening
+pub opening_is_well : (reader : Reader) → IsWell reader opening
 opening_is_well reader =
     record {
       numbers = record {
@@ -73,10 +72,11 @@ opening_is_well reader =
       depth = λ j n k e. nowhere e;
     }
 
--- from any state on that is well
-goes_on : (es : List Event) (s t : State) → IsWell texts.reader s → LeadAll texts.reader s es t → IsWell texts.reader t
-goes_on [] s t well same = subst (IsWell texts.reader) (sym same) well
-goes_on (e ∷ es) s t well (mid, first, rest) = goes_on es mid t (event_keeps_well texts.reader accepted_are_sound s well e mid first) rest
+-- events that are allowed in their turn keep a state well
+module _ (reader : Reader) (sound : ReadsSound reader) where
+  pub events_keep_well : (es : List Event) (s t : State) → IsWell reader s → LeadAll reader s es t → IsWell reader t
+  events_keep_well [] s t well same = subst (IsWell reader) (sym same) well
+  events_keep_well (e ∷ es) s t well (mid, first, rest) = events_keep_well es mid t (event_keeps_well reader sound s well e mid first) rest
 
-pub reached_is_well : (es : List Event) (t : State) → LeadAll texts.reader opening es t → IsWell texts.reader t
-reached_is_well es t = goes_on es opening t (opening_is_well texts.reader)
+  pub reached_is_well : (es : List Event) (t : State) → LeadAll reader opening es t → IsWell reader t
+  reached_is_well es t = events_keep_well es opening t (opening_is_well reader)

@@ -12,7 +12,7 @@ use Rattle.yw_spec.specs.declared.spec.Net.{Net}
 use Rattle.yw_spec.specs.declared.spec.Spec.{Spec}
 use Rattle.yw_spec.specs.declared.task.Param.{Param}
 use Rattle.yw_spec.specs.declared.task.Task.{Task}
-use Rattle.yw_invariant.specs.Sound.{ParamIsSound, TaskIsSound}
+use Rattle.yw_sound.specs.Sound.{ParamIsSound, TaskIsSound}
 use Rattle.yw_state.proofs.Tests.{map_some, some_same, then_some}
 use Rattle.yw_state.specs.Allowed.{element_param}
 use Rattle.yw_state.specs.Options.{all_of}

@@ -15,7 +15,7 @@ use Rattle.yw_invariant.proofs.ItemComes.{ItemMayCome, item_come_is_well, item_i
 use Rattle.yw_invariant.proofs.Levels.{net_is_short}
 use Rattle.yw_invariant.proofs.Tasks.{OfTask, task_there}
 use Rattle.yw_invariant.proofs.Tasks as tasks
-use Rattle.yw_invariant.specs.Sound.{ReadsSound}
+use Rattle.yw_sound.specs.Sound.{ReadsSound}
 use Rattle.yw_state.proofs.Alike.{all_weaker, net_by}
 use Rattle.yw_state.proofs.ChangeWell.{read_kept}
 use Rattle.yw_state.proofs.EntryCounts.{length-update}

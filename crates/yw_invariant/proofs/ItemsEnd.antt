@@ -12,7 +12,7 @@ use Rattle.yw_invariant.proofs.ReadyItems as items
 use Rattle.yw_invariant.proofs.Tasks as tasks
 use Rattle.yw_invariant.proofs.Turning.{Turns, same_option, turned_is_well}
 use Rattle.yw_invariant.proofs.Values.{child_fits}
-use Rattle.yw_invariant.specs.Sound.{HasVar, ReadsSound}
+use Rattle.yw_sound.specs.Sound.{HasVar, ReadsSound}
 use Rattle.yw_state.proofs.Alike.{due_test}
 use Rattle.yw_state.proofs.ItemWell.{renewed}
 use Rattle.yw_state.proofs.MapLemmas.{by_option, never, nowhere, some_same}

@@ -9,7 +9,7 @@ use Rattle.yw_spec.specs.declared.spec.Spec.{Spec}
 use Rattle.yw_invariant.proofs.Places.{shorter}
 use Rattle.yw_invariant.proofs.ReadyItems as items
 use Rattle.yw_invariant.proofs.Tasks as tasks
-use Rattle.yw_invariant.specs.Sound.{HasChild, ReadsSound}
+use Rattle.yw_sound.specs.Sound.{HasChild, ReadsSound}
 use Rattle.yw_state.proofs.MapLemmas.{by_option, by_test, never, some_same}
 use Rattle.yw_state.proofs.Tests.{there_and, then_some}
 use Rattle.yw_state.specs.Identity.{Ident, is_case_ident, parent}

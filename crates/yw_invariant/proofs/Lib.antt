@@ -7,12 +7,6 @@ pub mod ReadyItems
 pub mod RunsGoOn
 pub mod NetsEnd
 pub mod NetsBegin
-pub mod Found
-pub mod Expressions
-pub mod AcceptedItems
-pub mod AcceptedExits
-pub mod AcceptedLevels
-pub mod Accepted
 pub mod Tasks
 pub mod CutBack
 pub mod CompensationBegins

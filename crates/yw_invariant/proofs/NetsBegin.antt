@@ -12,7 +12,7 @@ use Rattle.yw_invariant.proofs.Places.{deep_is_no_case, shorter}
 use Rattle.yw_invariant.proofs.ReadyItems as items
 use Rattle.yw_invariant.proofs.Turning.{Begins, Turns, turned_is_well, same_option}
 use Rattle.yw_invariant.proofs.Values.{GivesSmall, first_values_fit, given_small}
-use Rattle.yw_invariant.specs.Sound.{IsSound, ReadsSound, begins_right}
+use Rattle.yw_sound.specs.Sound.{IsSound, ReadsSound, begins_right}
 use Rattle.yw_state.proofs.Alike.{item_in, net_by, net_in}
 use Rattle.yw_state.proofs.Clear.{none_due}
 use Rattle.yw_state.proofs.ItemWell.{renewed}

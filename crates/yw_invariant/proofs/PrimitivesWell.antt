@@ -10,7 +10,7 @@ use Rattle.yw_invariant.proofs.CompensationBegins.{compensated_is_well}
 use Rattle.yw_invariant.proofs.CutBack.{completed_is_well, restarted_is_well}
 use Rattle.yw_invariant.proofs.Places.{shorter, under_its_case, under_parent}
 use Rattle.yw_invariant.proofs.RunsGoOn as runs
-use Rattle.yw_invariant.specs.Sound.{ReadsSound}
+use Rattle.yw_sound.specs.Sound.{ReadsSound}
 use Rattle.yw_state.proofs.Absent.{part-kept}
 use Rattle.yw_state.proofs.Alike.{asked_of, may_be_due}
 use Rattle.yw_state.proofs.ChangeWell.{MayChange, change_is_well}

@@ -7,7 +7,7 @@ use Rattle.yw_invariant.proofs.Levels as levels
 use Rattle.yw_invariant.proofs.Places.{shorter}
 use Rattle.yw_invariant.proofs.ReadyItems as items
 use Rattle.yw_invariant.proofs.Tasks as tasks
-use Rattle.yw_invariant.specs.Sound.{ReadsSound}
+use Rattle.yw_sound.specs.Sound.{ReadsSound}
 use Rattle.yw_state.proofs.Alike.{case_asks, item_asks}
 use Rattle.yw_state.proofs.MapLemmas.{by_option, by_test, never}
 use Rattle.yw_state.proofs.RaiseWell as raising

@@ -7,7 +7,7 @@ use Rattle.yw_spec.specs.declared.task.Kind.{Kind}
 use Rattle.yw_spec.specs.declared.task.Kind.TheVariants as kinds
 use Rattle.yw_spec.specs.declared.task.Task.{Task}
 use Rattle.yw_invariant.proofs.NetsBegin.{loaded_sound}
-use Rattle.yw_invariant.specs.Sound.{NetIsSound, ReadsSound, TaskIsSound}
+use Rattle.yw_sound.specs.Sound.{NetIsSound, ReadsSound, TaskIsSound}
 use Rattle.yw_state.proofs.Alike.{asked_of, net_by}
 use Rattle.yw_state.proofs.MapLemmas.{by_option, never, some_same}
 use Rattle.yw_state.proofs.Tests.{map_some, or_cases, then_some}

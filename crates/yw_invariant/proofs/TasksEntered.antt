@@ -12,7 +12,7 @@ use Rattle.yw_invariant.proofs.NetGoesOn.{KeepsNet, count_same, goes_on_is_well,
 use Rattle.yw_invariant.proofs.Tasks.{OfTask, task_there}
 use Rattle.yw_invariant.proofs.Tasks as tasks
 use Rattle.yw_invariant.proofs.TokensFit.{one_less, taken_few, taken_length}
-use Rattle.yw_invariant.specs.Sound.{ReadsSound}
+use Rattle.yw_sound.specs.Sound.{ReadsSound}
 use Rattle.yw_state.proofs.MapLemmas.{by_option, by_test, never, some_same}
 use Rattle.yw_state.proofs.Tests.{map_some, then_some}
 use Rattle.yw_state.specs.After.{add_items, enter, take, where_some, with_next}

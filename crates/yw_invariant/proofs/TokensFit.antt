@@ -3,8 +3,8 @@ use Rattle.std.specs.Prelude.{◌≡◌, ◌⊎◌, ◌≤◌, ◌<◌, ◌+◌,
 use Rattle.std.proofs.Common.{sym, ◌∙◌, ap, subst, inl, inr, arith, length-set}
 use Rattle.std.proofs.lemmas.Bool.{and_from, and_parts, eq-eqb, eqb-true, ltb-true, not-true, not_from_false}
 use Rattle.std.proofs.lemmas.List.Elements.{All-set}
-use Rattle.yw_invariant.proofs.Found.{all_at}
-use Rattle.yw_invariant.specs.Sound.{are_apart}
+use Rattle.std.proofs.lemmas.Option.{get_or_from_slice_get, slice_get_within}
+use Rattle.yw_sound.specs.Sound.{are_apart}
 use Rattle.yw_state.proofs.MapLemmas.{never}
 use Rattle.yw_state.proofs.Tests.{or_cases}
 use Rattle.yw_state.specs.Allowed.{most_tokens}
@@ -44,7 +44,8 @@ taken_length (c ∷ cs) tokens = taken_length cs (one_less tokens c) ∙ length-
 
 less_than_there : (tokens : List ℕ) (c : ℕ) → AreFew tokens → (o : Option ℕ) → slice_get tokens c ≡ o → unwrap_or o 0 - 1 ≤ most_tokens
 less_than_there tokens c few None e = omega arith
-less_than_there tokens c few (Some k) e = let less = all_at (λ k. k ≤ most_tokens) tokens few c k e in omega (arith, less)
+less_than_there tokens c few (Some k) e =
+    let less = few c k (slice_get_within tokens c k e) in let is = get_or_from_slice_get tokens c k k e in omega (arith, less, is)
 
 pub taken_few : (cs tokens : List ℕ) → AreFew tokens → AreFew (fold one_less tokens cs)
 taken_few [] tokens few = few

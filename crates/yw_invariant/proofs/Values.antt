@@ -8,11 +8,11 @@ use Rattle.std.proofs.lemmas.List.Elements.{All-head, All-tail, All-weaker}
 use Rattle.std.specs.Str.{bytes_eq}
 use Rattle.yw_base.specs.Values.{has_sort, is_small, may_hold, zero_of}
 use Rattle.yw_base.specs.declared.value.Sort.{Sort}
-use Rattle.yw_base.specs.declared.value.Sort.TheVariants as sorts
 use Rattle.yw_base.specs.declared.value.Value.{Value}
 use Rattle.yw_spec.specs.declared.spec.Var.{Var}
 use Rattle.yw_spec.specs.declared.task.Param.{Param}
-use Rattle.yw_invariant.specs.Sound.{HasVar}
+use Rattle.yw_sound.proofs.Giving.{zero_fits}
+use Rattle.yw_sound.specs.Sound.{HasVar}
 use Rattle.yw_state.proofs.MapLemmas.{never, by_test, by_option, nowhere, some_same}
 use Rattle.yw_state.specs.ByName.{Named, given_named, made_by_child, made_by_worklet, made_of_given, of_sort, var_named}
 use Rattle.yw_base.specs.Usages.{comes_in, goes_out}
@@ -20,13 +20,6 @@ use Rattle.yw_state.specs.Passing.{row_fits}
 use Rattle.yw_state.specs.State.{NetAt, ItemAt}
 use Rattle.yw_state.specs.Values.{Row}
 use Rattle.yw_state.specs.Well.{ItemFits, NetFits, vals_fit}
-
-pub zero_fits : (sort : Sort) → may_hold sort (zero_of sort) ≡ true
-zero_fits sorts.Bool = refl
-zero_fits sorts.Int = refl
-zero_fits sorts.Text = refl
-zero_fits sorts.Ints = refl
-zero_fits sorts.Texts = refl
 
 module _ {A : Type 0} where
   abbrev AreSmall : List (A × Value) → Type 0

@@ -11,7 +11,7 @@ use Rattle.yw_invariant.proofs.ReadyItems as items
 use Rattle.yw_invariant.proofs.Tasks as tasks
 use Rattle.yw_invariant.proofs.Turning.{Begins, Turns, same_option, turned_is_well}
 use Rattle.yw_invariant.proofs.Values.{given_small}
-use Rattle.yw_invariant.specs.Sound.{ReadsSound}
+use Rattle.yw_sound.specs.Sound.{ReadsSound}
 use Rattle.yw_state.proofs.Absent.{part-kept}
 use Rattle.yw_state.proofs.Alike.{due_test, item_in, net_by, net_in}
 use Rattle.yw_state.proofs.ItemWell.{renewed}

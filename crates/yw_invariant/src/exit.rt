@@ -1,6 +1,6 @@
 // A task exits: its items go, what they made is assigned, its removal set is emptied, and tokens come.
 ghost use Rattle.std.specs.Prelude.{ℕ, List};
-ghost use Rattle.yw_invariant.specs.Sound.{ReadsSound};
+ghost use Rattle.yw_sound.specs.Sound.{ReadsSound};
 ghost use Rattle.yw_spec.specs.declared.spec.Place.{Place};
 ghost use Rattle.yw_state.specs.Allowed.{Allowed};
 ghost use Rattle.yw_state.specs.Events.{after};

@@ -1,7 +1,7 @@
 // Items of a task come.
 ghost use Rattle.std.specs.Prelude.{ℕ, List};
 ghost use Rattle.yw_base.specs.declared.value.Value.{Value};
-ghost use Rattle.yw_invariant.specs.Sound.{ReadsSound};
+ghost use Rattle.yw_sound.specs.Sound.{ReadsSound};
 ghost use Rattle.yw_spec.specs.declared.spec.Place.{Place};
 ghost use Rattle.yw_state.specs.Allowed.{Allowed};
 ghost use Rattle.yw_state.specs.Events.{after};

@@ -1,6 +1,6 @@
 // A net begins at an item, or is at its end and goes with all under it; or an item is done without one.
 ghost use Rattle.std.specs.Prelude.{ℕ, List};
-ghost use Rattle.yw_invariant.specs.Sound.{ReadsSound};
+ghost use Rattle.yw_sound.specs.Sound.{ReadsSound};
 ghost use Rattle.yw_state.specs.Allowed.{Allowed};
 ghost use Rattle.yw_state.specs.Events.{after};
 ghost use Rattle.yw_state.specs.Identity.{Ident};

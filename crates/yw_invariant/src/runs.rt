@@ -1,6 +1,6 @@
 // A run of an exlet begins, or goes on.
 ghost use Rattle.std.specs.Prelude.{ℕ};
-ghost use Rattle.yw_invariant.specs.Sound.{ReadsSound};
+ghost use Rattle.yw_sound.specs.Sound.{ReadsSound};
 ghost use Rattle.yw_state.specs.Allowed.{Allowed};
 ghost use Rattle.yw_state.specs.Events.{after};
 ghost use Rattle.yw_state.specs.Identity.{Ident};

@@ -1,4 +1,4 @@
--- What a line asks is as lines are written, and no line lacks an answer.
+-- What a line asks is as lines are written, and what comes of a line is what comes of its meaning.
 use Rattle.std.proofs.Common.{◌≡◌, ℕ, ◌+◌, take, ◌∷◌, List, [], Bool, true, false, cond, Option, None, Some, Result, Ok, Err, refl, sym, ap, ◌∙◌, subst}
 use Rattle.std.specs.Prelude.{codes, ◌&&◌, nat_le, nat_lt, option_and_then, option_map, ok_or, length}
 use Rattle.std.specs.List.{list_all}
@@ -8,49 +8,30 @@ use Rattle.serde_json.specs.Find.{get, as_array, as_str}
 use Rattle.serde_json.specs.Read.{read}
 use Rattle.toml.specs.Data.{Members}
 use Rattle.toml.specs.Parse.{parse_document}
-use Rattle.yw_accept.specs.Verdict.{IsVerdict}
-use Rattle.yw_accept.specs.declared.broken.Broken.{Broken}
 use Rattle.yw_read.specs.Reading.{spec_from, spec_in, with_shape}
 use Rattle.yw_read.specs.Tables.{spec_table}
 use Rattle.yw_read.specs.declared.raw.RawSpec.{RawSpec}
 use Rattle.yw_read.specs.declared.raw.ReadFault.{ReadFault}
-use Rattle.yw_read.specs.declared.raw.ReadFault.TheVariants.{NotToml, Shape, Memory}
+use Rattle.yw_read.specs.declared.raw.ReadFault.TheVariants.{NotToml, Memory}
 use Rattle.yw_state.specs.declared.command.Asked.{Asked}
 use Rattle.yw_state.specs.declared.command.Asked.TheVariants as asked
 use Rattle.yw_state.specs.declared.command.Command.{Command}
 use Rattle.yw_state.specs.declared.command.Command.TheVariants as commands
-use Rattle.yw_state.specs.declared.event.Event.TheVariants as events
-use Rattle.yw_state.specs.declared.rule.Refusal.{Refusal}
 use Rattle.yw_state.specs.declared.rule.Rule.{Rule}
-use Rattle.yw_state.specs.declared.rule.Rule.TheVariants.{NotCommand, NotBuilt, SpecText, SpecShape, SpecExists}
+use Rattle.yw_state.specs.declared.rule.Rule.TheVariants.{NotCommand}
 use Rattle.yw_lines.specs.declared.word.Word.{Word}
 use Rattle.yw_lines.specs.declared.word.Word.TheVariants as words
-use Rattle.yw_model.specs.Accepted.{document_in, check_refusal, is_built_spec, JudgesSaid}
+use Rattle.yw_model.specs.Accepted.{document_in}
 use Rattle.yw_base.specs.Spelling.{is_name}
 use Rattle.yw_lines.specs.Fields.{field, only_if, has_members, line_text_of, list_of, name_of, one_of, roles_of}
 use Rattle.yw_state.specs.Allowed.{are_roles}
 use Rattle.yw_lines.specs.Lines.{line_limit}
 use Rattle.yw_lines.specs.Meaning.{meaning, text_meaning, value_meaning, word_meaning}
-use Rattle.yw_lines.specs.Replies.{done, refused}
-use Rattle.yw_state.specs.Broken.{Breaks, placeless}
-use Rattle.yw_model.specs.Run.{built_words, CanBeAsked, CannotLack, Step, Refuses, MeaningAnswers, Answers}
+use Rattle.yw_model.specs.Run.{built_words, CanBeAsked, Step, MeaningAnswers, Answers}
 use Rattle.yw_lines.specs.Shapes.{◌>>=◌, person_shape, load_shape}
 use Rattle.yw_lines.specs.Values.{each_of}
 use Rattle.yw_lines.specs.Words.{word_in}
-use Rattle.yw_spec.specs.declared.spec.Spec.{Spec}
-use Rattle.yw_said.proofs.SomeSpec.{says_some}
-use Rattle.yw_state.specs.Automatic.{case_of}
-use Rattle.yw_state.specs.Events.{Leads, after}
-use Rattle.yw_state.specs.Legal.{IsAsked}
-use Rattle.yw_state.specs.Map.{has_key}
 use Rattle.yw_state.specs.State.{State}
-use Rattle.yw_state.specs.Texts.{a_spec, nothing}
-use Rattle.yw_state.specs.declared.event.Event.{Event}
-use Rattle.yw_model.specs.Texts.{IsAccepted, reader}
-use Rattle.yw_model.proofs.Alone.{legal_alone}
-use Rattle.yw_model.proofs.Loading.{known_breaks, load_asked, load_leads, new_unbroken, person_asked, person_leads, person_unbroken, unbuilt_unfit, unfit_breaks}
-use Rattle.yw_model.proofs.Judging.{verdict_finds}
-use Rattle.yw_model.proofs.Lacking.{here, follows}
 use Rattle.yw_lines.proofs.MeaningLemmas.{meaning-take}
 
 -- ---- what a line asks, as it is written
@@ -167,121 +148,6 @@ line_read : (line : List ℕ) → IsReadable (meaning built_words line)
 unfolding meaning
 line_read line = either (nat_lt line_limit (length line)) _ _ tt (text_read line)
 
--- ---- answers
-
-abbrev HasAnswer : Result Asked Rule → State → ℕ → Type 0
-HasAnswer m s n = CannotLack ((step : Step) × (t : State) × MeaningAnswers m s n step t)
-
-refusing : (refusal : Refusal) (s : State) (n : ℕ) → (step : Step) × (t : State) × Refuses refusal s n step t
-refusing refusal s n = (record { taken = []; reply = refused n refusal }, s, record { nothing = refl; told = refl; same = refl })
-
-judged : (said : Result RawSpec ReadFault) → ((said ≡ Err Memory) → ⊥) → CannotLack ((fault : Option Refusal) × JudgesSaid said fault)
-judged (Ok raw) h = follows (verdict_finds raw) (λ v. here (option_map check_refusal v.0, (v.0, v.1, refl)))
-judged (Err NotToml) h = here (Some (placeless SpecText), refl)
-judged (Err (Shape path)) h = here (Some (record { rule = SpecShape; at = path }), refl)
-judged (Err Memory) h = absurd (h refl)
-
--- a command that breaks a rule is refused
-refused_so : (s : State) (n : ℕ) (c : Command) (refusal : Refusal) → Breaks reader s c (Some refusal) → HasAnswer (Ok (asked.Command c)) s n
-refused_so s n c refusal breaks = let r = refusing refusal s n in here (r.0, r.1, (Some refusal, breaks, r.2))
-
--- a command that breaks none takes its one event
-taken_so : (s : State) (n : ℕ) (c : Command) (e : Event) (t : State) → Breaks reader s c None → IsAsked reader s c e → case_of e ≡ None → Leads reader s e t → HasAnswer (Ok (asked.Command c)) s n
-taken_so s n c e t unbroken asks none leads =
-    let entry = e ∷ [] in here (
-      record { taken = entry ∷ []; reply = done n entry true },
-      t,
-      (None, unbroken, record { entry = entry; quiet = true; legal = legal_alone s c e t unbroken asks none leads; one = refl; told = refl }),
-    )
-
-loaded_so : (s : State) (n : ℕ) (toml : List ℕ) (spec : Spec) → IsAccepted toml spec → (known : Bool) → has_key s.specs spec.name ≡ known → HasAnswer (Ok (asked.Command (commands.Load toml))) s n
-loaded_so s n toml spec a true known = refused_so s n (commands.Load toml) (placeless SpecExists) (known_breaks s toml spec a known)
-loaded_so s n toml spec a false free =
-    taken_so s n (commands.Load toml) (events.Load spec.name toml) (after s (events.Load spec.name toml) (a_spec spec))
-    (new_unbroken s toml spec a free) (load_asked s toml spec a) refl (load_leads s toml spec a free)
-
-passes : (raw : RawSpec) (broken : Option Broken) → IsVerdict raw broken → None ≡ option_map check_refusal broken → IsVerdict raw None
-passes raw None v is = v
-passes raw (Some broken) v is = cc
-
--- a document that is accepted, by whether what it uses is built
-built_so : (s : State) (n : ℕ) (toml : List ℕ) (raw : RawSpec) → document_in toml ≡ Ok raw → IsVerdict raw None → (built : Bool) → is_built_spec raw ≡ built → HasAnswer (Ok (asked.Command (commands.Load toml))) s n
-built_so s n toml raw says accepted true is =
-    let some = says_some raw accepted in
-    let spec = some.0 in
-    loaded_so s n toml spec (record { raw = raw; says = says; accepted = accepted; built = is; is_spec = some.1 }) (has_key s.specs spec.name) refl
-built_so s n toml raw says accepted false is =
-    refused_so s n (commands.Load toml) (placeless NotBuilt) (unfit_breaks s toml (placeless NotBuilt) (unbuilt_unfit toml raw says accepted is))
-
--- by what is found wrong with the text
-found : (s : State) (n : ℕ) (toml : List ℕ) (said : Result RawSpec ReadFault) (fault : Option Refusal) → document_in toml ≡ said → JudgesSaid said fault
-    → HasAnswer (Ok (asked.Command (commands.Load toml))) s n
-found s n toml said (Some refusal) e j =
-    let judged : JudgesSaid (document_in toml) (Some refusal) = subst (λ (d : Result RawSpec ReadFault). JudgesSaid d (Some refusal)) (sym e) j in
-    refused_so s n (commands.Load toml) refusal (unfit_breaks s toml refusal (Some refusal, judged, refl))
-found s n toml (Ok raw) None e j = built_so s n toml raw e (passes raw j.0 j.1 j.2) (is_built_spec raw) refl
-found s n toml (Err NotToml) None e j = cc
-found s n toml (Err (Shape path)) None e j = cc
-found s n toml (Err Memory) None e j = absurd j
-
-shaped : (r : Result RawSpec (List ℕ)) → with_shape r ≡ Err Memory → ⊥
-shaped (Ok raw) is = cc
-shaped (Err path) is = cc
-
-from_table : (o : Option Members) → spec_from o ≡ Err Memory → ⊥
-from_table None is = cc
-from_table (Some table) is = shaped (spec_table table) is
-
-only_text : (b : Bool) (said : Result RawSpec ReadFault) → (said ≡ Err Memory → ⊥) → cond b said (Err NotToml) ≡ Err Memory → ⊥
-only_text true said h is = h is
-only_text false said h is = cc
-
--- what a text says is no want of memory
-pub says : (text : List ℕ) → document_in text ≡ Err Memory → ⊥
-unfolding document_in spec_in
-says text = only_text (is_utf8 text) (spec_in text) (from_table (parse_document text))
-
--- a text that says a specification is UTF-8
-pub says_text : (text : List ℕ) (raw : RawSpec) → document_in text ≡ Ok raw → is_utf8 text ≡ true
-unfolding document_in
-says_text text raw is = utf8 (is_utf8 text) (spec_in text) is
-  where
-    utf8 : (b : Bool) (said : Result RawSpec ReadFault) → cond b said (Err NotToml) ≡ Ok raw → b ≡ true
-    utf8 true said e = refl
-    utf8 false said e = cc
-
-load_answered : (s : State) (n : ℕ) (toml : List ℕ) → HasAnswer (Ok (asked.Command (commands.Load toml))) s n
-load_answered s n toml = follows (judged (document_in toml) (says toml)) (λ j. found s n toml (document_in toml) j.0 refl j.1)
-
-person_answered : (s : State) (n : ℕ) (name : List ℕ) (roles : List (List ℕ)) → are_roles roles ≡ true → HasAnswer (Ok (asked.Command (commands.Person name roles))) s n
-person_answered s n name roles h =
-    let event = events.Person name roles in
-    taken_so s n (commands.Person name roles) event (after s event nothing) (person_unbroken s name roles) (person_asked s name roles) refl (person_leads s name roles h)
-
-command_answered : (s : State) (n : ℕ) (c : Command) → IsAsWritten c → HasAnswer (Ok (asked.Command c)) s n
-command_answered s n (commands.Person name roles) h = person_answered s n name roles h.2
-command_answered s n (commands.Load toml) h = load_answered s n toml
-command_answered s n (commands.Rule spec net task kind at side when conclusion) h = absurd h
-command_answered s n (commands.Launch spec values) h = absurd h
-command_answered s n (commands.Enter who net task) h = absurd h
-command_answered s n (commands.Start who id) h = absurd h
-command_answered s n (commands.Complete who id out) h = absurd h
-command_answered s n (commands.Add who net task value) h = absurd h
-command_answered s n (commands.Raise at kind) h = absurd h
-command_answered s n (commands.Suspend at) h = absurd h
-command_answered s n (commands.Continue at) h = absurd h
-command_answered s n (commands.Cancel net) h = absurd h
-command_answered s n (commands.Advance net) h = absurd h
-
-meaning_answered : (m : Result Asked Rule) → IsReadable m → (s : State) (n : ℕ) → HasAnswer m s n
-meaning_answered (Err r) h s n = here (refusing (placeless r) s n)
-meaning_answered (Ok (asked.Command c)) h s n = command_answered s n c h
-meaning_answered (Ok (asked.Query q)) h s n = here (refusing (placeless NotBuilt) s n)
-
--- no line lacks an answer
-pub answered : (s : State) (n : ℕ) (line : List ℕ) → CannotLack ((step : Step) × (t : State) × Answers s n line step t)
-answered s n line = meaning_answered (meaning built_words line) (line_read line) s n
-
 -- a line asks for commands as they are written
 pub as_written : (line : List ℕ) (c : Command) → meaning built_words line ≡ Ok (asked.Command c) → IsAsWritten c
 as_written line c is = subst IsReadable is (line_read line)
@@ -302,6 +168,35 @@ can_be_asked (commands.Continue at) h = absurd h
 can_be_asked (commands.Cancel net) h = absurd h
 can_be_asked (commands.Advance net) h = absurd h
 
+-- ---- what a text says
+
+shaped : (r : Result RawSpec (List ℕ)) → with_shape r ≡ Err Memory → ⊥
+shaped (Ok raw) is = cc
+shaped (Err path) is = cc
+
+from_table : (o : Option Members) → spec_from o ≡ Err Memory → ⊥
+from_table None is = cc
+from_table (Some table) is = shaped (spec_table table) is
+
+only_text : (b : Bool) (said : Result RawSpec ReadFault) → (said ≡ Err Memory → ⊥) → cond b said (Err NotToml) ≡ Err Memory → ⊥
+only_text true said h is = h is
+only_text false said h is = cc
+
+-- what a text says is no want of memory
+pub says : (text : List ℕ) → document_in text ≡ Err Memory → ⊥
+unfolding document_in spec_in
+says text = only_text (is_utf8 text) (spec_in text) (from_table (parse_document text))
+
+-- ---- answers
+
+-- what comes of what a line means comes of the line
+pub answers_by : (s : State) (n : ℕ) (line : List ℕ) (m : Result Asked Rule) (step : Step) (t : State)
+    → meaning built_words line ≡ m → MeaningAnswers m s n step t → Answers s n line step t
+unfolding Answers
+answers_by s n line m step t means a = subst (λ (k : Result Asked Rule). MeaningAnswers k s n step t) (sym means) a
+
 -- what is kept of a line that is too long is answered as the line is
-pub Answers-take : (s : State) (n : ℕ) (line : List ℕ) (step : Step) (t : State) → Answers s n (take (line_limit + 1) line) step t → Answers s n line step t
+pub Answers-take : (s : State) (n : ℕ) (line : List ℕ) (step : Step) (t : State)
+    → Answers s n (take (line_limit + 1) line) step t → Answers s n line step t
+unfolding Answers
 Answers-take s n line step t a = subst (λ (m : Result Asked Rule). MeaningAnswers m s n step t) (meaning-take built_words line) a

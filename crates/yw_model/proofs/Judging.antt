@@ -1,8 +1,6 @@
 -- No specification lacks a verdict.
-use Rattle.std.proofs.Common.{◌≡◌, ◌&&◌, ℕ, List, [], Bool, true, false, None, refl}
-use Rattle.std.specs.Prelude.{map, not, option_to_list}
-use Rattle.yw_base.specs.Spelling.{is_name}
-use Rattle.yw_lex.specs.Spelling.{is_reserved}
+use Rattle.std.proofs.Common.{ℕ, List, []}
+use Rattle.std.specs.Prelude.{map, option_to_list}
 use Rattle.yw_accept.specs.Faults.{in_net, of_net}
 use Rattle.yw_accept.specs.Graph.{PathsFit, ChildrenFit, LevelsFit, OrJoinsFit, NodeIsOnPath, ChildFits, OrJoinFits}
 use Rattle.yw_accept.specs.Names.{NamesFit, FlowsFit, RemovalsFit, AreNew, IsNew, IsUsable, NetNames, TaskNames, FlowFits, RemovalFits}
@@ -92,12 +90,3 @@ verdict_finds raw =
     then_finds _ _ (names_find raw) (then_finds _ _ (flows_find raw) (then_finds _ _ (paths_find raw) (then_finds _ _ (removals_find raw)
     (then_finds _ _ (items_find raw) (then_finds _ _ (children_find raw) (then_finds _ _ (levels_find raw) (then_finds _ _ (or_joins_find raw)
     (then_finds _ _ (sorts_find raw) (then_finds _ _ (splits_find raw) (then_finds _ _ (parameters_find raw) (sizes_find raw)))))))))))
-
--- the name of an accepted specification is a name
-pub verdict_named : (raw : RawSpec) → IsVerdict raw None → is_name raw.name ≡ true
-unfolding IsVerdict NamesFit
-verdict_named raw passes = first (is_name raw.name) (not (is_reserved raw.name)) passes.0.0
-  where
-    first : (p q : Bool) → (p && q) ≡ true → p ≡ true
-    first true q e = refl
-    first false q e = cc

@@ -12,7 +12,6 @@ use Rattle.yw_state.specs.Map.{has_key}
 use Rattle.yw_state.specs.State.{State}
 use Rattle.yw_state.specs.Texts.{Said, nothing, a_spec}
 use Rattle.yw_state.specs.declared.command.Command.TheVariants as commands
-use Rattle.yw_state.specs.declared.event.Event.{Event}
 use Rattle.yw_state.specs.declared.event.Event.TheVariants as events
 use Rattle.yw_state.specs.declared.rule.Refusal.{Refusal}
 use Rattle.yw_state.specs.declared.rule.Rule.TheVariants.{NotBuilt, SpecExists}
@@ -131,19 +130,3 @@ load_is_asked s t name text l =
 -- the state after a person's event is led to
 pub person_leads_to : (s t : State) (name : List ℕ) (roles : List (List ℕ)) → are_roles roles ≡ true → t ≡ after s (events.Person name roles) nothing → Leads reader s (events.Person name roles) t
 person_leads_to s t name roles h reached = subst (λ (u : State). Leads reader s (events.Person name roles) u) (sym reached) (person_leads s name roles h)
-
--- ---- what is asked has no case, and a name as it is written
-
-pub person_event : (s : State) (name : List ℕ) (roles : List (List ℕ)) (e : Event) → IsAsked reader s (commands.Person name roles) e → e ≡ events.Person name roles
-unfolding IsAsked
-person_event s name roles e asked = asked
-
--- The event that loads an accepted text, under its name.
-pub record IsLoadOf (text : List ℕ) (e : Event) : Type 0 where
-  pub spec : Spec
-  pub accepted : IsAccepted text spec
-  pub is : e ≡ events.Load spec.name text
-
-pub load_event : (s : State) (text : List ℕ) (e : Event) → IsAsked reader s (commands.Load text) e → IsLoadOf text e
-unfolding IsAsked
-load_event s text e asked = record { spec = asked.0; accepted = asked.1; is = asked.2 }

@@ -2,6 +2,8 @@
 use Rattle.std.specs.Prelude.{ℕ, ◌+◌, ◌≡◌, List, [], ◌∷◌, ◌++◌, Bool, true, Option, Some, None, Result, Ok, Err}
 use Rattle.yw_model.specs.Texts.{reader}
 use Rattle.yw_state.specs.State.{State}
+use Rattle.yw_state.specs.Texts.{Reader}
+use Rattle.yw_state.specs.Events.{LeadAll}
 use Rattle.yw_state.specs.Legal.{IsLegal}
 use Rattle.yw_lines.specs.Meaning.{meaning}
 use Rattle.yw_lines.specs.Replies.{done, refused}
@@ -28,9 +30,10 @@ CanBeAsked (commands.Person name roles) = are_roles roles ≡ true
 CanBeAsked (commands.Load toml) = Unit {0}
 CanBeAsked command = ⊥
 
--- the events of one accepted command
-abbrev pub Entry : Type 0
-Entry = List Event
+-- What one accepted command does: its events in order, and whether all is quiet after them.
+pub record Entry : Type 0 where
+  pub events : List Event
+  pub quiet : Bool
 
 -- What comes of one line: the entry that is taken, if one is, and the reply.
 pub record Step : Type 0 where
@@ -46,10 +49,9 @@ pub record Refuses (refusal : Refusal) (s : State) (n : ℕ) (step : Step) (t : 
 -- one legal entry is taken, and its line is said
 pub record Accepts (c : Command) (s : State) (n : ℕ) (step : Step) (t : State) : Type 0 where
   pub entry : Entry
-  pub quiet : Bool
-  pub legal : IsLegal reader s c entry quiet t
+  pub legal : IsLegal reader s c entry.events entry.quiet t
   pub one : step.taken ≡ entry ∷ []
-  pub told : step.reply ≡ done n entry quiet
+  pub told : step.reply ≡ done n entry.events entry.quiet
 
 -- by the first rule that is broken, if one is
 abbrev pub FoundAnswers : Option Refusal → Command → State → ℕ → Step → State → Type 0
@@ -65,8 +67,9 @@ MeaningAnswers (Ok (asked.Command c)) = CommandAnswers c
 -- no query is built
 MeaningAnswers (Ok (asked.Query q)) = Refuses (placeless NotBuilt)
 
--- In state s this step may come of the line with number n, and the state is then t.
-abbrev pub Answers : State → ℕ → List ℕ → Step → State → Type 0
+-- In state s this step may come of the line with number n, and the state is then t. What is said of runs looks no
+-- further into it, so that further kinds of lines join here alone.
+unfoldable pub Answers : State → ℕ → List ℕ → Step → State → Type 0
 Answers s n line = MeaningAnswers (meaning built_words line) s n
 
 -- From state s these steps may come of the lines, numbered from n, and the state is then t.
@@ -88,6 +91,11 @@ HasRun s n lines = CannotLack ((steps : List Step) × (t : State) × Run s n lin
 abbrev pub taken_by : List Step → List Entry
 taken_by [] = []
 taken_by (step ∷ steps) = step.taken ++ taken_by steps
+
+-- these entries lead from s to t: the events of each are allowed in their turn
+abbrev pub EntriesLead : Reader → State → List Entry → State → Type 0
+EntriesLead texts s [] t = t ≡ s
+EntriesLead texts s (e ∷ es) t = (mid : State) × LeadAll texts s e.events mid × EntriesLead texts mid es t
 
 -- the output that steps give
 abbrev pub said_by : List Step → List ℕ

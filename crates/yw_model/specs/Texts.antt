@@ -30,7 +30,7 @@ pub record IsAccepted (text : List ℕ) (spec : Spec) : Type 0 where
   pub built : is_built_spec raw ≡ true
   pub is_spec : IsSpec raw spec
 
--- behind the faults of a text that it uses what isn't built
+-- after the faults of a text that it uses what isn't built
 abbrev pub text_refusal : Result RawSpec ReadFault → Option Refusal → Option Refusal
 text_refusal said (Some refusal) = Some refusal
 text_refusal (Err fault) None = None

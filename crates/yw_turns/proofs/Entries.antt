@@ -1,6 +1,7 @@
 -- Entries: they lead to their states, and a command whose event is allowed has one.
 use Rattle.std.specs.Prelude.{◌≡◌, ◌↔◌, ℕ, List, [], ◌∷◌, Bool, true, Option, Some, None, refl, IsTrue}
-use Rattle.std.proofs.Common.{sym, subst, arith}
+use Rattle.std.proofs.Common.{sym, subst}
+use Rattle.yw_model.proofs.Alone.{alone_is_legal}
 use Rattle.yw_model.proofs.Lacking.{follows, here}
 use Rattle.yw_model.specs.Run.{CannotLack}
 use Rattle.yw_state.proofs.Tests.{by_option, never}
@@ -44,20 +45,7 @@ module _ (reader : Reader) where
 
   module _ (s mid : State) (c : Command) (e : Event) (unbroken : Breaks reader s c None) (asked : IsAsked reader s c e) (leads : Leads reader s e mid) where
     pub legal_alone : case_of e ≡ None → IsLegal reader s c (e ∷ []) true mid
-    legal_alone none = record {
-      unbroken = unbroken;
-      first = e;
-      others = [];
-      in_order = refl;
-      asked = asked;
-      mid = mid;
-      leads = leads;
-      follow = subst (λ (o : Option ℕ). Follow mid o []) (sym none) refl;
-      then = refl;
-      within = omega arith;
-      is_quiet = (λ h. subst (λ (o : Option ℕ). QuietIfCase mid o) (sym none) tt, λ h. refl);
-      spent = λ h. cc;
-    }
+    legal_alone none = alone_is_legal reader s c e mid unbroken asked none leads
 
     pub legal_turns : (n : ℕ) (es : List Event) (quiet : Bool) (t : State) → case_of e ≡ Some n → RunsOut mid n es quiet t → IsLegal reader s c (e ∷ es) quiet t
     legal_turns n es quiet t of ran = record {

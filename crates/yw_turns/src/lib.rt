@@ -1,4 +1,4 @@
-//! What comes of itself behind a command's event ends: the case gets quiet, or the budget is spent. So a command whose event is allowed has an
+//! What comes of itself after a command's event ends: the case gets quiet, or the budget is spent. So a command whose event is allowed has an
 //! entry, and the events of an entry lead to its state. Each law is the contract of a function that does nothing.
 #![tactic(auto)]
 
@@ -20,7 +20,7 @@ pub fn turns_end()
     ensures { (s : State) (n : ℕ) → CannotLack (HasTurns s n) }
 {}
 
-/// The event that a command asks for, and behind it what comes of itself in its case until that is quiet or the budget is spent, are an entry
+/// The event that a command asks for, and after it what comes of itself in its case until that is quiet or the budget is spent, are an entry
 /// that may answer the command, where it breaks no rule.
 pub fn turns_are_legal<R: Reads>()
     ensures { (s mid t : State) (c : Command) (e : Event) (n : ℕ) (events : List Event) (quiet : Bool) → Breaks R.reader s c None → IsAsked R.reader s c e → Leads R.reader s e mid → case_of e ≡ Some n → RunsOut mid n events quiet t → IsLegal R.reader s c (e ∷ events) quiet t }

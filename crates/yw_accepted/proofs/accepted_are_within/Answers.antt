@@ -1,5 +1,5 @@
-use Rattle.yw_accepted.proofs.Whole as whole
+use Rattle.yw_accepted.proofs.Loaded as loaded
 use Rattle.yw_accepted.proofs.accepted_are_within.Goals as goal
 
 pub returns : goal.returns
-returns c = whole.accepted_are_within
+returns c = loaded.accepted_are_within

@@ -21,8 +21,8 @@ use Rattle.yw_accept.specs.Verdict.{IsVerdict}
 use Rattle.yw_accept.proofs.FactsLemmas.{order_all}
 use Rattle.yw_state.proofs.MapLemmas.{nowhere, some_same}
 use Rattle.yw_state.specs.Nets.{child_net}
-use Rattle.yw_invariant.proofs.Found.{all_at, zip_at}
-use Rattle.yw_invariant.specs.Sound.{HasChild}
+use Rattle.yw_accepted.proofs.Found.{all_at, zip_at}
+use Rattle.yw_sound.specs.Sound.{HasChild}
 
 abbrev IsNotDeep : RawSpec → RawNet → Type 0
 IsNotDeep raw net = IsBehindAlong (Holds raw) raw.top net.name most_levels → ⊥

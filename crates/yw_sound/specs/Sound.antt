@@ -52,7 +52,7 @@ pub record Gives (sorts : List Sort) (wanted : Sort) (e : Tree) : Type 0 where
   pub speaks : IsIn sorts e
   pub sort : tree_sort e ≡ Some wanted
 
--- of what the items made together, and behind it of the net's variables
+-- of what the items made together, and after it of the net's variables
 abbrev pub set_sorts : Net → Task → List Sort
 set_sorts net t = map (λ (p : Param). gathered (is_some t.many) p.sort) t.outs ++ map (λ (x : Var). x.sort) net.vars
 

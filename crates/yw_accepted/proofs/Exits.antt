@@ -27,9 +27,9 @@ use Rattle.yw_expr.proofs.SmallConstants.{meant_small}
 use Rattle.yw_expr.specs.Scope.{sorts_of}
 use Rattle.yw_expr.specs.Small.{HasSmallConstants}
 use Rattle.yw_expr.specs.Sorts.{IsIn, tree_sort}
-use Rattle.yw_invariant.proofs.Expressions.{one_meaning, speaks_in_scope, var_sorts}
-use Rattle.yw_invariant.proofs.Found.{found_first}
-use Rattle.yw_invariant.specs.Sound.{Assigns, are_apart, set_sorts}
+use Rattle.yw_accepted.proofs.Expressions.{one_meaning, speaks_in_scope, var_sorts}
+use Rattle.yw_accepted.proofs.Found.{found_first}
+use Rattle.yw_sound.specs.Sound.{Assigns, are_apart, set_sorts}
 use Rattle.yw_read.specs.TaskKinds.{is_empty}
 use Rattle.yw_read.specs.declared.raw.RawFlow.{RawFlow}
 use Rattle.yw_read.specs.declared.raw.RawNet.{RawNet}

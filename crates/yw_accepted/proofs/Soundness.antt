@@ -1,9 +1,9 @@
--- Accepted specifications are sound: by the checks that find nothing, and since what a variable begins with is of its sort, where the text
--- says it and where it is the sort's zero.
-use Rattle.std.specs.Prelude.{◌≡◌, ◌==◌, ◌&&◌, ◌||◌, ℕ, Bool, true, false, not, List, [], ◌∷◌, map, length, get_or, Option, Some, None, Result, Ok, Err, IfSome, find, is_none, option_and_then, option_map, slice_get, refl, if◌then◌else◌}
+-- Specifications in which the checks find nothing are sound, whatever of them is built: what a variable begins with is of its sort, where
+-- the text says it and where it is the sort's zero.
+use Rattle.std.specs.Prelude.{◌≡◌, ◌==◌, ◌&&◌, ◌||◌, ℕ, true, false, not, List, [], ◌∷◌, map, length, get_or, Option, Some, None, Result, Ok, Err, IfSome, find, is_none, option_and_then, option_map, slice_get, refl}
 use Rattle.std.specs.List.{list_all, list_any, All}
 use Rattle.std.specs.Option.{option_map_or}
-use Rattle.std.specs.Str.{bytes_eq, is_utf8}
+use Rattle.std.specs.Str.{bytes_eq}
 use Rattle.std.proofs.Common.{sym, ◌∙◌, ap, subst, arith}
 use Rattle.std.proofs.lemmas.Bool.{and_from, and_parts, eqb-true}
 use Rattle.std.proofs.lemmas.List.Elements.{All-head, All-map, All-tail}
@@ -34,7 +34,6 @@ use Rattle.yw_read.specs.declared.raw.RawSpec.{RawSpec}
 use Rattle.yw_read.specs.declared.raw.RawTask.{RawTask}
 use Rattle.yw_read.specs.declared.raw.RawVar.{RawVar}
 use Rattle.yw_read.specs.declared.raw.ReadFault.{ReadFault}
-use Rattle.yw_read.specs.declared.raw.ReadFault.TheVariants.{NotToml}
 use Rattle.yw_read.proofs.InitLemmas.{given-inits}
 use Rattle.yw_accept.specs.Built.{IsKind, IsNet, IsSpec, IsTask, out_of, var_of}
 use Rattle.yw_accept.specs.Names.{FlowFits}
@@ -48,14 +47,12 @@ use Rattle.yw_said.proofs.OnceFacts.{InsApart, IsApart, NetIsApart, accepted_apa
 use Rattle.yw_said.proofs.SomeFacts.{NetCanBeBuilt, TaskCanBeBuilt, can_be_built}
 use Rattle.yw_state.proofs.MapLemmas.{never, nowhere, some_same}
 use Rattle.yw_state.specs.Nets.{child_net, is_empty}
-use Rattle.yw_invariant.proofs.AcceptedExits.{assigns_right, assigns_small, both_or_none, flow_turns, goes_on_apart, is_called, items_few, outs_single}
-use Rattle.yw_invariant.proofs.AcceptedItems.{elements_sound, params_sound}
-use Rattle.yw_invariant.proofs.AcceptedLevels.{level_fits}
-use Rattle.yw_invariant.proofs.Found.{all_at, any_at, found_by_name, found_first, zip_at, zip_names}
-use Rattle.yw_invariant.proofs.Values.{zero_fits}
-use Rattle.yw_invariant.specs.Sound.{HasVar, IsSound, ReadsSound, TaskIsSound}
-use Rattle.yw_model.specs.Accepted.{document_in}
-use Rattle.yw_model.specs.Texts.{reader}
+use Rattle.yw_accepted.proofs.Exits.{assigns_right, assigns_small, both_or_none, flow_turns, goes_on_apart, is_called, items_few, outs_single}
+use Rattle.yw_accepted.proofs.Items.{elements_sound, params_sound}
+use Rattle.yw_accepted.proofs.Levels.{level_fits}
+use Rattle.yw_accepted.proofs.Found.{all_at, any_at, found_by_name, found_first, zip_at, zip_names}
+use Rattle.yw_sound.proofs.Giving.{zero_fits}
+use Rattle.yw_sound.specs.Sound.{HasVar, IsSound, TaskIsSound}
 
 -- ---- what a document says
 
@@ -73,13 +70,10 @@ parsed_inits : (o : Option Members) (raw : RawSpec) → spec_from o ≡ Ok raw �
 parsed_inits None raw e = absurd (no_answer e)
 parsed_inits (Some t) raw e = table_inits t raw (spec_table t) refl e
 
-document_inits : (text : List ℕ) (raw : RawSpec) → document_in text ≡ Ok raw → HasInits raw
-unfolding document_in spec_in
-document_inits text raw = by_bytes (is_utf8 text)
-  where
-    by_bytes : (b : Bool) → (if b then spec_from (parse_document text) else Err NotToml) ≡ Ok raw → HasInits raw
-    by_bytes true e = parsed_inits (parse_document text) raw e
-    by_bytes false e = absurd (no_answer e)
+-- what a text says begins with values of the right sorts
+pub said_inits : (text : List ℕ) (raw : RawSpec) → spec_in text ≡ Ok raw → HasInits raw
+unfolding spec_in
+said_inits text raw e = parsed_inits (parse_document text) raw e
 
 -- ---- what is built of it
 
@@ -179,7 +173,7 @@ module _ (raw : RawSpec) (verdict : IsVerdict raw None) (inits : HasInits raw) (
         apart = goes_on_apart rn rt.name (is_called rn rn.task i rt rtat) (all_at (λ (n : RawNet). InTurn (FlowFits n) [] n.flows None) raw.net (flow_turns raw verdict) k rn rat) t.after is.after;
       }
 
-  is_sound : IsSound spec
+  pub is_sound : IsSound spec
   is_sound k net at =
       let (rn, rat, built) = zip_at (IsNet raw) raw.net spec.nets is_spec.nets k net at in
       record {
@@ -188,6 +182,3 @@ module _ (raw : RawSpec) (verdict : IsVerdict raw None) (inits : HasInits raw) (
         tasks = task_sound rn k rat net built;
         level = λ c n at_c walk. level_fits raw verdict spec is_spec net c n at_c walk;
       }
-
-pub accepted_are_sound : ReadsSound reader
-accepted_are_sound text spec accepted = is_sound accepted.raw accepted.accepted (document_inits text accepted.raw accepted.says) spec accepted.is_spec

@@ -32,9 +32,9 @@ use Rattle.yw_read.specs.TaskKinds.{is_empty}
 use Rattle.yw_said.proofs.Numbers.{one_called}
 use Rattle.yw_said.proofs.OnceFacts.{InsApart}
 use Rattle.yw_said.proofs.SomeFacts.{TaskCanBeBuilt}
-use Rattle.yw_invariant.proofs.Expressions.{worth}
-use Rattle.yw_invariant.proofs.Found.{all_at, zip_at}
-use Rattle.yw_invariant.specs.Sound.{HasSort, ParamIsSound}
+use Rattle.yw_accepted.proofs.Expressions.{worth}
+use Rattle.yw_accepted.proofs.Found.{all_at, zip_at}
+use Rattle.yw_sound.specs.Sound.{HasSort, ParamIsSound}
 use Rattle.yw_state.proofs.MapLemmas.{never, nowhere, some_same}
 use Rattle.yw_state.proofs.Tests.{map_some}
 use Rattle.yw_state.specs.Allowed.{element_param}

@@ -1,0 +1,5 @@
+use Rattle.yw_accepted.proofs.Loaded as loaded
+use Rattle.yw_accepted.proofs.accepted_are_sound.Goals as goal
+
+pub returns : goal.returns
+returns c = loaded.accepted_are_sound
