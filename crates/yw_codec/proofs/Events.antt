@@ -12,7 +12,7 @@ use Rattle.yw_codec.proofs.Names.{and_left, and_right, same_name, same_names}
 use Rattle.yw_codec.proofs.Texts.{same_text}
 
 -- what holds of a person's events and of loaded specifications' holds of each that has bytes
-with_bytes : (P : Event → Type 0) → ((m : List ℕ) (rs : List (List ℕ)) → P (Person m rs)) → ((m text : List ℕ) → P (Load m text)) → (event : Event) → is_event event ≡ true → P event
+pub with_bytes : (P : Event → Type 0) → ((m : List ℕ) (rs : List (List ℕ)) → P (Person m rs)) → ((m text : List ℕ) → P (Load m text)) → (event : Event) → is_event event ≡ true → P event
 with_bytes P person load (Person m rs) is = person m rs
 with_bytes P person load (Load m text) is = load m text
 with_bytes P person load (events.AddRule place at side when conclusion number) is = cc

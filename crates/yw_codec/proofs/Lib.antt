@@ -3,3 +3,4 @@ pub mod Events
 pub mod Frames
 pub mod Names
 pub mod Texts
+pub mod Writable

@@ -2,6 +2,7 @@
 ghost use Rattle.std.specs.Prelude.{◌≡◌, ◌++◌, ◌+◌, ◌∷◌, ◌≤◌, [], List, ℕ, true, IfOk, IfErr, length, slice_index, take, drop};
 ghost use Rattle.std.specs.List.{flat_map, list_all};
 ghost use Rattle.yw_base.specs.Spelling.{is_name};
+ghost use Rattle.yw_state.specs.Built.{is_built};
 ghost use Rattle.yw_state.specs.declared.event.Event.{Event};
 ghost use Rattle.byteorder.specs.Endian.{big_bytes, big_number};
 ghost use Rattle.yw_codec.specs.Entries.{name_bytes, text_bytes, is_text, event_bytes, is_event, IsEntry};
@@ -170,13 +171,15 @@ fn read_events(alloc: Global, bytes: &[u8], count: u16) -> Result<(EventList, us
     Ok((EventList::from_vec(events), at))
 }
 
-/// Reads the entry at the front of the bytes, and says how many bytes it has. `Bad` comes exactly where no front of
-/// the bytes is an entry's bytes, unless memory runs out first, which is `Memory`.
+/// Reads the entry at the front of the bytes, and says how many bytes it has. Its events are such as the server does
+/// today. `Bad` comes exactly where no prefix of the bytes is an entry's bytes, unless memory runs out first, which is
+/// `Memory`.
 pub fn read_entry(alloc: Global, bytes: &[u8]) -> Result<(EventList, usize), CodecFault>
     ensures within { IfOk result (λ v. v.1 ≤ length bytes.now) }
     ensures ok { IfOk result (λ v. IsEntry v.0 (take v.1 bytes.now)) }
     // No entry's bytes are a front of another's.
     ensures only { IfOk result (λ v. (events : List Event) (entry rest : List ℕ) → IsEntry events entry → bytes.now ≡ entry ++ rest → (events ≡ v.0) × (entry ≡ take v.1 bytes.now)) }
+    ensures built { IfOk result (λ v. list_all is_built v.0 ≡ true) }
     ensures bad { IfErr result (λ fault. fault ≡ CodecFault.Bad → (events : List Event) (entry rest : List ℕ) → IsEntry events entry → bytes.now ≡ entry ++ rest → ⊥) }
 {
     if bytes.len() < 2 {

@@ -1,5 +1,5 @@
 -- What a text breaks, from what is found on the way to its specification.
-use Rattle.std.proofs.Common.{◌≡◌, ℕ, List, Bool, true, Option, Some, Result, Ok, Err, refl, sym, ap, subst, ◌∙◌}
+use Rattle.std.proofs.Common.{◌≡◌, ℕ, List, Bool, true, Option, None, Some, Result, Ok, Err, refl, sym, ap, subst, ◌∙◌}
 use Rattle.std.specs.Prelude.{cond}
 use Rattle.std.specs.Str.{is_utf8}
 use Rattle.yw_spec.specs.declared.spec.Spec.{Spec}
@@ -14,14 +14,17 @@ use Rattle.yw_check.specs.declared.fault.CheckFault.TheVariants as checks
 use Rattle.yw_state.specs.Broken.{Breaks, placeless, placed}
 use Rattle.yw_state.specs.State.{State}
 use Rattle.yw_state.specs.declared.command.Command.TheVariants as commands
+use Rattle.yw_state.specs.declared.event.Event.TheVariants as events
 use Rattle.yw_state.specs.declared.rule.Refusal.{Refusal}
 use Rattle.yw_state.specs.declared.rule.Rule.TheVariants.{SpecCheck, SpecShape, SpecText}
 use Rattle.yw_state.proofs.OneRule.{command-breaks-one}
 use Rattle.yw_model.specs.Accepted.{check_refusal, document_in, JudgesSaid}
-use Rattle.yw_model.specs.Texts.{IsUnfit, reader}
-use Rattle.yw_model.proofs.Loading.{unfit_breaks}
+use Rattle.yw_model.specs.Texts.{IsAccepted, IsUnfit, reader}
+use Rattle.yw_model.proofs.Loading.{load_told, load_unbroken, unfit_breaks}
 use Rattle.yw_model.proofs.ReadingOnce.{reads_one}
 use Rattle.yw_library.specs.Accepts.{Answers, IfRefused, unchecked, unread}
+use Rattle.yw_library.specs.Always.{AlwaysBreaks, NeverLeads}
+use Rattle.yw_library.specs.Holdings.{Holdings, with_library}
 use Rattle.yw_library.specs.declared.fault.LibraryFault.{LibraryFault}
 use Rattle.yw_library.specs.declared.fault.LibraryFault.TheVariants as faults
 
@@ -56,12 +59,36 @@ unchecked-unfit A text raw checks.Memory is judged = tt
 pub load-breaks-one : (s : State) (text : List ℕ) (a b : Option Refusal) → Breaks reader s (commands.Load text) a → Breaks reader s (commands.Load text) b → a ≡ b
 load-breaks-one s text a b p q = command-breaks-one reader reads_one s (commands.Load text) a b p q
 
-pub unfit-breaks : (s : State) (text : List ℕ) (fault : LibraryFault) → IfRefused {A = Spec} (Err fault) (IsUnfit text)
-    → IfRefused {A = List ℕ} (Err fault) (λ refusal. Breaks reader s (commands.Load text) (Some refusal) × (s ≡ s))
-unfit-breaks s text (faults.Refused refusal) unfit = (unfit_breaks s text refusal unfit, refl)
-unfit-breaks s text faults.Memory unfit = tt
+-- a text that can't be loaded whatever is kept
+pub unfit-breaks : (library : Holdings) (text : List ℕ) (fault : LibraryFault) → IfRefused {A = Spec} (Err fault) (IsUnfit text)
+    → IfRefused {A = Spec} (Err fault) (λ refusal. AlwaysBreaks library (commands.Load text) (Some refusal))
+unfit-breaks library text (faults.Refused refusal) unfit = λ s. unfit_breaks (with_library s library) text refusal unfit
+unfit-breaks library text faults.Memory unfit = tt
 
-pub unfit-only : (s : State) (text : List ℕ) (fault : LibraryFault) → IfRefused {A = Spec} (Err fault) (IsUnfit text)
-    → (found : Option Refusal) → Breaks reader s (commands.Load text) found → Answers {A = List ℕ} (Err fault) found
-unfit-only s text (faults.Refused refusal) unfit found h = load-breaks-one s text found (Some refusal) h (unfit_breaks s text refusal unfit)
-unfit-only s text faults.Memory unfit found h = tt
+-- the same said of another answer, where nothing has changed
+pub still-refused : (library : Holdings) (text : List ℕ) (fault : LibraryFault) → IfRefused {A = Spec} (Err fault) (λ refusal. AlwaysBreaks library (commands.Load text) (Some refusal))
+    → IfRefused {A = List ℕ} (Err fault) (λ refusal. AlwaysBreaks library (commands.Load text) (Some refusal) × (library ≡ library))
+still-refused library text (faults.Refused refusal) breaks = (breaks, refl)
+still-refused library text faults.Memory breaks = tt
+
+pub refused-only : (library : Holdings) (text : List ℕ) (fault : LibraryFault) → IfRefused {A = Spec} (Err fault) (λ refusal. AlwaysBreaks library (commands.Load text) (Some refusal))
+    → (s : State) (found : Option Refusal) → Breaks reader (with_library s library) (commands.Load text) found → Answers {A = List ℕ} (Err fault) found
+refused-only library text (faults.Refused refusal) breaks s found h = load-breaks-one (with_library s library) text found (Some refusal) h (breaks s)
+refused-only library text faults.Memory breaks s found h = tt
+
+-- ---- events
+
+-- a text that breaks a rule is loaded under no name
+pub broken-never : (library : Holdings) (name text : List ℕ) (refusal : Refusal) → AlwaysBreaks library (commands.Load text) (Some refusal) → NeverLeads library (events.Load name text)
+broken-never library name text refusal breaks s t leads =
+    let u = with_library s library in
+    let same = load-breaks-one u text None (Some refusal) (load_unbroken u t name text leads) (breaks s) in
+    cc
+
+-- a text says one name
+pub renamed-never : (library : Holdings) (name text : List ℕ) (spec : Spec) → IsAccepted text spec → (spec.name ≡ name → ⊥) → NeverLeads library (events.Load name text)
+renamed-never library name text spec accepted other s t leads =
+    let told = load_told (with_library s library) t name text leads in
+    let specs : Ok spec ≡ Ok told.spec = reads_one.spec text (Ok spec) (Ok told.spec) accepted told.accepted in
+    let same : spec ≡ told.spec = cc in
+    other (ap (λ (x : Spec). x.name) same ∙ told.named)

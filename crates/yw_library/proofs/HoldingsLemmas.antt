@@ -10,58 +10,56 @@ use Rattle.std.proofs.lemmas.List.Elements.{All-nil, All-push}
 use Rattle.std.proofs.lemmas.Option.{slice_get_within, get_or_from_slice_get}
 use Rattle.std.proofs.lemmas.Slice.Eq.{bytes_eq-Decides}
 use Rattle.yw_state.specs.Events.{after}
-use Rattle.yw_state.specs.Map.{Map, empty, get, has_key, lexical, of_entries}
+use Rattle.yw_state.specs.Map.{Map, get, has_key, lexical, of_entries}
+use Rattle.yw_state.specs.State.{State}
 use Rattle.yw_state.specs.declared.loaded.Loaded.{Loaded}
 use Rattle.yw_state.specs.Texts.{a_spec, nothing}
 use Rattle.yw_state.proofs.MapEntries.{get-of_entries, of_entries-push}
 use Rattle.yw_state.proofs.MapLemmas.{by_name, get-insert, same_map}
 use Rattle.yw_state.specs.declared.event.Event.TheVariants as events
-use Rattle.yw_library.specs.Holdings.{Holdings, IsKeptRight, SaysItsText, person_name, put_person, roles_under, spec_name, spec_under, state_of, with_person, with_spec}
+use Rattle.yw_library.specs.Holdings.{Holdings, IsKeptRight, SaysItsText, person_name, put_person, roles_under, spec_name, spec_under, state_of, with_library, with_person, with_spec}
 use Rattle.yw_library.specs.Numbers.{NumberedNames, AreFound, IsNumberOf, NoneNamed}
 use Rattle.yw_library.specs.declared.items.Person.{Person}
-use Rattle.yw_library.proofs.NamedLemmas.{is_same, same_from_true, get_where_found, get_where_none, key_where_none, key_where_one, none_from_key, found-push, found-set, found-stale}
+use Rattle.yw_library.proofs.NamedLemmas.{is_same, same_from_true, get_where_found, get_where_none, key_where_none, key_where_one, found-push, found-set, found-stale}
 
 abbrev roles_in : List Person → List ℕ → Option (List (List ℕ))
 roles_in ps q = find (slice_cmp nat_cmp) q (map roles_under ps)
 
-differ : (a b : List ℕ) → bytes_eq a b ≡ false → a ≡ b → ⊥
+pub differ : (a b : List ℕ) → bytes_eq a b ≡ false → a ≡ b → ⊥
 differ a b e same = let t = (bytes_eq-Decides a b).1 same in cc
 
 -- ---- what is found
 
 pub roles-none : (library : Holdings) (name : List ℕ) → NoneNamed person_name library.persons name → get (state_of library).persons name ≡ None
-unfolding state_of
+unfolding with_library
 roles-none library name none = get_where_none person_name (λ (p : Person). p.roles) library.persons name none
 
 pub roles-found : (library : Holdings) (numbers : NumberedNames) (name : List ℕ) (i : ℕ) (p : Person) → AreFound person_name library.persons numbers
     → slice_get library.persons i ≡ Some p → IsNumberOf person_name library.persons name (Some i) → get (state_of library).persons name ≡ Some p.roles
-unfolding state_of
+unfolding with_library
 roles-found library numbers name i p found at (one, there, has) =
     let same : one ≡ p = cc in
     get_where_found person_name (λ (p : Person). p.roles) library.persons numbers name i p found at (ap person_name (sym same) ∙ has)
 
 pub spec-missing : (library : Holdings) (name : List ℕ) → NoneNamed spec_name library.specs name → get (state_of library).specs name ≡ None
-unfolding state_of
+unfolding with_library
 spec-missing library name none = get_where_none spec_name (λ l. l) library.specs name none
 
 pub spec-found : (library : Holdings) (numbers : NumberedNames) (name : List ℕ) (i : ℕ) (l : Loaded) → AreFound spec_name library.specs numbers
     → slice_get library.specs i ≡ Some l → IsNumberOf spec_name library.specs name (Some i) → get (state_of library).specs name ≡ Some l
-unfolding state_of
+unfolding with_library
 spec-found library numbers name i l found at (one, there, has) =
     let same : one ≡ l = cc in
     get_where_found spec_name (λ l. l) library.specs numbers name i l found at (ap spec_name (sym same) ∙ has)
 
-pub spec-free : (library : Holdings) (name : List ℕ) → NoneNamed spec_name library.specs name → has_key (state_of library).specs name ≡ false
-unfolding state_of
-spec-free library name none = key_where_none spec_name (λ l. l) library.specs name none
+pub spec-free : (s : State) (library : Holdings) (name : List ℕ) → NoneNamed spec_name library.specs name → has_key (with_library s library).specs name ≡ false
+unfolding with_library
+spec-free s library name none = key_where_none spec_name (λ l. l) library.specs name none
 
-pub spec-known : (library : Holdings) (name : List ℕ) (i : ℕ) → IsNumberOf spec_name library.specs name (Some i) → has_key (state_of library).specs name ≡ true
-unfolding state_of
-spec-known library name i one = key_where_one spec_name (λ l. l) library.specs name i one
-
-pub spec-none : (library : Holdings) (name : List ℕ) → has_key (state_of library).specs name ≡ false → NoneNamed spec_name library.specs name
-unfolding state_of
-spec-none library name free = none_from_key spec_name (λ l. l) library.specs name free
+pub spec-known : (s : State) (library : Holdings) (name : List ℕ) (i : ℕ) → IsNumberOf spec_name library.specs name (Some i)
+    → has_key (with_library s library).specs name ≡ true
+unfolding with_library
+spec-known s library name i one = key_where_one spec_name (λ l. l) library.specs name i one
 
 -- ---- persons
 
@@ -145,11 +143,12 @@ roles_in-put_person new (p ∷ ps) q = by (bytes_eq p.name new.name) refl (roles
         ∙ swapped (is_same q new.name) (is_same q p.name) (Some new.roles) (Some p.roles) (roles_in ps q)
         (λ a b. differ p.name new.name e (sym (same_from_true q p.name b) ∙ same_from_true q new.name a))
 
-pub state-with_person : (library : Holdings) (new : Person) → state_of (with_person library new) ≡ after (state_of library) (events.Person new.name new.roles) nothing
-unfolding state_of after
-state-with_person library new =
+pub state-with_person : (s : State) (library : Holdings) (new : Person)
+    → with_library s (with_person library new) ≡ after (with_library s library) (events.Person new.name new.roles) nothing
+unfolding with_library after
+state-with_person s library new =
     let specs : Map lexical Loaded = of_entries (map spec_under library.specs) in
-    ap (λ (m : Map lexical (List (List ℕ))). record { specs = specs; persons = m; rules = empty; next = 1; sites = empty; ended = empty })
+    ap (λ (m : Map lexical (List (List ℕ))). record s { specs = specs; persons = m })
     (same_map by_name _ _ (λ q.
     get-of_entries by_name (map roles_under (put_person new library.persons)) q
     ∙ roles_in-put_person new library.persons q
@@ -162,14 +161,14 @@ none_from_some : {V : Type 0} (o : Option V) → is_some o ≡ false → o ≡ N
 none_from_some None e = refl
 none_from_some (Some x) e = cc
 
-pub state-with_spec : (library : Holdings) (loaded : Loaded) → has_key (state_of library).specs loaded.spec.name ≡ false
-    → state_of (with_spec library loaded) ≡ after (state_of library) (events.Load loaded.spec.name loaded.text) (a_spec loaded.spec)
-unfolding state_of after
-state-with_spec library loaded free =
+pub state-with_spec : (s : State) (library : Holdings) (loaded : Loaded) → has_key (with_library s library).specs loaded.spec.name ≡ false
+    → with_library s (with_spec library loaded) ≡ after (with_library s library) (events.Load loaded.spec.name loaded.text) (a_spec loaded.spec)
+unfolding with_library after
+state-with_spec s library loaded free =
     let roles : Map lexical (List (List ℕ)) = of_entries (map roles_under library.persons) in
     let specs = map spec_under library.specs in
     let none = sym (get-of_entries by_name specs loaded.spec.name) ∙ none_from_some (get (of_entries specs) loaded.spec.name) free in
-    ap (λ (m : Map lexical Loaded). record { specs = m; persons = roles; rules = empty; next = 1; sites = empty; ended = empty })
+    ap (λ (m : Map lexical Loaded). record s { specs = m; persons = roles })
     (ap (λ (es : List (List ℕ × Loaded)). of_entries es) (map-append spec_under library.specs (loaded ∷ []))
     ∙ of_entries-push by_name specs loaded.spec.name loaded none)
 

@@ -105,13 +105,6 @@ get_where_found {A} named value xs numbers name i x found at has = get-map_of na
         let same : first.one ≡ x = cc in
         first.is ∙ ap (λ (y : A). Some (value y)) same
 
-pub none_from_key : {A V : Type 0} (named : A → List ℕ) (value : A → V) (xs : List A) (name : List ℕ) → has_key (map_of named value xs) name ≡ false → NoneNamed named xs name
-none_from_key named value xs name free = by (looked named value xs name)
-  where
-    by : Looked named value xs name → NoneNamed named xs name
-    by (inl missing) = missing.none
-    by (inr first) = let is = ap is_some (get-map_of named value xs name ∙ first.is) in absurd cc
-
 pub key_where_none : {A V : Type 0} (named : A → List ℕ) (value : A → V) (xs : List A) (name : List ℕ) → NoneNamed named xs name → has_key (map_of named value xs) name ≡ false
 key_where_none named value xs name none = ap is_some (get_where_none named value xs name none)
 

@@ -2,12 +2,12 @@
 use Rattle.std.specs.Prelude.{◌≡◌, ℕ, List, [], ◌∷◌, ◌++◌, map, Some, All, slice_get, if◌then◌else◌}
 use Rattle.std.specs.Str.{bytes_eq}
 use Rattle.yw_spec.specs.declared.spec.Spec.{Spec}
-use Rattle.yw_state.specs.Map.{empty, get, of_entries}
-use Rattle.yw_state.specs.State.{State}
+use Rattle.yw_state.specs.Map.{get, of_entries}
+use Rattle.yw_state.specs.State.{State, opening}
 use Rattle.yw_state.specs.declared.loaded.Loaded.{Loaded}
 use Rattle.yw_model.specs.Texts.{IsAccepted}
 use Rattle.yw_library.specs.declared.items.Person.{Person}
-use Rattle.yw_library.specs.Numbers.{NumberedNames, AreFound}
+use Rattle.yw_library.specs.Numbers.{NumberedNames, AreFound, NoneNamed}
 
 -- Persons in the order of their first coming, and specifications in the order of loading.
 pub record Holdings : Type 0 where
@@ -29,17 +29,14 @@ roles_under p = (p.name, p.roles)
 abbrev pub spec_under : Loaded → List ℕ × Loaded
 spec_under l = (l.spec.name, l)
 
--- the roles of persons and the specifications by name; no rule is added, and no case stands
-unfoldable pub state_of : Holdings → State
-state_of library =
-    record {
-      specs = of_entries (map spec_under library.specs);
-      persons = of_entries (map roles_under library.persons);
-      rules = empty;
-      next = 1;
-      sites = empty;
-      ended = empty;
-    }
+-- The state s with these specifications by name and with these roles of persons, and all else of s.
+unfoldable pub with_library : State → Holdings → State
+with_library s library =
+    record s { specs = of_entries (map spec_under library.specs); persons = of_entries (map roles_under library.persons) }
+
+-- the same where no rule is added and no case stands
+abbrev pub state_of : Holdings → State
+state_of library = with_library opening library
 
 -- ---- what stays so
 
@@ -75,6 +72,11 @@ pub record AddsSpec (old new : Holdings) (name text : List ℕ) : Type 0 where
   pub texted : loaded.text ≡ text
 
 -- ---- what is found
+
+-- The text is accepted and says this specification, of whose name none is loaded.
+pub record IsFresh (library : Holdings) (text : List ℕ) (spec : Spec) : Type 0 where
+  pub accepted : IsAccepted text spec
+  pub new : NoneNamed spec_name library.specs spec.name
 
 -- Under the name a text is loaded that says this specification. It is the one with this number.
 pub record IsKept (library : Holdings) (name : List ℕ) (spec : Spec) (number : ℕ) : Type 0 where

@@ -1,3 +1,4 @@
 pub mod Numbers
 pub mod Accepts
 pub mod Holdings
+pub mod Always

@@ -3,13 +3,13 @@
 
 mod accepted;
 mod built;
+mod copies;
 mod fault;
 mod items;
 mod library;
 mod numbers;
-#[cfg(test)]
-mod tests;
 
+pub use copies::{copy_of_name, copy_of_names};
 pub use fault::LibraryFault;
 pub use items::{Person, PersonList};
 pub use library::Library;

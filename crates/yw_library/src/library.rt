@@ -1,27 +1,29 @@
 // Persons with their roles, and the specifications that are loaded.
-ghost use Rattle.std.specs.Prelude.{◌≡◌, ◌<◌, List, ℕ, Option, Some, None, false, length, slice_get, slice_set, All, IfOk, OnOk, OnErr, MatchOption};
+ghost use Rattle.std.specs.Prelude.{◌≡◌, ◌<◌, List, ℕ, Option, Some, None, Ok, true, false, length, slice_get, slice_set, All, IfOk, OnOk, OnErr, MatchOption};
 ghost use Rattle.std.specs.Option.{option_copied};
 ghost use Rattle.yw_state.specs.declared.event.Event.TheVariants as events;
 ghost use Rattle.yw_state.specs.declared.rule.Refusal.{Refusal};
 ghost use Rattle.yw_state.specs.Broken.{Breaks};
-ghost use Rattle.yw_state.specs.Events.{Leads, after};
+ghost use Rattle.yw_state.specs.Events.{after};
 ghost use Rattle.yw_state.specs.Map.{get, has_key};
-ghost use Rattle.yw_state.specs.State.{opening};
+ghost use Rattle.yw_state.specs.State.{State, opening};
 ghost use Rattle.yw_state.specs.Texts.{nothing};
 ghost use Rattle.yw_state.specs.declared.command.Command.TheVariants as commands;
 ghost use Rattle.yw_model.specs.Texts.{reader};
 ghost use Rattle.yw_library.specs.Accepts.{Answers, IfRefused};
+ghost use Rattle.yw_library.specs.Always.{AlwaysBreaks, AlwaysLeads, IsTried};
 ghost use Rattle.yw_library.specs.Holdings as kept;
-ghost use Rattle.yw_library.specs.Holdings.{AddsSpec, IsKept, SaysItsText, person_name, spec_name, state_of, with_person, with_spec};
+ghost use Rattle.yw_library.specs.Holdings.{AddsSpec, IsFresh, IsKept, SaysItsText, person_name, spec_name, state_of, with_library, with_person, with_spec};
 ghost use Rattle.yw_library.specs.Numbers.{IsNumberOf, NoneNamed};
 
 use crate::accepted::{accepted, placeless};
+use crate::copies::copy_of_name;
 use crate::numbers::Numbers;
 use crate::{LibraryFault, Person, PersonList};
 use std::alloc::{AllocError, Global};
 use std::marker::Model;
 use std::mem;
-use yw_base::{Items, Name, NameFault, NameList, Text};
+use yw_base::{Items, Name, NameList, Text};
 use yw_spec::Spec;
 use yw_state::{Loaded, LoadedList, Rule};
 
@@ -49,17 +51,6 @@ impl Model for Library {
     ghost view = { λ l. record { persons = l.persons; specs = l.specs } };
 
     ghost invariant = { λ l. IsKeptRight l.persons l.person_numbers l.specs l.spec_numbers };
-}
-
-/// A copy of a name.
-fn copy_of(alloc: Global, name: &Name) -> Result<Name, AllocError>
-    ensures { IfOk result (λ copy. copy ≡ name.now) }
-{
-    match Name::read(alloc, name.as_str()) {
-        Ok(copy) => Ok(copy),
-        Err(NameFault::Memory) => Err(AllocError),
-        Err(NameFault::Shape) => unreachable!(),
-    }
 }
 
 /// The persons, with this one in place of the one with this number.
@@ -135,9 +126,10 @@ impl Library {
 
     /// The person has these roles from now on, and no others. Who was there keeps the place among the persons,
     /// and who comes first stands behind all others. The roles aren't looked at: that they are at most 64, and none
-    /// twice, is for the caller. An `Err` says that no memory was left, and changes nothing.
+    /// twice, is for the caller. It is so in each state with this library in it. An `Err` says that no memory was left, and
+    /// changes nothing.
     pub fn person(&mut self, name: Name, roles: NameList) -> Result<(), AllocError>
-        ensures ok { OnOk result (state_of self.new ≡ after (state_of self.old) (events.Person name roles) nothing) }
+        ensures ok { OnOk result ((s : State) → with_library s self.new ≡ after (with_library s self.old) (events.Person name roles) nothing) }
         ensures place { OnOk result (self.new ≡ with_person self.old (record { name = name; roles = roles })) }
         ensures err { OnErr result (self.new ≡ self.old) }
     {
@@ -152,7 +144,7 @@ impl Library {
     /// One specification more, behind all others. An `Err` says that no memory was left, and changes nothing.
     fn keep(&mut self, loaded: Loaded) -> Result<(), AllocError>
         requires accepted { SaysItsText loaded }
-        requires new { has_key (state_of self.old).specs loaded.spec.name ≡ false }
+        requires new { NoneNamed spec_name self.old.specs loaded.spec.name }
         ensures ok { OnOk result (self.new ≡ with_spec self.old loaded) }
         ensures err { OnErr result (self.new ≡ self.old) }
     {
@@ -163,34 +155,72 @@ impl Library {
         Ok(())
     }
 
-    /// Loads the specification that a TOML text says, and gives its name. It stands behind all others, so its
+    /// Keeps the specification that a text says with a copy of the text. An `Err` says that no memory was left, and changes nothing.
+    fn keep_fresh(&mut self, text: &str, spec: Spec) -> Result<(), AllocError>
+        requires { IsFresh self.old text.now spec }
+        ensures leads { OnOk result (AlwaysLeads self.old (events.Load spec.name text.now) self.new) }
+        ensures place { OnOk result (AddsSpec self.old self.new spec.name text.now) }
+        ensures err { OnErr result (self.new ≡ self.old) }
+    {
+        let text = Text::copy_of(self.alloc, text)?;
+        self.keep(Loaded { text, spec })?;
+        Ok(())
+    }
+
+    /// The specification that a text says, where one of its name isn't loaded. Else the first rule that the text breaks, as `load` says.
+    fn fresh(&self, text: &str) -> Result<Spec, LibraryFault>
+        ensures ok { IfOk result (IsFresh self.now text.now) }
+        ensures refused { IfRefused result (λ refusal. AlwaysBreaks self.now (commands.Load text.now) (Some refusal)) }
+    {
+        let spec = accepted(self.alloc, text)?;
+        match self.spec_number(spec.name.as_str()) {
+            Some(_) => Err(LibraryFault::Refused(placeless(self.alloc, Rule::SpecExists))),
+            None => Ok(spec),
+        }
+    }
+
+    /// Loads the specification that a TOML text says, and gives its name. It stands after all others, so its
     /// number is how many were loaded before.
     ///
     /// `Refused` comes exactly where the text breaks a rule, with the first: `SpecText` where it is no TOML
     /// document; `SpecShape` where the document hasn't the shape of a specification, with the path of the first
     /// fault; `SpecCheck` where one of the twelve checks fails, with the first that does and what it names;
     /// `NotBuilt` where it uses what isn't built; `SpecExists` where one of its name is loaded. `Memory` comes
-    /// only where no memory was left. An `Err` changes nothing. The rules and their order are our own.
+    /// only where no memory was left. An `Err` changes nothing. All this is so in each state with this library in it.
+    /// The rules and their order are our own.
     pub fn load(&mut self, text: &str) -> Result<Name, LibraryFault>
-        ensures ok { IfOk result (λ name. Leads reader (state_of self.old) (events.Load name text.now) (state_of self.new)) }
+        ensures ok { IfOk result (λ name. AlwaysLeads self.old (events.Load name text.now) self.new) }
         ensures place { IfOk result (λ name. AddsSpec self.old self.new name text.now) }
-        ensures refused { IfRefused result (λ refusal. Breaks reader (state_of self.old) (commands.Load text.now) (Some refusal)
-            × (state_of self.new ≡ state_of self.old)) }
+        ensures refused { IfRefused result (λ refusal. AlwaysBreaks self.old (commands.Load text.now) (Some refusal) × (self.new ≡ self.old)) }
 
         // What is answered is the only answer that the definitions allow.
-        ensures only { (found : Option Refusal) → Breaks reader (state_of self.old) (commands.Load text.now) found → Answers result found }
+        ensures only { (s : State) (found : Option Refusal) → Breaks reader (with_library s self.old) (commands.Load text.now) found → Answers result found }
         ensures err { OnErr result (self.new ≡ self.old) }
     {
-        let spec = accepted(self.alloc, text)?;
-        match self.spec_number(spec.name.as_str()) {
-            Some(_) => Err(LibraryFault::Refused(placeless(self.alloc, Rule::SpecExists))),
-            None => {
-                let name = copy_of(self.alloc, &spec.name)?;
-                let text = Text::copy_of(self.alloc, text)?;
-                self.keep(Loaded { text, spec })?;
-                Ok(name)
-            }
+        let spec = self.fresh(text)?;
+        let name = copy_of_name(self.alloc, &spec.name)?;
+        self.keep_fresh(text, spec)?;
+        Ok(name)
+    }
+
+    /// Loads the specification that a text says under this name, as an event tells it: `true` where that leads on, and the
+    /// library is then that after it; `false` where it leads nowhere, since the text can't be loaded or says another name, and
+    /// nothing has changed. It is so in each state with this library in it. An `Err` says that no memory was left, and changes nothing.
+    pub fn load_as(&mut self, name: &Name, text: &str) -> Result<bool, AllocError>
+        ensures tried { IfOk result (λ leads. IsTried self.old (events.Load name.now text.now) leads self.new) }
+        ensures place { result ≡ Ok true → AddsSpec self.old self.new name.now text.now }
+        ensures err { OnErr result (self.new ≡ self.old) }
+    {
+        let spec = match self.fresh(text) {
+            Ok(spec) => spec,
+            Err(LibraryFault::Refused(_)) => return Ok(false),
+            Err(LibraryFault::Memory) => return Err(AllocError),
+        };
+        if spec.name.as_str() != name.as_str() {
+            return Ok(false);
         }
+        self.keep_fresh(text, spec)?;
+        Ok(true)
     }
 
     /// The specification with this name and its number in `specs`, or `None` where none of this name is loaded.

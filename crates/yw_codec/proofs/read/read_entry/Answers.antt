@@ -4,6 +4,7 @@ use Rattle.std.proofs.lemmas.List.{take_rest}
 use Rattle.std.proofs.lemmas.Result.{err_from_is_err_and}
 use Rattle.yw_codec.specs.Entries.{event_bytes}
 use Rattle.yw_codec.proofs.Counts.{entry_read, entry_parts, only_entry}
+use Rattle.yw_codec.proofs.Writable.{events_built}
 use Rattle.yw_codec.proofs.read.read_entry.Goals as goal
 
 pub returns-in_err-events-clause-bad : goal.returns-in_err-events-clause-bad
@@ -28,3 +29,6 @@ returns-clause-ok c =
 
 pub returns-clause-only : goal.returns-clause-only
 returns-clause-only c = only_entry c.args.bytes.now c.in_ok-events.events (c.in_ok-events.size + 2) (returns-clause-ok c)
+
+pub returns-clause-built : goal.returns-clause-built
+returns-clause-built c = events_built c.in_ok-events.events c.in_ok-events.ensures.events

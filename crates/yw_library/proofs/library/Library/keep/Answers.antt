@@ -1,17 +1,17 @@
 use Rattle.std.proofs.Common.{sym, subst}
 use Rattle.yw_library.specs.Holdings.{Holdings, spec_name}
 use Rattle.yw_library.specs.Numbers.{NoneNamed}
-use Rattle.yw_library.proofs.HoldingsLemmas.{kept-push_spec, kept-stale_spec, spec-none}
+use Rattle.yw_library.proofs.HoldingsLemmas.{kept-push_spec, kept-stale_spec}
 use Rattle.yw_library.proofs.library.Library.keep.Goals as goal
 
 pub invariant_of-self-in_err-push : goal.invariant_of-self-in_err-push
 invariant_of-self-in_err-push c =
     let name = c.args.loaded.spec.name in
-    let none = subst (λ (l : Holdings). NoneNamed spec_name l.specs name) (sym c.self.view_is) (spec-none c.args.self.now name c.requires.new) in
+    let none = subst (λ (l : Holdings). NoneNamed spec_name l.specs name) (sym c.self.view_is) c.requires.new in
     rw (c.in_err-push.ensures.err, c.in_ok-put.ensures.ok, c.as_str.ensures.text) (kept-stale_spec _ _ _ _ name c.len-number.result c.self.invariant none)
 
 pub invariant_of-self-2 : goal.invariant_of-self-2
 invariant_of-self-2 c =
     let new = c.args.loaded in
-    let none = subst (λ (l : Holdings). NoneNamed spec_name l.specs new.spec.name) (sym c.self.view_is) (spec-none c.args.self.now new.spec.name c.requires.new) in
+    let none = subst (λ (l : Holdings). NoneNamed spec_name l.specs new.spec.name) (sym c.self.view_is) c.requires.new in
     rw (c.in_ok-push.ensures.ok, c.in_ok-put.ensures.ok, c.as_str.ensures.text, c.len-number.ensures) (kept-push_spec _ _ _ _ new c.self.invariant none c.requires.accepted)
