@@ -13,8 +13,8 @@ use Rattle.yw_journal.proofs.Passing.{started, and_then, weakened}
 use Rattle.yw_journal.proofs.Images.{settled_is}
 use Rattle.yw_model.specs.Run.{Step, taken_by, said_by}
 use Rattle.yw_model.proofs.RunLemmas.{said_by-append}
-use Rattle.yw_serve.specs.Session.{with_steps, file_after, HasRoom, IsIn, IsBetween, IsAtWork, OfSteps, AreDone}
-use Rattle.yw_serve.proofs.Written.{with_steps-none, with_steps-append, file_after-steps, room_for_both}
+use Rattle.yw_serve.specs.Session.{EachWritten, with_steps, file_after, HasRoom, IsIn, IsBetween, IsAtWork, OfSteps, AreDone}
+use Rattle.yw_serve.proofs.Written.{with_steps-none, with_steps-append, file_after-steps, room_for_both, written_steps}
 use Rattle.yw_outside.specs.declared.desk.Desk.{Ghosts}
 
 said_further : (old said : List ℕ) (steps more : List Step) → said ≡ old ++ said_by steps → said ++ said_by more ≡ old ++ said_by (steps ++ more)
@@ -28,27 +28,28 @@ of_steps_longer f c steps more old i o = record {
   split = ap (λ (s : List Step). s ++ more) o.split ∙ append_assoc o.done o.rest more;
   here = ⊎_elim
       (λ (b : IsBetween f c o.done old i). inl b)
-      (λ (w : IsAtWork f c o.done o.rest old i). inr (record { step = w.step; later = w.later ++ more; first = ap (λ (s : List Step). s ++ more) w.first; file = w.file; said = w.said }))
+      (λ (w : IsAtWork f c o.done o.rest old i). inr (record { step = w.step; later = w.later ++ more; first = ap (λ (s : List Step). s ++ more) w.first; file = w.file; written = w.written; said = w.said }))
       o.here;
   other = o.other;
 }
 
--- and behind other steps that are done
-pub of_steps_behind : (f : File) (c : Content) (first steps : List Step) (old mid i : Image) → other_in f mid ≡ other_in f old → mid.said ≡ old.said ++ said_by first
+-- and after other steps that are done
+pub of_steps_after : (f : File) (c : Content) (first steps : List Step) (old mid i : Image) → other_in f mid ≡ other_in f old → mid.said ≡ old.said ++ said_by first → EachWritten (taken_by first)
     → OfSteps f (with_steps c first) steps mid i → OfSteps f c (first ++ steps) old i
-of_steps_behind f c first steps old mid i other said o =
+of_steps_after f c first steps old mid i other said written o =
     let in_all = λ (done : List Step) (h : IsIn f (with_steps (with_steps c first) done) i). subst (λ (x : Content). IsIn f x i) (with_steps-append c first done) h in
     record {
       done = first ++ o.done;
       rest = o.rest;
       split = ap (λ (s : List Step). first ++ s) o.split ∙ sym (append_assoc first o.done o.rest);
       here = ⊎_elim
-          (λ (b : IsBetween f (with_steps c first) o.done mid i). inl (record { file = in_all o.done b.file; said = b.said ∙ said_further old.said mid.said first o.done said }))
+          (λ (b : IsBetween f (with_steps c first) o.done mid i). inl (record { file = in_all o.done b.file; written = written_steps first o.done written b.written; said = b.said ∙ said_further old.said mid.said first o.done said }))
           (λ (w : IsAtWork f (with_steps c first) o.done o.rest mid i). inr (record {
             step = w.step;
             later = w.later;
             first = w.first;
             file = subst (λ (s : List Step). IsIn f (with_steps c s) i) (sym (append_assoc first o.done (w.step ∷ []))) (in_all (o.done ++ w.step ∷ []) w.file);
+            written = subst (λ (s : List Step). EachWritten (taken_by s)) (sym (append_assoc first o.done (w.step ∷ []))) (written_steps first (o.done ++ w.step ∷ []) written w.written);
             said = subst (λ (bs : List ℕ). SaysPart bs w.step.reply i.said) (said_further old.said mid.said first o.done said) w.said;
           }))
           o.here;
@@ -61,7 +62,7 @@ of_no_steps f c steps i h = record {
   done = [];
   rest = steps;
   split = refl;
-  here = inl (record { file = subst (λ (x : Content). IsIn f x i) (sym (with_steps-none c)) h; said = sym (append-nil i.said) });
+  here = inl (record { file = subst (λ (x : Content). IsIn f x i) (sym (with_steps-none c)) h; written = tt; said = sym (append-nil i.said) });
   other = refl;
 }
 
@@ -75,6 +76,7 @@ module _ {D : Type 0} (g : Ghosts D) where
       → IsCurrent journal c (g.state d) → AreDone g c [] journal d d
   nothing_done d c journal settled said only current = record {
     file = subst (λ (x : Content). IsCurrent journal x (g.state d)) (sym (with_steps-none c)) current;
+    written = tt;
     room = inl refl;
     bytes = refl;
     other = refl;
@@ -91,6 +93,7 @@ module _ {D : Type 0} (g : Ghosts D) where
       let other : other_in last.file (g.state mid) ≡ other_in last.file (g.state old) = subst (λ (f : File). other_in f (g.state mid) ≡ other_in f (g.state old)) (sym same) one.other in
       record {
         file = subst (λ (x : Content). IsCurrent last x (g.state new)) (with_steps-append c steps more) two.file;
+        written = written_steps steps more one.written two.written;
         room = room_for_both last.limit c steps more (subst (λ (n : ℕ). HasRoom n c steps) (sym limit) one.room) two.room;
         bytes = file_after-steps (file_in last.file (g.state old)) (file_in last.file (g.state mid)) (file_in last.file (g.state new)) c steps more
             (subst (λ (f : File). file_in f (g.state mid) ≡ file_after (file_in f (g.state old)) c (taken_by steps)) (sym same) one.bytes) two.bytes;
@@ -101,15 +104,15 @@ module _ {D : Type 0} (g : Ghosts D) where
             (weakened g old mid (OfSteps first.file c steps (g.state old)) (OfSteps last.file c (steps ++ more) (g.state old)) one.moments
             (λ i o. of_steps_longer last.file c steps more (g.state old) i (subst (λ (f : File). OfSteps f c steps (g.state old) i) (sym same) o)))
             two.moments
-            (λ i o. of_steps_behind last.file c steps more (g.state old) (g.state mid) i other one.said o);
+            (λ i o. of_steps_after last.file c steps more (g.state old) (g.state mid) i other one.said one.written o);
       }
 
   -- steps that are done, and then some at work
-  pub leaves_behind : (c : Content) (steps work : List Step) (journal : Journal) (old mid new : D) → AreDone g c steps journal old mid
+  pub leaves_after : (c : Content) (steps work : List Step) (journal : Journal) (old mid new : D) → AreDone g c steps journal old mid
       → LeavesOnly g mid new (OfSteps journal.file (with_steps c steps) work (g.state mid)) → LeavesOnly g old new (OfSteps journal.file c (steps ++ work) (g.state old))
-  leaves_behind c steps work journal old mid new one two =
+  leaves_after c steps work journal old mid new one two =
       and_then g old mid new (OfSteps journal.file c (steps ++ work) (g.state old)) (OfSteps journal.file (with_steps c steps) work (g.state mid))
       (weakened g old mid (OfSteps journal.file c steps (g.state old)) (OfSteps journal.file c (steps ++ work) (g.state old)) one.moments
       (λ i o. of_steps_longer journal.file c steps work (g.state old) i o))
       two
-      (λ i o. of_steps_behind journal.file c steps work (g.state old) (g.state mid) i one.other one.said o)
+      (λ i o. of_steps_after journal.file c steps work (g.state old) (g.state mid) i one.other one.said one.written o)

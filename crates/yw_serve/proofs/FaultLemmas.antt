@@ -1,5 +1,5 @@
 -- Calls in turn, of which the first ones didn't fail.
-use Rattle.std.proofs.Common.{◌≡◌, ◌⊎◌, ℕ, Option, Some, None, Result, Ok, Err, inl, inr, sym, ◌∙◌, subst}
+use Rattle.std.proofs.Common.{◌≡◌, ℕ, Result, Ok, Err, inl, inr, sym, ◌∙◌, subst}
 use Rattle.std.specs.Prelude.{IfErr, IsErrAnd}
 use Rattle.yw_outside.specs.Causes.{Rose}
 use Rattle.yw_outside.specs.Since.{NoneFailed}
@@ -8,11 +8,11 @@ use Rattle.yw_verdict.specs.Counts.{CountsRead, CountsWrite}
 use Rattle.yw_verdict.specs.declared.verdict.Verdict.{Verdict}
 use Rattle.yw_verdict.specs.declared.verdict.Verdict.TheVariants as verdicts
 use Rattle.yw_serve.specs.Checked.{status_of}
-use Rattle.yw_serve.specs.Faults.{FilesFailed, SayFailed, StopFaults, CallFaults, EndingFaults, TurnFaults, NoticeFaults, StatusFaults}
+use Rattle.yw_serve.specs.Faults.{FilesFailed, SayFailed, StopFaults, CallFaults, EndingFaults, NoticeFaults, StatusFaults}
 use Rattle.yw_serve.specs.declared.run.Ending.{Ending}
 use Rattle.yw_serve.specs.declared.run.Ending.TheVariants as endings
-use Rattle.yw_serve.specs.declared.session.Stop.{Stop}
-use Rattle.yw_serve.specs.declared.session.Stop.TheVariants as stops
+use Rattle.yw_serve.specs.declared.server.Stop.{Stop}
+use Rattle.yw_serve.specs.declared.server.Stop.TheVariants as stops
 use Rattle.yw_serve.specs.declared.top.Status.{Status}
 use Rattle.yw_serve.specs.declared.top.Status.TheVariants as statuses
 

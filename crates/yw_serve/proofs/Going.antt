@@ -13,12 +13,13 @@ use Rattle.yw_state.specs.State.{State}
 use Rattle.yw_model.specs.Run.{Step, Answers, Run}
 use Rattle.yw_lines.proofs.LinesLemmas.{whole_lines-append, whole_lines-newline, last_part-newline, whole_lines-part, last_part-part}
 use Rattle.yw_model.proofs.Answering.{Answers-take}
-use Rattle.yw_model.proofs.RunLemmas.{Run-one, Run-append, has_run}
+use Rattle.yw_model.proofs.RunLemmas.{Run-one, Run-append}
+use Rattle.yw_serve.specs.declared.server.Server.{Server}
 use Rattle.yw_serve.specs.declared.session.Session.{Session}
-use Rattle.yw_serve.specs.declared.session.Stop.{Stop}
-use Rattle.yw_serve.specs.declared.session.Stop.TheVariants.{Memory}
+use Rattle.yw_serve.specs.declared.server.Stop.{Stop}
+use Rattle.yw_serve.specs.declared.server.Stop.TheVariants.{Memory}
 use Rattle.yw_serve.specs.Kept.{most_kept, kept_of}
-use Rattle.yw_serve.specs.Session.{state_of, with_steps, OfSteps, AreDone, AnswersOn, Why, StopsWithin, IsAtByte, GoesOn, EndsLine, CutsLine}
+use Rattle.yw_serve.specs.Session.{server_state, state_of, with_steps, OfSteps, AreDone, AnswersOn, Why, StopsWithin, IsAtByte, GoesOn, EndsLine, CutsLine}
 use Rattle.yw_serve.proofs.KeptLemmas.{kept_is, kept_over}
 use Rattle.yw_serve.proofs.Written.{with_steps-none, with_steps-append}
 use Rattle.yw_serve.proofs.Doing.{of_no_steps, nothing_done, done_both, leaves_nothing}
@@ -63,22 +64,22 @@ module _ {D : Type 0} (g : Ghosts D) where
   pub none_done : (c : Content) (journal : Journal) (d : D) → IsReadyAt c journal d → AreDone g c [] journal d d
   none_done c journal d r = nothing_done g d c journal r.settled r.said r.only r.current
 
-  pub goes_nowhere : (c : Content) (session : Session) (taken : List ℕ) (d : D) → IsReadyAt c session.journal d → IsAtByte session taken → GoesOn g c session session taken [] d d
+  pub goes_nowhere : (c : Content) (session : Session) (taken : List ℕ) (d : D) → IsReadyAt c session.server.journal d → IsAtByte session taken → GoesOn g c session session taken [] d d
   goes_nowhere c session taken d r at = record {
     answers = record {
       lines = [];
       split = ap whole_lines (append-nil taken) ∙ sym (append-nil (whole_lines taken));
       steps = [];
       run = refl;
-      are_done = none_done c session.journal d r;
+      are_done = none_done c session.server.journal d r;
     };
     at = at ∙ ap (λ (bs : List ℕ). kept_of (last_part bs)) (sym (append-nil taken));
     number = omega arith;
   }
 
-  module _ (c : Content) (a b : Session) (taken p : List ℕ) (old mid new : D) (same : b.journal.file ≡ a.journal.file) (limit : b.journal.limit ≡ a.journal.limit)
+  module _ (c : Content) (a b : Session) (taken p : List ℕ) (old mid new : D) (same : b.server.journal.file ≡ a.server.journal.file) (limit : b.server.journal.limit ≡ a.server.journal.limit)
       (first : GoesOn g c a b taken p old mid) where
-    pub goes_further : (z : Session) (q : List ℕ) → z.journal.file ≡ b.journal.file → z.journal.limit ≡ b.journal.limit → GoesOn g (with_steps c first.answers.steps) b z (taken ++ p) q mid new
+    pub goes_further : (z : Session) (q : List ℕ) → z.server.journal.file ≡ b.server.journal.file → z.server.journal.limit ≡ b.server.journal.limit → GoesOn g (with_steps c first.answers.steps) b z (taken ++ p) q mid new
         → GoesOn g c a z taken (p ++ q) old new
     goes_further z q file limit_too next =
         let whole : taken ++ (p ++ q) ≡ (taken ++ p) ++ q = sym (append_assoc taken p q) in
@@ -89,7 +90,7 @@ module _ {D : Type 0} (g : Ghosts D) where
             steps = first.answers.steps ++ next.answers.steps;
             run = Run-append (state_of a) a.number first.answers.lines first.answers.steps (state_of b) next.answers.lines next.answers.steps (state_of z) first.answers.run
                 (subst (λ (n : ℕ). Run (state_of b) n next.answers.lines next.answers.steps (state_of z)) first.number next.answers.run);
-            are_done = done_both g c first.answers.steps next.answers.steps b.journal z.journal old mid new file limit_too first.answers.are_done next.answers.are_done;
+            are_done = done_both g c first.answers.steps next.answers.steps b.server.journal z.server.journal old mid new file limit_too first.answers.are_done next.answers.are_done;
           };
           at = next.at ∙ ap (λ (bs : List ℕ). kept_of (last_part bs)) (append_assoc taken p q);
           number = next.number ∙ ap (λ n. n + length next.answers.lines) first.number ∙ summed a.number first.answers.lines next.answers.lines;
@@ -115,11 +116,10 @@ module _ {D : Type 0} (g : Ghosts D) where
               (subst (λ (n : ℕ). Run (state_of b) n s.lines s.steps s.reached) first.number s.run);
           mid = s.mid;
           journal = s.journal;
-          are_done = done_both g c steps s.steps b.journal s.journal old mid s.mid s.file s.limit first.answers.are_done s.are_done;
+          are_done = done_both g c steps s.steps b.server.journal s.journal old mid s.mid s.file s.limit first.answers.are_done s.are_done;
           work = s.work;
           after = s.after;
           run_on = subst (λ (n : ℕ). Run s.reached n s.next s.work s.after) place s.run_on;
-          goes_on = has_run s.after (a.number + length (first.answers.lines ++ s.lines) + length s.next) s.later;
           moments = subst (λ (x : Content). LeavesOnly g s.mid new (OfSteps s.journal.file x s.work (g.state s.mid))) (with_steps-append c steps s.steps) s.moments;
           why = subst (λ (x : Content). Why g x stop s.journal s.work s.mid new) (with_steps-append c steps s.steps) s.why;
           limit = s.limit ∙ limit;
@@ -146,7 +146,6 @@ module _ {D : Type 0} (g : Ghosts D) where
         work = s.work;
         after = s.after;
         run_on = s.run_on;
-        goes_on = has_run s.after (a.number + length s.lines + length s.next) (s.later ++ extra);
         moments = s.moments;
         why = s.why;
         limit = s.limit;
@@ -154,7 +153,7 @@ module _ {D : Type 0} (g : Ghosts D) where
       }
 
   -- no memory is left before anything was done for these lines
-  pub stops_before : (c : Content) (a : Session) (done all more : List (List ℕ)) (d : D) → IsReadyAt c a.journal d → all ≡ done ++ more → StopsWithin g c Memory a done all d d
+  pub stops_before : (c : Content) (a : Session) (done all more : List (List ℕ)) (d : D) → IsReadyAt c a.server.journal d → all ≡ done ++ more → StopsWithin g c Memory a done all d d
   stops_before c a done all more d r e = record {
     lines = [];
     next = [];
@@ -164,34 +163,33 @@ module _ {D : Type 0} (g : Ghosts D) where
     reached = state_of a;
     run = refl;
     mid = d;
-    journal = a.journal;
-    are_done = none_done c a.journal d r;
+    journal = a.server.journal;
+    are_done = none_done c a.server.journal d r;
     work = [];
     after = state_of a;
     run_on = refl;
-    goes_on = has_run (state_of a) (a.number + 0 + 0) more;
-    moments = leaves_nothing g d (OfSteps a.journal.file (with_steps c []) [] (g.state d)) r.settled r.said r.only
-        (subst (λ (x : Content). OfSteps a.journal.file x [] (g.state d) (g.state d)) (sym (with_steps-none c)) (of_no_steps a.journal.file c [] (g.state d) (a.journal.end, r.current.holds)));
+    moments = leaves_nothing g d (OfSteps a.server.journal.file (with_steps c []) [] (g.state d)) r.settled r.said r.only
+        (subst (λ (x : Content). OfSteps a.server.journal.file x [] (g.state d) (g.state d)) (sym (with_steps-none c)) (of_no_steps a.server.journal.file c [] (g.state d) (a.server.journal.end, r.current.holds)));
     why = refl;
     limit = refl;
     file = refl;
   }
 
   -- the same, of a stop that says so
-  pub stops_nowhere : (c : Content) (stop : Stop) (a : Session) (done all more : List (List ℕ)) (old new : D) → IsReadyAt c a.journal old → all ≡ done ++ more → stop ≡ Memory → new ≡ old
+  pub stops_nowhere : (c : Content) (stop : Stop) (a : Session) (done all more : List (List ℕ)) (old new : D) → IsReadyAt c a.server.journal old → all ≡ done ++ more → stop ≡ Memory → new ≡ old
       → StopsWithin g c stop a done all old new
   stops_nowhere c stop a done all more old new r e is same =
       subst (λ (x : Stop). StopsWithin g c x a done all old new) (sym is)
       (subst (λ (x : D). StopsWithin g c Memory a done all old x) (sym same) (stops_before c a done all more old r e))
 
-  pub stops_at_line : (c : Content) (a : Session) (taken part : List ℕ) (d : D) → IsReadyAt c a.journal d → HasNoNewline part
+  pub stops_at_line : (c : Content) (a : Session) (taken part : List ℕ) (d : D) → IsReadyAt c a.server.journal d → HasNoNewline part
       → StopsWithin g c Memory a (whole_lines taken) (whole_lines (taken ++ (part ++ newline ∷ []))) d d
   stops_at_line c a taken part d r none = stops_before c a (whole_lines taken) _ ((last_part taken ++ part) ∷ []) d r (line_ends taken part none)
 
-  -- it stopped at the line that comes behind the done ones
-  stops_in : (c : Content) (stop : Stop) (a : Session) (done all : List (List ℕ)) (line : List ℕ) (old new : D) → IsReadyAt c a.journal old → all ≡ done ++ line ∷ []
+  -- it stopped at the line that comes after the done ones
+  stops_in : (c : Content) (stop : Stop) (a : Session) (done all : List (List ℕ)) (line : List ℕ) (old new : D) → IsReadyAt c a.server.journal old → all ≡ done ++ line ∷ []
       → (step : Step) (after : State) → Answers (state_of a) a.number line step after
-      → LeavesOnly g old new (OfSteps a.journal.file c (step ∷ []) (g.state old)) → Why g c stop a.journal (step ∷ []) old new
+      → LeavesOnly g old new (OfSteps a.server.journal.file c (step ∷ []) (g.state old)) → Why g c stop a.server.journal (step ∷ []) old new
       → StopsWithin g c stop a done all old new
   stops_in c stop a done all line old new r e step after answers moments why = record {
     lines = [];
@@ -202,90 +200,92 @@ module _ {D : Type 0} (g : Ghosts D) where
     reached = state_of a;
     run = refl;
     mid = old;
-    journal = a.journal;
-    are_done = none_done c a.journal old r;
+    journal = a.server.journal;
+    are_done = none_done c a.server.journal old r;
     work = step ∷ [];
     after = after;
     run_on = subst (λ (n : ℕ). Run (state_of a) n (line ∷ []) (step ∷ []) after) (omega arith) (Run-one (state_of a) a.number line step after answers);
-    goes_on = has_run after (a.number + 0 + 1) [];
-    moments = subst (λ (x : Content). LeavesOnly g old new (OfSteps a.journal.file x (step ∷ []) (g.state old))) (sym (with_steps-none c)) moments;
-    why = subst (λ (x : Content). Why g x stop a.journal (step ∷ []) old new) (sym (with_steps-none c)) why;
+    moments = subst (λ (x : Content). LeavesOnly g old new (OfSteps a.server.journal.file x (step ∷ []) (g.state old))) (sym (with_steps-none c)) moments;
+    why = subst (λ (x : Content). Why g x stop a.server.journal (step ∷ []) old new) (sym (with_steps-none c)) why;
     limit = refl;
     file = refl;
   }
 
-  module _ (c : Content) (before mid : Session) (taken part : List ℕ) (at : IsAtByte before taken) (none_in : HasNoNewline part) (front : mid.front.items ≡ kept_of (before.front.items ++ part))
-      (same : state_of mid ≡ state_of before) (number : mid.number ≡ before.number) (journal : mid.journal ≡ before.journal) (old new : D) where
-    kept_so_far : mid.front.items ≡ kept_of (last_part taken ++ part)
-    kept_so_far = front ∙ ap (λ (bs : List ℕ). kept_of (bs ++ part)) at ∙ take_cut most_kept (last_part taken) part
+  module _ (c : Content) (before : Session) (taken part : List ℕ) (at : IsAtByte before taken) (none_in : HasNoNewline part) where
+    kept_so_far : (line : List ℕ) → line ≡ kept_of (before.line.items ++ part) → line ≡ kept_of (last_part taken ++ part)
+    kept_so_far line kept = kept ∙ ap (λ (bs : List ℕ). kept_of (bs ++ part)) at ∙ take_cut most_kept (last_part taken) part
 
-    pub goes_by_part : IsReadyAt c mid.journal old → GoesOn g c before mid taken part old old
-    goes_by_part r = record {
+    -- the part ends no line
+    pub goes_by_part : (now : Session) (d : D) → now.line.items ≡ kept_of (before.line.items ++ part) → now.server ≡ before.server → now.number ≡ before.number
+        → IsReadyAt c now.server.journal d → GoesOn g c before now taken part d d
+    goes_by_part now d kept same number r = record {
       answers = record {
         lines = [];
         split = whole_lines-part taken part none_in ∙ sym (append-nil (whole_lines taken));
         steps = [];
-        run = same;
-        are_done = none_done c mid.journal old r;
+        run = ap server_state same;
+        are_done = none_done c now.server.journal d r;
       };
-      at = kept_so_far ∙ ap kept_of (sym (last_part-part taken part none_in));
+      at = kept_so_far now.line.items kept ∙ ap kept_of (sym (last_part-part taken part none_in));
       number = number ∙ omega arith;
     }
 
-    line_answered : (step : Step) (t : State) → Answers (state_of mid) mid.number mid.front.items step t → Answers (state_of before) before.number (last_part taken ++ part) step t
-    line_answered step t a = answered_as_kept (state_of before) before.number (last_part taken ++ part) step t
-        (subst (λ (s : State). Answers s before.number (kept_of (last_part taken ++ part)) step t) same
-        (subst (λ (n : ℕ). Answers (state_of mid) n (kept_of (last_part taken ++ part)) step t) number
-        (subst (λ (l : List ℕ). Answers (state_of mid) mid.number l step t) kept_so_far a)))
+    -- with a newline it does
+    module _ (server : Server) (same : server ≡ before.server) (n : ℕ) (number : n ≡ before.number) (line : List ℕ) (kept : line ≡ kept_of (before.line.items ++ part)) (old new : D) where
+      line_answered : (step : Step) (t : State) → Answers (server_state server) n line step t → Answers (state_of before) before.number (last_part taken ++ part) step t
+      line_answered step t a = answered_as_kept (state_of before) before.number (last_part taken ++ part) step t
+          (subst (λ (x : Server). Answers (server_state x) before.number (kept_of (last_part taken ++ part)) step t) same
+          (subst (λ (k : ℕ). Answers (server_state server) k (kept_of (last_part taken ++ part)) step t) number
+          (subst (λ (l : List ℕ). Answers (server_state server) n l step t) (kept_so_far line kept) a)))
 
-    pub goes_by_line : (now : Session) → EndsLine g c mid now old new → GoesOn g c before now taken (part ++ newline ∷ []) old new
-    goes_by_line now e = record {
-      answers = record {
-        lines = (last_part taken ++ part) ∷ [];
-        split = line_ends taken part none_in;
-        steps = e.step ∷ [];
-        run = Run-one (state_of before) before.number (last_part taken ++ part) e.step (state_of now) (line_answered e.step (state_of now) e.answers);
-        are_done = e.are_done;
-      };
-      at = e.front ∙ sym (ap kept_of (ap last_part (sym (append_assoc taken part (newline ∷ []))) ∙ last_part-newline (taken ++ part)) ∙ take_all most_kept [] (omega arith));
-      number = e.number ∙ ap (λ n. n + 1) number;
-    }
+      pub goes_by_line : (now : Session) → now.line.items ≡ [] → now.number ≡ n + 1 → EndsLine g c server now.server n line old new → GoesOn g c before now taken (part ++ newline ∷ []) old new
+      goes_by_line now begun next e = record {
+        answers = record {
+          lines = (last_part taken ++ part) ∷ [];
+          split = line_ends taken part none_in;
+          steps = e.step ∷ [];
+          run = Run-one (state_of before) before.number (last_part taken ++ part) e.step (state_of now) (line_answered e.step (state_of now) e.answers);
+          are_done = e.are_done;
+        };
+        at = begun ∙ sym (ap kept_of (ap last_part (sym (append_assoc taken part (newline ∷ []))) ∙ last_part-newline (taken ++ part)) ∙ take_all most_kept [] (omega arith));
+        number = next ∙ ap (λ n. n + 1) number;
+      }
 
-    pub stops_in_line : (stop : Stop) → IsReadyAt c before.journal old → CutsLine g c stop mid old new
-        → StopsWithin g c stop before (whole_lines taken) (whole_lines (taken ++ (part ++ newline ∷ []))) old new
-    stops_in_line stop r (inl none) = stops_nowhere c stop before (whole_lines taken) _ ((last_part taken ++ part) ∷ []) old new r (line_ends taken part none_in) none.0 none.1
-    stops_in_line stop r (inr e) = stops_in c stop before (whole_lines taken) _ (last_part taken ++ part) old new r (line_ends taken part none_in) e.step e.after (line_answered e.step e.after e.answers)
-        (subst (λ (j : Journal). LeavesOnly g old new (OfSteps j.file c (e.step ∷ []) (g.state old))) journal e.moments)
-        (subst (λ (j : Journal). Why g c stop j (e.step ∷ []) old new) journal e.why)
+      pub stops_in_line : (stop : Stop) → IsReadyAt c before.server.journal old → CutsLine g c stop server n line old new
+          → StopsWithin g c stop before (whole_lines taken) (whole_lines (taken ++ (part ++ newline ∷ []))) old new
+      stops_in_line stop r (inl none) = stops_nowhere c stop before (whole_lines taken) _ ((last_part taken ++ part) ∷ []) old new r (line_ends taken part none_in) none.0 none.1
+      stops_in_line stop r (inr e) = stops_in c stop before (whole_lines taken) _ (last_part taken ++ part) old new r (line_ends taken part none_in) e.step e.after (line_answered e.step e.after e.answers)
+          (subst (λ (x : Server). LeavesOnly g old new (OfSteps x.journal.file c (e.step ∷ []) (g.state old))) same e.moments)
+          (subst (λ (x : Server). Why g c stop x.journal (e.step ∷ []) old new) same e.why)
 
-  module _ (c : Content) (before : Session) (taken : List ℕ) (at : IsAtByte before taken) (old : D) (r : IsReadyAt c before.journal old) where
+  module _ (c : Content) (before : Session) (taken : List ℕ) (at : IsAtByte before taken) (old : D) (r : IsReadyAt c before.server.journal old) where
     -- nothing follows the last newline
-    pub ends_without_line : before.front.items ≡ [] → AnswersOn g c before (whole_lines taken) (all_lines taken) (state_of before) before.journal old old
+    pub ends_without_line : before.line.items ≡ [] → AnswersOn g c before (whole_lines taken) (all_lines taken) (state_of before) before.server.journal old old
     ends_without_line e = record {
       lines = [];
       split = no_last_line most_kept (whole_lines taken) (last_part taken) (omega (arith, kept_is)) (sym at ∙ e);
       steps = [];
       run = refl;
-      are_done = none_done c before.journal old r;
+      are_done = none_done c before.server.journal old r;
     }
 
-    module _ (new : D) (some : 0 < length before.front.items) where
+    module _ (line : List ℕ) (kept : line ≡ before.line.items) (some : 0 < length before.line.items) (new : D) where
       last_line_split : all_lines taken ≡ whole_lines taken ++ last_part taken ∷ []
-      last_line_split = one_last_line most_kept (whole_lines taken) (last_part taken) before.front.items at some
+      last_line_split = one_last_line most_kept (whole_lines taken) (last_part taken) before.line.items at some
 
-      last_answered : (step : Step) (t : State) → Answers (state_of before) before.number before.front.items step t → Answers (state_of before) before.number (last_part taken) step t
-      last_answered step t a = answered_as_kept (state_of before) before.number (last_part taken) step t (subst (λ (l : List ℕ). Answers (state_of before) before.number l step t) at a)
+      last_answered : (step : Step) (t : State) → Answers (state_of before) before.number line step t → Answers (state_of before) before.number (last_part taken) step t
+      last_answered step t a = answered_as_kept (state_of before) before.number (last_part taken) step t (subst (λ (l : List ℕ). Answers (state_of before) before.number l step t) (kept ∙ at) a)
 
-      pub ends_with_line : (now : Session) → EndsLine g c before now old new
-          → AnswersOn g c before (whole_lines taken) (all_lines taken) (state_of now) now.journal old new
+      pub ends_with_line : (now : Server) → EndsLine g c before.server now before.number line old new
+          → AnswersOn g c before (whole_lines taken) (all_lines taken) (server_state now) now.journal old new
       ends_with_line now e = record {
         lines = last_part taken ∷ [];
         split = last_line_split;
         steps = e.step ∷ [];
-        run = Run-one (state_of before) before.number (last_part taken) e.step (state_of now) (last_answered e.step (state_of now) e.answers);
+        run = Run-one (state_of before) before.number (last_part taken) e.step (server_state now) (last_answered e.step (server_state now) e.answers);
         are_done = e.are_done;
       }
 
-      pub stops_in_last : (stop : Stop) → CutsLine g c stop before old new → StopsWithin g c stop before (whole_lines taken) (all_lines taken) old new
+      pub stops_in_last : (stop : Stop) → CutsLine g c stop before.server before.number line old new → StopsWithin g c stop before (whole_lines taken) (all_lines taken) old new
       stops_in_last stop (inl none) = stops_nowhere c stop before (whole_lines taken) _ (last_part taken ∷ []) old new r last_line_split none.0 none.1
       stops_in_last stop (inr e) = stops_in c stop before (whole_lines taken) _ (last_part taken) old new r last_line_split e.step e.after (last_answered e.step e.after e.answers) e.moments e.why

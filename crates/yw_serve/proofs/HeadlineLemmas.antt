@@ -10,26 +10,25 @@ use Rattle.yw_outside.specs.declared.image.Image.{Image}
 use Rattle.yw_outside.specs.Tells.{Tells}
 use Rattle.yw_journal.specs.Files.{Content, HasContent, Holds, IsLesser, generation_of, header_damage, is_live}
 use Rattle.yw_journal.specs.FileLaws.{content_generation, content_live}
-use Rattle.yw_codec.specs.Entries.{entry_bytes}
 use Rattle.yw_lines.specs.Lines as input
 use Rattle.yw_model.specs.Run.{Step, Run, taken_by, said_by}
 use Rattle.yw_state.specs.State.{State}
 use Rattle.yw_serve.specs.Damage.{HoldNow, meaning}
 use Rattle.yw_serve.specs.Ends.{before_piece, has_ended, AllAnswered, SomeAnswered, EndsShort}
-use Rattle.yw_serve.specs.Headline.{Serves, HoldsFront}
+use Rattle.yw_serve.specs.Headline.{Serves, HoldsPrefix}
 use Rattle.yw_serve.specs.Notices.{full_line}
 use Rattle.yw_serve.specs.Opening.{LeftByOpening}
 use Rattle.yw_serve.specs.Served.{OpeningEnds, RunEnds, RunsFrom}
-use Rattle.yw_serve.specs.Session.{IsAtWork, IsBetween, IsIn, OfSteps, with_steps}
-use Rattle.yw_serve.specs.declared.session.Stop.{Stop}
-use Rattle.yw_serve.specs.declared.session.Stop.TheVariants as stops
+use Rattle.yw_serve.specs.Session.{EachWritten, IsAtWork, IsBetween, IsIn, OfSteps, bytes_of, with_steps}
+use Rattle.yw_serve.specs.declared.server.Stop.{Stop}
+use Rattle.yw_serve.specs.declared.server.Stop.TheVariants as stops
 use Rattle.yw_serve.specs.declared.top.Status.{Status}
 use Rattle.yw_serve.specs.declared.top.Status.TheVariants.{Ok, Findings, Usage, Disk, Memory, Read, Write, Damaged, Full, InputLimit}
 use Rattle.yw_journal.proofs.Images.{settled_is}
 use Rattle.yw_journal.proofs.Passing.{and_then, weakened}
 use Rattle.yw_lines.proofs.LinesLemmas.{whole_lines-append}
 use Rattle.yw_model.proofs.RunLemmas.{Run-append}
-use Rattle.yw_serve.proofs.Doing.{leaves_behind}
+use Rattle.yw_serve.proofs.Doing.{leaves_after}
 use Rattle.yw_serve.proofs.Telling.{holds_same, same_other}
 use Rattle.yw_serve.proofs.OpenLaws.{held_once, held_or_damaged}
 use Rattle.yw_serve.proofs.Meant.{run_meant}
@@ -66,11 +65,11 @@ in_file_a B c s i j steps h is other = absurd (by_content h.hold.content)
 
 -- Where the files held a state and hold the entries of a run from it, they hold the state that it reaches.
 pub held_after : (f : File) (c : Content) (s : State) (i : Image) (n : ℕ) (all : List (List ℕ)) (steps : List Step) (t : State) (j : Image)
-    → HoldNow c s i → Run s n all steps t → IsIn f (with_steps c steps) j → other_in f j ≡ other_in f i → HoldNow (with_steps c steps) t j
-held_after f c s i n all steps t j h run is other = record {
+    → HoldNow c s i → Run s n all steps t → EachWritten (taken_by steps) → IsIn f (with_steps c steps) j → other_in f j ≡ other_in f i → HoldNow (with_steps c steps) t j
+held_after f c s i n all steps t j h run written is other = record {
   hold = record {
     content = inr (f, is.0, is.1);
-    state = (h.hold.state.0, h.hold.state.1, LeadsTo-append meaning h.hold.state.0 c.records s (map entry_bytes (taken_by steps)) t h.hold.state.2 (run_meant s n all steps t run));
+    state = (h.hold.state.0, h.hold.state.1, LeadsTo-append meaning h.hold.state.0 c.records s (map bytes_of (taken_by steps)) t h.hold.state.2 (run_meant s n all steps t written run));
   };
   alone = ap is_live (subst (λ (g : File). other_in g j ≡ other_in g i) (in_file_a f c s i j steps h is other) other) ∙ h.alone;
 }
@@ -89,7 +88,7 @@ module _ {D : Type 0} (g : Ghosts D) where
         reached = a.reached;
         run = a.run;
         now = with_steps from.c a.steps;
-        holds = held_after a.journal.file from.c from.s (g.state from.opened) 1 (input.lines bytes true) a.steps a.reached (g.state new) from.holds a.run (a.journal.end, d.file.holds) d.other;
+        holds = held_after a.journal.file from.c from.s (g.state from.opened) 1 (input.lines bytes true) a.steps a.reached (g.state new) from.holds a.run d.written (a.journal.end, d.file.holds) d.other;
         settled = d.settled;
         said = d.said ∙ ap (λ (bs : List ℕ). bs ++ said_by a.steps) from.said;
       }
@@ -111,24 +110,24 @@ module _ {D : Type 0} (g : Ghosts D) where
 
 -- What a crash leaves of a run.
 
--- a run of the first steps over a front of the lines
-record RunFront (s : State) (n : ℕ) (all : List (List ℕ)) (first : List Step) : Type 0 where
-  front : List (List ℕ)
+-- a run of the first steps over a prefix of the lines
+record RunPrefix (s : State) (n : ℕ) (all : List (List ℕ)) (first : List Step) : Type 0 where
+  prefix : List (List ℕ)
   more : List (List ℕ)
-  split : all ≡ front ++ more
+  split : all ≡ prefix ++ more
   mid : State
-  run : Run s n front first mid
+  run : Run s n prefix first mid
 
-run_front : (s : State) (n : ℕ) (all : List (List ℕ)) (first rest : List Step) (t : State) → Run s n all (first ++ rest) t → RunFront s n all first
-run_front s n all [] rest t r = record { front = []; more = all; split = refl; mid = s; run = refl }
-run_front s n [] (step ∷ first) rest t r = absurd r
-run_front s n (line ∷ all) (step ∷ first) rest t r =
-    let f = run_front r.0 (n + 1) all first rest t r.2 in
-    record { front = line ∷ f.front; more = f.more; split = ap (λ (ls : List (List ℕ)). line ∷ ls) f.split; mid = f.mid; run = (r.0, r.1, f.run) }
+run_prefix : (s : State) (n : ℕ) (all : List (List ℕ)) (first rest : List Step) (t : State) → Run s n all (first ++ rest) t → RunPrefix s n all first
+run_prefix s n all [] rest t r = record { prefix = []; more = all; split = refl; mid = s; run = refl }
+run_prefix s n [] (step ∷ first) rest t r = absurd r
+run_prefix s n (line ∷ all) (step ∷ first) rest t r =
+    let f = run_prefix r.0 (n + 1) all first rest t r.2 in
+    record { prefix = line ∷ f.prefix; more = f.more; split = ap (λ (ls : List (List ℕ)). line ∷ ls) f.split; mid = f.mid; run = (r.0, r.1, f.run) }
 
--- a front of a front of the lines
-front_of_more : (s : State) (all some more : List (List ℕ)) (old : List ℕ) (k : Image) → all ≡ some ++ more → HoldsFront s some old k → HoldsFront s all old k
-front_of_more s all some more old k e h = record {
+-- a prefix of a prefix of the lines
+prefix_of_more : (s : State) (all some more : List (List ℕ)) (old : List ℕ) (k : Image) → all ≡ some ++ more → HoldsPrefix s some old k → HoldsPrefix s all old k
+prefix_of_more s all some more old k e h = record {
   lines = h.lines;
   more = h.more ++ more;
   split = e ∙ ap (λ (ls : List (List ℕ)). ls ++ more) h.split ∙ append_assoc h.lines h.more more;
@@ -140,46 +139,46 @@ front_of_more s all some more old k e h = record {
   told = h.told;
 }
 
--- what a crash leaves of the steps of a run holds a front of its lines
-front_held : (f : File) (c : Content) (s : State) (i : Image) (all : List (List ℕ)) (steps : List Step) (t : State) (k : Image)
-    → HoldNow c s i → Run s 1 all steps t → OfSteps f c steps i k → HoldsFront s all i.said k
-front_held f c s i all steps t k h run o = ⊎_elim between at_work o.here
+-- what a crash leaves of the steps of a run holds a prefix of its lines
+prefix_held : (f : File) (c : Content) (s : State) (i : Image) (all : List (List ℕ)) (steps : List Step) (t : State) (k : Image)
+    → HoldNow c s i → Run s 1 all steps t → OfSteps f c steps i k → HoldsPrefix s all i.said k
+prefix_held f c s i all steps t k h run o = ⊎_elim between at_work o.here
   where
-    between : IsBetween f c o.done i k → HoldsFront s all i.said k
+    between : IsBetween f c o.done i k → HoldsPrefix s all i.said k
     between b =
-        let r = run_front s 1 all o.done o.rest t (subst (λ (l : List Step). Run s 1 all l t) o.split run) in record {
-          lines = r.front;
+        let r = run_prefix s 1 all o.done o.rest t (subst (λ (l : List Step). Run s 1 all l t) o.split run) in record {
+          lines = r.prefix;
           more = r.more;
           split = r.split;
           steps = o.done;
           reached = r.mid;
           run = r.run;
           now = with_steps c o.done;
-          holds = held_after f c s i 1 r.front o.done r.mid k h r.run b.file o.other;
+          holds = held_after f c s i 1 r.prefix o.done r.mid k h r.run b.written b.file o.other;
           told = inl b.said;
         }
 
-    at_work : IsAtWork f c o.done o.rest i k → HoldsFront s all i.said k
+    at_work : IsAtWork f c o.done o.rest i k → HoldsPrefix s all i.said k
     at_work w =
         let first = o.done ++ w.step ∷ [] in
         let split : steps ≡ first ++ w.later = o.split ∙ ap (λ (l : List Step). o.done ++ l) w.first ∙ sym (append_assoc o.done (w.step ∷ []) w.later) in
-        let r = run_front s 1 all first w.later t (subst (λ (l : List Step). Run s 1 all l t) split run) in record {
-          lines = r.front;
+        let r = run_prefix s 1 all first w.later t (subst (λ (l : List Step). Run s 1 all l t) split run) in record {
+          lines = r.prefix;
           more = r.more;
           split = r.split;
           steps = first;
           reached = r.mid;
           run = r.run;
           now = with_steps c first;
-          holds = held_after f c s i 1 r.front first r.mid k h r.run w.file o.other;
+          holds = held_after f c s i 1 r.prefix first r.mid k h r.run w.written w.file o.other;
           told = inr (inl (record { done = o.done; step = w.step; split = refl; part = w.said }));
         }
 
--- the lines of a front of the bytes are a front of all lines
-lines_of_front : (bytes taken rest : List ℕ) (ended : Bool) → bytes ≡ taken ++ rest → (ended ≡ true → rest ≡ []) → (more : List (List ℕ)) × (input.lines bytes true ≡ input.lines taken ended ++ more)
-lines_of_front bytes taken rest true e none =
+-- the lines of a prefix of the bytes are a prefix of all lines
+lines_of_prefix : (bytes taken rest : List ℕ) (ended : Bool) → bytes ≡ taken ++ rest → (ended ≡ true → rest ≡ []) → (more : List (List ℕ)) × (input.lines bytes true ≡ input.lines taken ended ++ more)
+lines_of_prefix bytes taken rest true e none =
     ([], ap input.all_lines (e ∙ ap (λ (l : List ℕ). taken ++ l) (none refl) ∙ append-nil taken) ∙ sym (append-nil (input.all_lines taken)))
-lines_of_front bytes taken rest false e none =
+lines_of_prefix bytes taken rest false e none =
     let last = input.last_line (input.last_part bytes) in
     let later = input.whole_lines (input.last_part taken ++ rest) in
     (later ++ last, ap (λ (ls : List (List ℕ)). ls ++ last) (ap input.whole_lines e ∙ whole_lines-append taken rest) ∙ append_assoc (input.whole_lines taken) later last)
@@ -193,44 +192,44 @@ not_ended rest e = absurd (false_true e)
 
 module _ {D : Type 0} (g : Ghosts D) (said_by_now : (d : D) (k : Image) → g.may_leave d k → k.said ≡ (g.state d).said) where
   module _ (c : Content) (s : State) (opened : D) (h : HoldNow c s (g.state opened)) (bytes : List ℕ) where
-    abbrev Front : Image → Type 0
-    Front = HoldsFront s (input.lines bytes true) (g.state opened).said
+    abbrev Prefix : Image → Type 0
+    Prefix = HoldsPrefix s (input.lines bytes true) (g.state opened).said
 
-    -- where lines of a front of the bytes are answered
-    all_left : (full_at : ℕ) (some more : List (List ℕ)) (new : D) → input.lines bytes true ≡ some ++ more → AllAnswered g c s full_at some opened new → LeavesOnly g opened new Front
+    -- where lines of a prefix of the bytes are answered
+    all_left : (full_at : ℕ) (some more : List (List ℕ)) (new : D) → input.lines bytes true ≡ some ++ more → AllAnswered g c s full_at some opened new → LeavesOnly g opened new Prefix
     all_left full_at some more new e a =
-        weakened g opened new (OfSteps a.journal.file c a.steps (g.state opened)) Front a.are_done.moments
-        (λ k o. front_of_more s (input.lines bytes true) some more (g.state opened).said k e (front_held a.journal.file c s (g.state opened) some a.steps a.reached k h a.run o))
+        weakened g opened new (OfSteps a.journal.file c a.steps (g.state opened)) Prefix a.are_done.moments
+        (λ k o. prefix_of_more s (input.lines bytes true) some more (g.state opened).said k e (prefix_held a.journal.file c s (g.state opened) some a.steps a.reached k h a.run o))
 
     -- where some of them are
     some_left : (full_at : ℕ) (stop : Stop) (sure some more : List (List ℕ)) (new : D) → input.lines bytes true ≡ some ++ more → SomeAnswered g c s full_at stop sure some opened new
-        → LeavesOnly g opened new Front
+        → LeavesOnly g opened new Prefix
     some_left full_at stop sure some more new e a =
         let steps = a.steps ++ a.work in
         let known = (sure ++ a.extra) ++ a.next in
         let run : Run s 1 known steps a.after = Run-append s 1 (sure ++ a.extra) a.steps a.reached a.next a.work a.after a.run a.run_on in
         let split : input.lines bytes true ≡ known ++ (a.later ++ more) =
         e ∙ ap (λ (ls : List (List ℕ)). ls ++ more) (a.split ∙ sym (append_assoc (sure ++ a.extra) a.next a.later)) ∙ append_assoc known a.later more in
-        weakened g opened new (OfSteps a.journal.file c steps (g.state opened)) Front (leaves_behind g c a.steps a.work a.journal opened a.mid new a.are_done a.moments)
-        (λ k o. front_of_more s (input.lines bytes true) known (a.later ++ more) (g.state opened).said k split (front_held a.journal.file c s (g.state opened) known steps a.after k h run o))
+        weakened g opened new (OfSteps a.journal.file c steps (g.state opened)) Prefix (leaves_after g c a.steps a.work a.journal opened a.mid new a.are_done a.moments)
+        (λ k o. prefix_of_more s (input.lines bytes true) known (a.later ++ more) (g.state opened).said k split (prefix_held a.journal.file c s (g.state opened) known steps a.after k h run o))
 
     module _ (full_at limit : ℕ) (left : Option (List ℕ)) (piece : ℕ) where
-      short_left : (stop : Stop) (new : D) → EndsShort g c s full_at limit stop bytes left piece opened new → LeavesOnly g opened new Front
+      short_left : (stop : Stop) (new : D) → EndsShort g c s full_at limit stop bytes left piece opened new → LeavesOnly g opened new Prefix
       short_left stop new z =
-          let f = lines_of_front bytes z.taken z.rest (has_ended z.rest piece) z.takes.split (ended_none z.rest piece) in
+          let f = lines_of_prefix bytes z.taken z.rest (has_ended z.rest piece) z.takes.split (ended_none z.rest piece) in
           some_left full_at stop (input.whole_lines (before_piece z.taken piece)) (input.lines z.taken (has_ended z.rest piece)) f.0 new f.1 z.answered
 
       -- while it is said that a file has no room, the answered lines are held
-      notice_left : (n : ℕ) (mid : D) (k : Image) → EndsShort g c s full_at limit (stops.Full n) bytes left piece opened mid → After (Speaks (full_line n)) (g.may_leave mid) k → Front k
+      notice_left : (n : ℕ) (mid : D) (k : Image) → EndsShort g c s full_at limit (stops.Full n) bytes left piece opened mid → After (Speaks (full_line n)) (g.may_leave mid) k → Prefix k
       notice_left n mid k z after_notice =
           let a = z.answered in
-          let f = lines_of_front bytes z.taken z.rest (has_ended z.rest piece) z.takes.split (ended_none z.rest piece) in
+          let f = lines_of_prefix bytes z.taken z.rest (has_ended z.rest piece) z.takes.split (ended_none z.rest piece) in
           let d = after_notice.0 in
           let here : d ≡ g.state a.mid = settled_is (g.state a.mid) (g.may_leave a.mid) a.are_done.settled (said_by_now a.mid) d (subst (λ (x : D). g.may_leave x d) a.why.0 after_notice.1) in
           let speaks : Speaks (full_line n) (g.state a.mid) k = subst (λ (x : Image). Speaks (full_line n) x k) here after_notice.2 in
           let file = a.journal.file in
           let answered = input.whole_lines (before_piece z.taken piece) ++ a.extra in
-          front_of_more s (input.lines bytes true) (input.lines z.taken (has_ended z.rest piece)) f.0 (g.state opened).said k f.1 (record {
+          prefix_of_more s (input.lines bytes true) (input.lines z.taken (has_ended z.rest piece)) f.0 (g.state opened).said k f.1 (record {
             lines = answered;
             more = a.next ++ a.later;
             split = a.split;
@@ -238,25 +237,25 @@ module _ {D : Type 0} (g : Ghosts D) (said_by_now : (d : D) (k : Image) → g.ma
             reached = a.reached;
             run = a.run;
             now = with_steps c a.steps;
-            holds = held_after file c s (g.state opened) 1 answered a.steps a.reached k h a.run
+            holds = held_after file c s (g.state opened) 1 answered a.steps a.reached k h a.run a.are_done.written
                 (a.journal.end, holds_same file (with_steps c a.steps) a.journal.end (g.state a.mid) k speaks.a speaks.b a.are_done.file.holds) (same_other file (g.state a.mid) k speaks.a speaks.b ∙ a.are_done.other);
             told = inr (inr (record { length = n; part = subst (λ (bs : List ℕ). SaysPart bs (full_line n) k.said) a.are_done.said speaks.said }));
           })
 
       told_left : (n : ℕ) (mid new : D) → EndsShort g c s full_at limit (stops.Full n) bytes left piece opened mid → Tells g (full_line n) mid new
-          → LeavesOnly g opened new Front
+          → LeavesOnly g opened new Prefix
       told_left n mid new z told =
-          and_then g opened mid new Front (After (Speaks (full_line n)) (g.may_leave mid)) (short_left (stops.Full n) mid z) told.moments (λ k a. notice_left n mid k z a)
+          and_then g opened mid new Prefix (After (Speaks (full_line n)) (g.may_leave mid)) (short_left (stops.Full n) mid z) told.moments (λ k a. notice_left n mid k z a)
 
-      run_left : (status : Status) (new : D) → RunEnds g status c s full_at limit bytes left piece opened new → LeavesOnly g opened new Front
+      run_left : (status : Status) (new : D) → RunEnds g status c s full_at limit bytes left piece opened new → LeavesOnly g opened new Prefix
       run_left Ok new e = all_left full_at (input.lines bytes true) [] new (sym (append-nil (input.lines bytes true))) e.answered
-      run_left Read new e = let f = lines_of_front bytes e.taken e.rest false e.takes.split (not_ended e.rest) in all_left full_at (input.lines e.taken false) f.0 new f.1 e.answered
+      run_left Read new e = let f = lines_of_prefix bytes e.taken e.rest false e.takes.split (not_ended e.rest) in all_left full_at (input.lines e.taken false) f.0 new f.1 e.answered
       run_left InputLimit new e =
-          let f = lines_of_front bytes (take limit bytes) (drop limit bytes) false (sym (take-append-drop limit bytes)) (not_ended (drop limit bytes)) in
+          let f = lines_of_prefix bytes (take limit bytes) (drop limit bytes) false (sym (take-append-drop limit bytes)) (not_ended (drop limit bytes)) in
           all_left full_at (input.lines (take limit bytes) false) f.0 new f.1 e.answered
       run_left Disk new e = short_left stops.Disk new e
       run_left Memory new (inl z) = short_left stops.Memory new z
-      run_left Memory new (inr z) = subst (λ (x : D). LeavesOnly g opened x Front) (sym z.said) (short_left (stops.Full z.length) z.mid z.short)
+      run_left Memory new (inr z) = subst (λ (x : D). LeavesOnly g opened x Prefix) (sym z.said) (short_left (stops.Full z.length) z.mid z.short)
       run_left Write new (inl z) = short_left stops.Write new z
       run_left Write new (inr z) = told_left z.length z.mid new z.short z.said
       run_left Full new e = told_left e.length e.mid new e.short e.said.tells
@@ -265,15 +264,15 @@ module _ {D : Type 0} (g : Ghosts D) (said_by_now : (d : D) (k : Image) → g.ma
       run_left Damaged new e = absurd e
 
   module _ (c : Content) (s : State) (old : D) (h : HoldNow c s (g.state old)) (reads : g.may_leave old (g.state old)) (bytes : List ℕ) where
-    -- what the opening leaves, or a front of the lines
-    abbrev OpeningOrFront : Image → Type 0
-    OpeningOrFront k = LeftByOpening (g.may_leave old) (g.state old) k ⊎ HoldsFront s (input.lines bytes true) (g.state old).said k
+    -- what the opening leaves, or a prefix of the lines
+    abbrev OpeningOrPrefix : Image → Type 0
+    OpeningOrPrefix k = LeftByOpening (g.may_leave old) (g.state old) k ⊎ HoldsPrefix s (input.lines bytes true) (g.state old).said k
 
-    opening_left : (status : Status) (new : D) → OpeningEnds g status old new → LeavesOnly g old new OpeningOrFront
+    opening_left : (status : Status) (new : D) → OpeningEnds g status old new → LeavesOnly g old new OpeningOrPrefix
     opening_left Disk new e =
-        weakened g old new (LeftByOpening (g.may_leave old) (g.state old)) OpeningOrFront (part_leaves g old new (said_by_now old) reads e) (λ k l. inl l)
+        weakened g old new (LeftByOpening (g.may_leave old) (g.state old)) OpeningOrPrefix (part_leaves g old new (said_by_now old) reads e) (λ k l. inl l)
     opening_left Memory new (inl e) =
-        weakened g old new (LeftByOpening (g.may_leave old) (g.state old)) OpeningOrFront (part_leaves g old new (said_by_now old) reads e) (λ k l. inl l)
+        weakened g old new (LeftByOpening (g.may_leave old) (g.state old)) OpeningOrPrefix (part_leaves g old new (said_by_now old) reads e) (λ k l. inl l)
     opening_left Memory new (inr e) = absurd (held_or_damaged (g.state old) c s e.file e.place h e.damaged)
     opening_left Write new e = absurd (held_or_damaged (g.state old) c s e.file e.place h e.damaged)
     opening_left Damaged new e = absurd (held_or_damaged (g.state old) c s e.file e.place h e.damaged)
@@ -287,13 +286,13 @@ module _ {D : Type 0} (g : Ghosts D) (said_by_now : (d : D) (k : Image) → g.ma
     pub crash_left : (status : Status) (new : D) (full_at limit : ℕ) (left : Option (List ℕ)) (piece : ℕ) (Unread : Type 0)
         → (OpeningEnds g status old new × Unread)
         ⊎ RunsFrom g (λ k t opened. RunEnds g status k t full_at limit bytes left piece opened new) old
-        → LeavesOnly g old new OpeningOrFront
+        → LeavesOnly g old new OpeningOrPrefix
     crash_left status new full_at limit left piece Unread (inl e) = opening_left status new e.0
     crash_left status new full_at limit left piece Unread (inr from) =
         let all = input.lines bytes true in
         let same : s ≡ from.s = held_once (g.state old) c from.before s from.s h from.held in
-        and_then g old from.opened new OpeningOrFront (HoldsFront from.s all (g.state from.opened).said)
-        (weakened g old from.opened (LeftByOpening (g.may_leave old) (g.state old)) OpeningOrFront
+        and_then g old from.opened new OpeningOrPrefix (HoldsPrefix from.s all (g.state from.opened).said)
+        (weakened g old from.opened (LeftByOpening (g.may_leave old) (g.state old)) OpeningOrPrefix
         (opening_leaves g old from.opened (said_by_now old) reads from.opening) (λ k l. inl l))
         (run_left from.c from.s from.opened from.holds bytes full_at limit left piece status new from.ends)
-        (λ k front. inr (subst (λ (t : State). HoldsFront t all (g.state old).said k) (sym same) (subst (λ (bs : List ℕ). HoldsFront from.s all bs k) from.said front)))
+        (λ k prefix. inr (subst (λ (t : State). HoldsPrefix t all (g.state old).said k) (sym same) (subst (λ (bs : List ℕ). HoldsPrefix from.s all bs k) from.said prefix)))

@@ -9,11 +9,13 @@ pub mod OpenHeads
 pub mod OpenGates
 pub mod OpenEntries
 pub mod OpenRecords
+pub mod WindowLemmas
 pub mod OpenHeld
 pub mod OpenLooked
 pub mod OpenEnds
 pub mod WordsLemmas
 pub mod OpenLaws
+pub mod HeldWell
 pub mod FaultLemmas
 pub mod ServedLemmas
 pub mod Meant

@@ -1,9 +1,9 @@
 -- From how the files are opened to what the statuses say, and to what a crash leaves of it.
-use Rattle.std.proofs.Common.{◌≡◌, ◌≢◌, ◌⊎◌, ℕ, Result, Err, inl, inr, ⊎_elim, refl}
+use Rattle.std.proofs.Common.{◌≡◌, ◌≢◌, ◌⊎◌, Result, Err, inl, inr, ⊎_elim, refl}
 use Rattle.yw_outside.specs.Since.{LeavesOnly}
 use Rattle.yw_outside.specs.declared.image.Image.{Image}
 use Rattle.yw_journal.proofs.Passing.{and_then, weakened}
-use Rattle.yw_serve.specs.Opening.{HoldsBegun, IsUnsynced, LeftByOpening, LeftBehindSyncs, OpensBy}
+use Rattle.yw_serve.specs.Opening.{HoldsBegun, IsUnsynced, LeftByOpening, LeftAfterSyncs, OpensBy}
 use Rattle.yw_serve.specs.Served.{OpensInPart}
 use Rattle.yw_serve.specs.declared.opening.OpenFault.{OpenFault}
 use Rattle.yw_serve.specs.declared.opening.OpenFault.TheVariants.{Disk}
@@ -41,7 +41,7 @@ module _ {D : Type 0} (g : Ghosts D) where
     unsynced_leaves u = weakened g old new (g.may_leave old) Left u.moments at_start
 
     pub opening_leaves : g.may_leave old (g.state old) → OpensBy g old new → LeavesOnly g old new Left
-    opening_leaves reads o = and_then g old o.synced new Left (LeftBehindSyncs (g.state old)) (weakened g old o.synced (g.may_leave old) Left o.before at_start) o.behind
+    opening_leaves reads o = and_then g old o.synced new Left (LeftAfterSyncs (g.state old)) (weakened g old o.synced (g.may_leave old) Left o.before at_start) o.after
         (λ k left. record {
           files = ⊎_elim
               (λ (same : (k.a ≡ (g.state old).a) × (k.b ≡ (g.state old).b)). inl (record { start = g.state old; left = reads; a = same.0; b = same.1 }))

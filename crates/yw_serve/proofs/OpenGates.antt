@@ -5,16 +5,16 @@ use Rattle.std.specs.Int.{w32, from_be_bytes}
 use Rattle.yw_journal.specs.Records.{IsFrame}
 use Rattle.yw_serve.specs.Opening.{IsCutHere}
 
--- the length behind an open gate, where a record stands there
-pub size_read : (rest frame behind bytes : List ℕ) → rest ≡ 1 ∷ frame ++ behind → IsFrame frame bytes → from_be_bytes w32 (take 4 (drop 1 rest)) ≡ length bytes
-size_read rest frame behind bytes split is =
+-- the length after an open gate, where a record stands there
+pub size_read : (rest frame after bytes : List ℕ) → rest ≡ 1 ∷ frame ++ after → IsFrame frame bytes → from_be_bytes w32 (take 4 (drop 1 rest)) ≡ length bytes
+size_read rest frame after bytes split is =
     ap (from_be_bytes w32)
-    (ap (λ (l : List ℕ). take 4 (drop 1 l)) split ∙ ap (λ (l : List ℕ). take 4 (l ++ behind)) is.split ∙ ap (take 4) (append_assoc is.field bytes behind) ∙ take_at is.field (bytes ++ behind) 4 is.four)
+    (ap (λ (l : List ℕ). take 4 (drop 1 l)) split ∙ ap (λ (l : List ℕ). take 4 (l ++ after)) is.split ∙ ap (take 4) (append_assoc is.field bytes after) ∙ take_at is.field (bytes ++ after) 4 is.four)
     ∙ is.value
 
-pub size_of_all : (rest frame behind bytes : List ℕ) → rest ≡ 1 ∷ frame ++ behind → IsFrame frame bytes → 5 + length bytes ≤ length rest
-size_of_all rest frame behind bytes split is =
-    omega (arith, ap length split, length-append (1 ∷ frame) behind, ap length is.split, length-append is.field bytes, is.four)
+pub size_of_all : (rest frame after bytes : List ℕ) → rest ≡ 1 ∷ frame ++ after → IsFrame frame bytes → 5 + length bytes ≤ length rest
+size_of_all rest frame after bytes split is =
+    omega (arith, ap length split, length-append (1 ∷ frame) after, ap length is.split, length-append is.field bytes, is.four)
 
 -- a gate that is open, read with what follows it
 pub open_gate : (n : ℕ) (rest front : List ℕ) → 1 ≤ n → 1 ≤ length rest → front ≡ take n rest → get_or front 0 0 ≡ 1 → rest ≡ 1 ∷ drop 1 rest
@@ -26,9 +26,9 @@ pub cut_by_size : (size : ℕ) (rest : List ℕ) → rest ≡ 1 ∷ drop 1 rest 
 cut_by_size size rest gate value short = inr (
   drop 1 rest,
   gate,
-  λ frame behind bytes split is. absurd (omega (arith, value, size_read rest frame behind bytes split is, size_of_all rest frame behind bytes split is)),
+  λ frame after bytes split is. absurd (omega (arith, value, size_read rest frame after bytes split is, size_of_all rest frame after bytes split is)),
 )
 
--- no length stands behind the gate
+-- no length stands after the gate
 pub cut_short : (rest : List ℕ) → rest ≡ 1 ∷ drop 1 rest → length rest < 5 → IsCutHere rest
-cut_short rest gate short = inr (drop 1 rest, gate, λ frame behind bytes split is. absurd (omega (arith, size_of_all rest frame behind bytes split is)))
+cut_short rest gate short = inr (drop 1 rest, gate, λ frame after bytes split is. absurd (omega (arith, size_of_all rest frame after bytes split is)))

@@ -91,7 +91,7 @@ sound_is file live none =
 pub not_live : (file : List ℕ) → is_live file ≡ false → header_damage file ≡ None
 not_live file e = ap (λ (p : Bool). damage p (bytes_eq (magic_of file) magic) (nat_le 1 (generation_of file) && nat_le (generation_of file) greatest) (nat_le (count_of file) greatest)) e
 
--- what is found behind a sound header is the damage there
+-- what is found after a sound header is the damage there
 pub later_found : (i : Image) (b : Option Head) (snapshot : Bool) (found : Option (File × ℕ)) → IsHeadRead i.b b → (is_live i.a && not (snapshot_size_of i.a == 0)) ≡ snapshot
     → (IsSome b → found ≡ Some (B, 0)) → (b ≡ None → found ≡ (if snapshot then Some (A, 21) else None)) → found ≡ later_damage i
 later_found i None snapshot found read same live none =
@@ -104,7 +104,7 @@ later_found i (Some head) snapshot found read same live none =
 pub header_found : (i : Image) (head : Head) (place : ℕ) → IsHeadOf i.a head → Some place ≡ header_damage head.bytes → Some (A, place) ≡ heads_damage i
 header_found i head place read e = ap (λ (d : Option ℕ). damage_or d (later_damage i)) (e ∙ ap header_damage read.bytes ∙ front_damage i.a (live_long i.a read.live))
 
--- behind a sound one another may follow
+-- after a sound one another may follow
 pub header_passed : (i : Image) (head : Head) (found : Option (File × ℕ)) → IsHeadOf i.a head → None ≡ header_damage head.bytes → found ≡ later_damage i → found ≡ heads_damage i
 header_passed i head found read e later = later ∙ ap (λ (d : Option ℕ). damage_or d (later_damage i)) (e ∙ ap header_damage read.bytes ∙ front_damage i.a (live_long i.a read.live))
 
@@ -134,7 +134,7 @@ heads_sound i live alone none =
           (sym (ap (λ (p : Bool). if p then Some (B, 0) else if is_live i.a && not (snapshot_size_of i.a == 0) then Some (A, 21) else None) alone) ∙ t.1)),
     )
 
--- The header as far as the gate behind an empty snapshot.
+-- The header as far as the gate after an empty snapshot.
 fields : (file : List ℕ) → take 29 file ≡ take 1 file ++ take 4 (drop 1 file) ++ take 8 (drop 5 file) ++ take 8 (drop 13 file) ++ take 8 (drop 21 file)
 fields file =
     take-add 21 8 file

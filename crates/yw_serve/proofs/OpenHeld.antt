@@ -10,12 +10,12 @@ use Rattle.yw_journal.specs.declared.journal.Journal.{Journal}
 use Rattle.yw_journal.specs.Records.{IsFramedState}
 use Rattle.yw_state.specs.State.{State, opening}
 use Rattle.yw_serve.specs.Damage.{HoldNow, IsDamagedNow}
-use Rattle.yw_serve.specs.Opening.{IsChosen, IsClosedHere, IsDamagedAt, IsReached, LeftBehindSyncs, begun}
+use Rattle.yw_serve.specs.Opening.{IsChosen, IsClosedHere, IsDamagedAt, IsReached, LeftAfterSyncs, begun}
 use Rattle.yw_serve.specs.declared.header.Head.{Head}
 use Rattle.yw_serve.proofs.OpenHeads.{front_count, front_generation, heads_sound, header_is, live_long}
 use Rattle.yw_serve.proofs.OpenRecords.{ends_at, reached_none}
 
--- with these records behind the header of file A
+-- with these records after the header of file A
 abbrev pub content_of : List ℕ → List (List ℕ) → Content
 content_of file records = record { generation = generation_of file; count = count_of file; snapshot = []; records = records }
 
@@ -66,7 +66,7 @@ module _ (i : Image) (chosen : IsChosen i None) where
   pub held_begun : (k : Image) (end : ℕ) → k.b ≡ i.b → Holds A begun end k → HoldNow begun opening k
   held_begun k end same holds = record { hold = record { content = inr (A, end, holds); state = (opening, refl, refl) }; alone = still_alone k same }
 
-  pub left_by_making : (k : Image) → IsBeforeOrMade A files.opening begun i k → LeftBehindSyncs i k
+  pub left_by_making : (k : Image) → IsBeforeOrMade A files.opening begun i k → LeftAfterSyncs i k
   left_by_making k b = record {
     files = inr (record {
       none = none_live;

@@ -100,12 +100,12 @@ reads_one s t u (x ∷ xs) (y ∷ ys) a b p q e are bare m n stop halt =
 behind_header : (file head opened rest : List ℕ) → length head ≡ 29 → file ≡ (head ++ opened) ++ rest → drop 29 file ≡ opened ++ rest
 behind_header file head opened rest size split = ap (drop 29) (split ∙ append_assoc head opened rest) ∙ drop_at head (opened ++ rest) 29 size
 
-no_snapshot : (snapshot : List ℕ) (records : List (List ℕ)) (s : State) → Reaches meaning snapshot records s → snapshot ≡ []
+pub no_snapshot : (snapshot : List ℕ) (records : List (List ℕ)) (s : State) → Reaches meaning snapshot records s → snapshot ≡ []
 no_snapshot [] records s r = refl
 no_snapshot (b ∷ bs) records s r = absurd r.1
 
 -- without a snapshot they lead from the opening state
-from_opening : (snapshot : List ℕ) (records : List (List ℕ)) (s : State) → snapshot ≡ [] → Reaches meaning snapshot records s → LeadsTo meaning opening records s
+pub from_opening : (snapshot : List ℕ) (records : List (List ℕ)) (s : State) → snapshot ≡ [] → Reaches meaning snapshot records s → LeadsTo meaning opening records s
 from_opening [] records s e r = subst (λ (v : State). LeadsTo meaning v records s) r.1 r.2
 from_opening (b ∷ bs) records s e r = absurd r.1
 

@@ -1,12 +1,12 @@
 -- How looks at a desk join, and what their faults are from the start.
-use Rattle.std.proofs.Common.{◌≡◌, ℕ, ◌≤◌, Bool, Option, None, Some, MatchOption, Result, Ok, Err, IfErr, OnOk, inl, sym, ap, ◌∙◌, subst, arith}
+use Rattle.std.proofs.Common.{◌≡◌, ℕ, Option, None, Some, MatchOption, Result, Ok, Err, IfErr, OnOk, inl, sym, ap, ◌∙◌, subst, arith}
 use Rattle.yw_outside.specs.declared.desk.File.{File}
 use Rattle.yw_outside.specs.declared.image.Image.{Image}
 use Rattle.yw_outside.specs.Causes.{Rose}
 use Rattle.yw_outside.specs.Moments.{IsSettled}
 use Rattle.yw_outside.specs.Since.{LeavesOnly}
 use Rattle.yw_journal.proofs.Passing.{and_then, weakened}
-use Rattle.yw_serve.specs.Opening.{HasFaultCause, IsUnsynced, LeftBehindSyncs, OnlyLooked, OpenFaults, OpensBy}
+use Rattle.yw_serve.specs.Opening.{HasFaultCause, IsUnsynced, LeftAfterSyncs, OnlyLooked, OpenFaults, OpensBy}
 use Rattle.yw_serve.specs.declared.opening.OpenFault.{OpenFault}
 use Rattle.yw_serve.specs.declared.opening.OpenFault.TheVariants.{Disk, Damaged, Memory}
 use Rattle.yw_outside.specs.declared.desk.Desk.{Ghosts}
@@ -22,7 +22,7 @@ fault_further found whole before mid now Memory cause x here same = cause x ∙ 
 pub damage_of : {T : Type 0} (found : File → ℕ → Type 0) (before now : ℕ) (result : Result T OpenFault) → IfErr result (HasFaultCause found before now) → (f : File) (place : ℕ) → result ≡ Err (Damaged f place) → found f place
 damage_of found before now result cause f place is = (subst (λ r. IfErr r (HasFaultCause found before now)) is cause).0
 
--- the count of an opening behind calls that didn't fail
+-- the count of an opening after calls that didn't fail
 pub open_faults : {D T : Type 0} (g : Ghosts D) (found : File → ℕ → Type 0) (old new : D) (before : ℕ) (result : Result T OpenFault) → before ≡ g.disk_faults old
     → OnOk result (g.disk_faults new ≡ before) → IfErr result (HasFaultCause found before (g.disk_faults new)) → OpenFaults g result old new
 open_faults g found old new before (Ok v) same ok cause = ok ∙ same
@@ -61,31 +61,31 @@ module _ {D : Type 0} (g : Ghosts D) where
 
   -- looks at settled files leave them
   looks_leave : (old new : D) → ((i : Image) → g.may_leave old i → i.said ≡ (g.state old).said) → OnlyLooked g old new
-      → IsSettled (g.state old) (g.may_leave old) → LeavesOnly g old new (LeftBehindSyncs (g.state old))
-  looks_leave old new said looked settled = weakened g old new (g.may_leave old) (LeftBehindSyncs (g.state old)) looked.moments
+      → IsSettled (g.state old) (g.may_leave old) → LeavesOnly g old new (LeftAfterSyncs (g.state old))
+  looks_leave old new said looked settled = weakened g old new (g.may_leave old) (LeftAfterSyncs (g.state old)) looked.moments
       (λ i left. record { files = inl (settled.a i left, settled.b i left); said = said i left })
 
   module _ (old synced : D) (first : OnlyLooked g old synced) (settled : IsSettled (g.state synced) (g.may_leave synced))
       (said : (i : Image) → g.may_leave synced i → i.said ≡ (g.state synced).said) where
-    -- the files were synced, and looks came behind it
+    -- the files were synced, and looks came after it
     pub opens_looking : (new : D) → OnlyLooked g synced new → OpensBy g old new
     opens_looking new looked = record {
       synced = synced;
       same = first.same;
       settled = settled;
       before = first.moments;
-      behind = subst (λ (i : Image). LeavesOnly g synced new (LeftBehindSyncs i)) first.same (looks_leave synced new said looked settled);
+      after = subst (λ (i : Image). LeavesOnly g synced new (LeftAfterSyncs i)) first.same (looks_leave synced new said looked settled);
     }
 
-    -- and a file was begun behind these
-    pub opens_beginning : (mid new : D) → OnlyLooked g synced mid → LeavesOnly g mid new (LeftBehindSyncs (g.state mid))
+    -- and a file was begun after these
+    pub opens_beginning : (mid new : D) → OnlyLooked g synced mid → LeavesOnly g mid new (LeftAfterSyncs (g.state mid))
         → OpensBy g old new
     opens_beginning mid new looked then = record {
       synced = synced;
       same = first.same;
       settled = settled;
       before = first.moments;
-      behind = subst (λ (i : Image). LeavesOnly g synced new (LeftBehindSyncs i)) first.same
-          (and_then g synced mid new (LeftBehindSyncs (g.state synced)) (LeftBehindSyncs (g.state mid)) (looks_leave synced mid said looked settled) then
-          (λ k left. subst (λ (i : Image). LeftBehindSyncs i k) looked.same left));
+      after = subst (λ (i : Image). LeavesOnly g synced new (LeftAfterSyncs i)) first.same
+          (and_then g synced mid new (LeftAfterSyncs (g.state synced)) (LeftAfterSyncs (g.state mid)) (looks_leave synced mid said looked settled) then
+          (λ k left. subst (λ (i : Image). LeftAfterSyncs i k) looked.same left));
     }

@@ -2,7 +2,6 @@
 use Rattle.std.proofs.Common.{◌≡◌, ◌⊎◌, ◌≤◌, ℕ, List, length, Option, inl, inr, refl, sym, subst, arith}
 use Rattle.yw_outside.specs.Moments.{IsSettled}
 use Rattle.yw_outside.specs.declared.desk.File.{File}
-use Rattle.yw_outside.specs.declared.image.Image.{Image}
 use Rattle.yw_journal.specs.Files.{Content}
 use Rattle.yw_journal.specs.declared.journal.Journal.{Journal}
 use Rattle.yw_state.specs.State.{State}
@@ -15,7 +14,7 @@ use Rattle.yw_serve.specs.declared.opening.Opened.{Opened}
 use Rattle.yw_serve.specs.declared.run.Ending.{Ending}
 use Rattle.yw_serve.specs.declared.session.Session.{Session}
 use Rattle.yw_serve.specs.Served.{RunEnds, RunsFrom, OpeningEnds, IsTold}
-use Rattle.yw_serve.specs.declared.session.Stop.TheVariants as stops
+use Rattle.yw_serve.specs.declared.server.Stop.TheVariants as stops
 use Rattle.yw_serve.specs.declared.top.Status.{Status}
 use Rattle.yw_serve.specs.declared.top.Status.TheVariants.{Ok, Findings, Usage, Disk, Memory, Read, Write, Damaged, Full, InputLimit}
 use Rattle.yw_outside.specs.declared.desk.Desk.{Ghosts}
@@ -52,13 +51,13 @@ module _ {D : Type 0} (g : Ghosts D)
 
 -- what a session's ending says, with its state and journal given
 pub ends_from : {D : Type 0} (g : Ghosts D)
-    (session : Session) (s : State) (journal : Journal) → state_of session ≡ s → session.journal ≡ journal
+    (session : Session) (s : State) (journal : Journal) → state_of session ≡ s → session.server.journal ≡ journal
     → (ending : Ending) (c : Content) (limit piece : ℕ) (bytes : List ℕ) (left : Option (List ℕ)) (old new : D)
-    → EndsAs g ending c (state_of session) session.journal.limit limit bytes left piece old new
+    → EndsAs g ending c (state_of session) session.server.journal.limit limit bytes left piece old new
     → EndsAs g ending c s journal.limit limit bytes left piece old new
 ends_from g session s journal same_state same_journal ending c limit piece bytes left old new ends =
     subst (λ (j : Journal). EndsAs g ending c s j.limit limit bytes left piece old new) same_journal
-    (subst (λ (t : State). EndsAs g ending c t session.journal.limit limit bytes left piece old new) same_state ends)
+    (subst (λ (t : State). EndsAs g ending c t session.server.journal.limit limit bytes left piece old new) same_state ends)
 
 -- A damage was found, by what became of its line.
 pub damage_ends : {D : Type 0} (g : Ghosts D)

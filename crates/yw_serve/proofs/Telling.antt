@@ -13,10 +13,10 @@ use Rattle.yw_journal.specs.Journal.{IsCurrent, IsBeforeOrAfter, with_record}
 use Rattle.yw_journal.specs.declared.journal.Journal.{Journal}
 use Rattle.yw_journal.proofs.Passing.{started, goes_on, and_then}
 use Rattle.yw_journal.proofs.Images.{settled_is}
-use Rattle.yw_codec.specs.Entries.{entry_bytes}
+use Rattle.yw_codec.specs.Entries.{IsEntry}
 use Rattle.yw_model.specs.Run.{Entry, Step, said_by, taken_by}
-use Rattle.yw_serve.specs.Session.{file_after, HasRoom, with_steps, IsIn, OfSteps, AreDone}
-use Rattle.yw_serve.proofs.Written.{with_none, with_one, with_steps-none}
+use Rattle.yw_serve.specs.Session.{EachWritten, bytes_of, file_after, HasRoom, with_steps, IsIn, OfSteps, AreDone}
+use Rattle.yw_serve.proofs.Written.{with_none, with_one, with_steps-none, written_one}
 use Rattle.yw_outside.specs.declared.desk.Desk.{Ghosts}
 
 nothing_said : (old reply new : List ℕ) → new ≡ old → SaysPart old reply new
@@ -46,33 +46,33 @@ not_begun f c step old i h said other = record {
   done = [];
   rest = step ∷ [];
   split = refl;
-  here = inl (record { file = subst (λ (x : Content). IsIn f x i) (sym (with_steps-none c)) h; said = said ∙ sym (append-nil old.said) });
+  here = inl (record { file = subst (λ (x : Content). IsIn f x i) (sym (with_steps-none c)) h; written = tt; said = said ∙ sym (append-nil old.said) });
   other = other;
 }
 
--- its entry is held, and a front of its reply said
-pub at_work : (f : File) (c : Content) (step : Step) (old i : Image) → IsIn f (with_steps c (step ∷ [])) i → SaysPart old.said step.reply i.said → other_in f i ≡ other_in f old → OfSteps f c (step ∷ []) old i
-at_work f c step old i h said other = record {
+-- its entry is held, and a prefix of its reply said
+pub at_work : (f : File) (c : Content) (step : Step) (old i : Image) → EachWritten (taken_by (step ∷ [])) → IsIn f (with_steps c (step ∷ [])) i → SaysPart old.said step.reply i.said → other_in f i ≡ other_in f old → OfSteps f c (step ∷ []) old i
+at_work f c step old i written h said other = record {
   done = [];
   rest = step ∷ [];
   split = refl;
-  here = inr (record { step = step; later = []; first = refl; file = h; said = subst (λ (bs : List ℕ). SaysPart bs step.reply i.said) (sym (append-nil old.said)) said });
+  here = inr (record { step = step; later = []; first = refl; file = h; written = written; said = subst (λ (bs : List ℕ). SaysPart bs step.reply i.said) (sym (append-nil old.said)) said });
   other = other;
 }
 
 -- within an append
-pub of_append : (f : File) (c : Content) (step : Step) (entry : Entry) (old i : Image) → step.taken ≡ entry ∷ [] → IsBeforeOrAfter f c (entry_bytes entry) old i → OfSteps f c (step ∷ []) old i
-of_append f c step entry old i e h = ⊎_elim
+pub of_append : (f : File) (c : Content) (step : Step) (entry : Entry) (old i : Image) → step.taken ≡ entry ∷ [] → IsEntry entry.events (bytes_of entry) → IsBeforeOrAfter f c (bytes_of entry) old i → OfSteps f c (step ∷ []) old i
+of_append f c step entry old i e is h = ⊎_elim
     (λ (before : (end : ℕ) × Holds f c end i). not_begun f c step old i before h.said h.other)
-    (λ (after : (end : ℕ) × Holds f (with_record c (entry_bytes entry)) end i).
-    at_work f c step old i (subst (λ (x : Content). IsIn f x i) (sym (with_one c step entry e)) after) (nothing_said old.said step.reply i.said h.said) h.other)
+    (λ (after : (end : ℕ) × Holds f (with_record c (bytes_of entry)) end i).
+    at_work f c step old i (written_one step entry e is) (subst (λ (x : Content). IsIn f x i) (sym (with_one c step entry e)) after) (nothing_said old.said step.reply i.said h.said) h.other)
     h.holds
 
--- while a reply is said behind its entry
-pub of_telling : (f : File) (c : Content) (step : Step) (end : ℕ) (old mid i : Image) → Holds f (with_steps c (step ∷ [])) end mid → mid.said ≡ old.said → other_in f mid ≡ other_in f old
+-- while a reply is said after its entry
+pub of_telling : (f : File) (c : Content) (step : Step) (end : ℕ) (old mid i : Image) → EachWritten (taken_by (step ∷ [])) → Holds f (with_steps c (step ∷ [])) end mid → mid.said ≡ old.said → other_in f mid ≡ other_in f old
     → Speaks step.reply mid i → OfSteps f c (step ∷ []) old i
-of_telling f c step end old mid i h said other s =
-    at_work f c step old i (end, holds_same f (with_steps c (step ∷ [])) end mid i s.a s.b h) (subst (λ (bs : List ℕ). SaysPart bs step.reply i.said) said s.said) (same_other f mid i s.a s.b ∙ other)
+of_telling f c step end old mid i written h said other s =
+    at_work f c step old i written (end, holds_same f (with_steps c (step ∷ [])) end mid i s.a s.b h) (subst (λ (bs : List ℕ). SaysPart bs step.reply i.said) said s.said) (same_other f mid i s.a s.b ∙ other)
 
 module _ {D : Type 0} (g : Ghosts D) where
   pub told : (old new : D) (state : Image) (may_old may_new : Image → Type 0) (text : List ℕ) → IsSettled state may_old → ((i : Image) → may_old i → i.said ≡ state.said)
@@ -85,17 +85,18 @@ module _ {D : Type 0} (g : Ghosts D) where
       time (λ i a. subst (λ (d : Image). Speaks text d i) (only a.0 a.1) a.2)
 
 module _ {D : Type 0} (g : Ghosts D)
-    (c : Content) (step : Step) (journal : Journal) (old mid new : D) (text : List ℕ) (reply : text ≡ step.reply)
+    (c : Content) (step : Step) (journal : Journal) (old mid new : D) (text : List ℕ) (reply : text ≡ step.reply) (written : EachWritten (taken_by (step ∷ [])))
     (current : IsCurrent journal (with_steps c (step ∷ [])) (g.state mid)) (unsaid : (g.state mid).said ≡ (g.state old).said) (other : other_in journal.file (g.state mid) ≡ other_in journal.file (g.state old))
     (first : LeavesOnly g old mid (OfSteps journal.file c (step ∷ []) (g.state old))) (second : LeavesOnly g mid new (Speaks text (g.state mid))) where
-  -- a reply that is said, or a front of it, behind its entry
+  -- a reply that is said, or a prefix of it, after its entry
   pub leaves_telling : LeavesOnly g old new (OfSteps journal.file c (step ∷ []) (g.state old))
   leaves_telling = and_then g old mid new (OfSteps journal.file c (step ∷ []) (g.state old)) (Speaks text (g.state mid)) first second
-      (λ i s. of_telling journal.file c step journal.end (g.state old) (g.state mid) i current.holds unsaid other (subst (λ (t : List ℕ). Speaks t (g.state mid) i) reply s))
+      (λ i s. of_telling journal.file c step journal.end (g.state old) (g.state mid) i written current.holds unsaid other (subst (λ (t : List ℕ). Speaks t (g.state mid) i) reply s))
 
   pub done_by_telling : HasRoom journal.limit c (step ∷ []) → file_in journal.file (g.state mid) ≡ file_after (file_in journal.file (g.state old)) c (taken_by (step ∷ [])) → (g.state new).a ≡ (g.state mid).a → (g.state new).b ≡ (g.state mid).b → (g.state new).said ≡ (g.state mid).said ++ text → IsSettled (g.state new) (g.may_leave new)
       → AreDone g c (step ∷ []) journal old new
   done_by_telling room bytes a b said settled = record {
+    written = written;
     room = room;
     bytes = same_file journal.file (g.state mid) (g.state new) a b ∙ bytes;
     file = record { holds = holds_same journal.file (with_steps c (step ∷ [])) journal.end (g.state mid) (g.state new) a b current.holds; generation = current.generation; number = current.number };
@@ -105,7 +106,7 @@ module _ {D : Type 0} (g : Ghosts D)
     moments = leaves_telling;
   }
 
--- a text that is said, or a front of it, behind what a crash might have left before
+-- a text that is said, or a prefix of it, after what a crash might have left before
 module _ {D : Type 0} (g : Ghosts D) where
   pub told_after : (old new : D) (may_old may_new : Image → Type 0) (text : List ℕ) → ((i : Image) → g.left_since old (g.moment old) i → may_old i)
       → Passes (Speaks text) (g.moment old) (g.moment new) (g.left_since old) (g.left_since new) may_old may_new → LeavesOnly g old new (After (Speaks text) may_old)
@@ -118,7 +119,7 @@ module _ {D : Type 0} (g : Ghosts D) where
 pub current_none : (journal : Journal) (c : Content) (step : Step) (i : Image) → step.taken ≡ [] → IsCurrent journal c i → IsCurrent journal (with_steps c (step ∷ [])) i
 current_none journal c step i e h = subst (λ (x : Content). IsCurrent journal x i) (sym (with_none c step e)) h
 
-pub current_one : (journal : Journal) (c : Content) (step : Step) (entry : Entry) (i : Image) → step.taken ≡ entry ∷ [] → IsCurrent journal (with_record c (entry_bytes entry)) i → IsCurrent journal (with_steps c (step ∷ [])) i
+pub current_one : (journal : Journal) (c : Content) (step : Step) (entry : Entry) (i : Image) → step.taken ≡ entry ∷ [] → IsCurrent journal (with_record c (bytes_of entry)) i → IsCurrent journal (with_steps c (step ∷ [])) i
 current_one journal c step entry i e h = subst (λ (x : Content). IsCurrent journal x i) (sym (with_one c step entry e)) h
 
 -- where the files are the same

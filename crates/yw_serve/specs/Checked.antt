@@ -1,6 +1,5 @@
 -- What the words `check` do: the verdict on a text, as a status.
 use Rattle.std.specs.Prelude.{◌≡◌, ℕ, List, Option}
-use Rattle.yw_outside.specs.declared.image.Image.{Image}
 use Rattle.yw_verdict.specs.Ends.{Ends, Says, Takes}
 use Rattle.yw_verdict.specs.Found.{IsFound}
 use Rattle.yw_verdict.specs.declared.finding.Finding.{Finding}

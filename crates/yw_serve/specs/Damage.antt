@@ -5,16 +5,16 @@ use Rattle.yw_outside.specs.declared.desk.File.TheVariants.{A, B}
 use Rattle.yw_outside.specs.declared.image.Image.{Image}
 use Rattle.yw_journal.specs.Files.{Content, Meaning, HoldState, IsCut, HasNoMeaning, is_live, header_damage, snapshot_size_of}
 use Rattle.yw_codec.specs.Entries.{IsEntry}
-use Rattle.yw_model.specs.Run.{Entry}
 use Rattle.yw_model.specs.Texts.{reader}
 use Rattle.yw_state.specs.Events.{LeadAll}
 use Rattle.yw_state.specs.State.{State, opening}
+use Rattle.yw_state.specs.declared.event.Event.{Event}
 
 -- The bytes are an entry's, whose events are allowed in their turn and lead from the one state to the other.
 pub record EntryLeads (s : State) (bytes : List ℕ) (t : State) : Type 0 where
-  pub entry : Entry
-  pub is : IsEntry entry bytes
-  pub lead : LeadAll reader s entry t
+  pub events : List Event
+  pub is : IsEntry events bytes
+  pub lead : LeadAll reader s events t
 
 -- an empty snapshot is the opening state, and no other is built yet
 abbrev pub IsSnapshot : List ℕ → State → Type 0
@@ -29,7 +29,7 @@ pub record HoldNow (c : Content) (s : State) (i : Image) : Type 0 where
   pub hold : HoldState meaning c s i
   pub alone : is_live i.b ≡ false
 
--- behind a sound header of file A: file B is live, or a live file A has a snapshot
+-- after a sound header of file A: file B is live, or a live file A has a snapshot
 abbrev pub later_damage : Image → Option (File × ℕ)
 later_damage i =
     if is_live i.b then Some (B, 0)

@@ -1,10 +1,11 @@
 -- What our calls need of a desk, and what they keep.
-use Rattle.std.specs.Prelude.{◌≡◌, ℕ, ◌≤◌, Bool, IsTrue}
+use Rattle.std.specs.Prelude.{◌≡◌, ℕ, ◌≤◌, List, IsTrue}
 use Rattle.yw_outside.specs.Moments.{IsSettled}
-use Rattle.yw_outside.specs.declared.image.Image.{Image}
 use Rattle.yw_journal.specs.Files.{Content}
 use Rattle.yw_journal.specs.Journal.{IsReady, IsCurrent}
 use Rattle.yw_journal.specs.declared.journal.Journal.{Journal}
+use Rattle.yw_serve.specs.Session.{IsAtByte}
+use Rattle.yw_serve.specs.declared.session.Session.{Session}
 use Rattle.yw_outside.specs.declared.desk.Desk.{Ghosts}
 
 -- The journal stands for what the desk's files hold, where it tells them, and nothing is pending.
@@ -18,3 +19,18 @@ pub record KeepsCounts {D : Type 0} (g : Ghosts D) (old new : D) : Type 0 where
   pub telling : g.tells new ≡ g.tells old
   pub disk : g.disk_faults old ≤ g.disk_faults new
   pub say : g.say_faults old ≤ g.say_faults new
+
+-- The journal has its file and its limit, and the desk tells as it did.
+pub record KeepsJournal {D : Type 0} (g : Ghosts D) (before now : Journal) (old new : D) : Type 0 where
+  pub file : now.file ≡ before.file
+  pub limit : now.limit ≡ before.limit
+  pub counts : KeepsCounts g old new
+
+-- where the desk tells, for each content that the journal may stand for
+abbrev pub ForContent : {D : Type 0} → Ghosts D → Journal → D → (Content → Type 0) → Type 0
+ForContent g journal desk P = IsTrue (g.tells desk) → (c : Content) → IsCurrent journal c (g.state desk) → P c
+
+-- and for each list of bytes taken that the session may stand after
+abbrev pub ForTaken : {D : Type 0} → Ghosts D → Session → D → (Content → List ℕ → Type 0) → Type 0
+ForTaken g session desk P =
+    IsTrue (g.tells desk) → (c : Content) (taken : List ℕ) → IsCurrent session.server.journal c (g.state desk) → IsAtByte session taken → P c taken

@@ -3,7 +3,6 @@
 -- than `full_at`. The desk was `old` when the files had been opened with content c and state s, and is `new`.
 use Rattle.std.specs.Prelude.{◌≡◌, ◌==◌, ◌+◌, ◌-◌, ◌<◌, ◌≤◌, ℕ, List, [], ◌∷◌, ◌++◌, length, take, drop, Bool, true, false, Option, Some}
 use Rattle.yw_outside.specs.Since.{LeavesOnly}
-use Rattle.yw_outside.specs.declared.image.Image.{Image}
 use Rattle.yw_journal.specs.Files.{Content}
 use Rattle.yw_journal.specs.declared.journal.Journal.{Journal}
 use Rattle.yw_lines.specs.Lines.{whole_lines, lines}
@@ -12,7 +11,7 @@ use Rattle.yw_model.specs.Run.{Step, Run, HasRun}
 use Rattle.yw_serve.specs.Session.{with_steps, OfSteps, AreDone, Why}
 use Rattle.yw_serve.specs.declared.run.Ending.{Ending}
 use Rattle.yw_serve.specs.declared.run.Ending.TheVariants.{Whole, Unread, Past, Stopped}
-use Rattle.yw_serve.specs.declared.session.Stop.{Stop}
+use Rattle.yw_serve.specs.declared.server.Stop.{Stop}
 use Rattle.yw_outside.specs.declared.desk.Desk.{Ghosts}
 
 -- These bytes were taken of all, and the rest is left.

@@ -6,8 +6,8 @@ use Rattle.yw_outside.specs.Since.{NoneFailed}
 use Rattle.yw_outside.specs.declared.desk.Desk.{Ghosts}
 use Rattle.yw_serve.specs.declared.run.Ending.{Ending}
 use Rattle.yw_serve.specs.declared.run.Ending.TheVariants as endings
-use Rattle.yw_serve.specs.declared.session.Stop.{Stop}
-use Rattle.yw_serve.specs.declared.session.Stop.TheVariants as stops
+use Rattle.yw_serve.specs.declared.server.Stop.{Stop}
+use Rattle.yw_serve.specs.declared.server.Stop.TheVariants as stops
 use Rattle.yw_serve.specs.declared.top.Status.{Status}
 use Rattle.yw_serve.specs.declared.top.Status.TheVariants.{Ok as Whole, Findings, Usage, Disk, Memory, Read, Write, Damaged, Full, InputLimit}
 

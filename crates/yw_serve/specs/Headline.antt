@@ -24,20 +24,20 @@ pub record Serves {D : Type 0} (g : Ghosts D) (all : List (List ℕ)) (old new :
   pub settled : IsSettled (g.state new) (g.may_leave new)
   pub said : (g.state new).said ≡ (g.state old).said ++ said_by steps
 
--- The replies of all steps but the last are said, and a front of its own.
+-- The replies of all steps but the last are said, and a prefix of its own.
 pub record IsReplying (steps : List Step) (old now : List ℕ) : Type 0 where
   pub done : List Step
   pub step : Step
   pub split : steps ≡ done ++ step ∷ []
   pub part : SaysPart (old ++ said_by done) step.reply now
 
--- All replies are said, and a front of the line that says that a file has no room.
+-- All replies are said, and a prefix of the line that says that a file has no room.
 pub record IsTellingFull (steps : List Step) (old now : List ℕ) : Type 0 where
   pub length : ℕ
   pub part : SaysPart (old ++ said_by steps) (full_line length) now
 
--- The files hold the state to which a front of the lines leads. So each command that was answered, even in part, is in it.
-pub record HoldsFront (s : State) (all : List (List ℕ)) (old : List ℕ) (i : Image) : Type 0 where
+-- The files hold the state to which a prefix of the lines leads. So each command that was answered, even in part, is in it.
+pub record HoldsPrefix (s : State) (all : List (List ℕ)) (old : List ℕ) (i : Image) : Type 0 where
   pub lines : List (List ℕ)
   pub more : List (List ℕ)
   pub split : all ≡ lines ++ more

@@ -1,11 +1,12 @@
 pub mod Kept
-pub mod Desks
 pub mod Session
+pub mod Desks
 pub mod Plans
 pub mod Ends
 pub mod Reading
 pub mod Words
 pub mod Damage
+pub mod Window
 pub mod Opening
 pub mod Notices
 pub mod Served

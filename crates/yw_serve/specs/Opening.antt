@@ -11,7 +11,7 @@ use Rattle.yw_journal.specs.Files as files
 use Rattle.yw_journal.specs.Files.{Content, IsCut, HasNoMeaning, LeadsTo, NoneIsLive, is_live, snapshot_size_of}
 use Rattle.yw_journal.specs.Journal.{IsCurrent, made}
 use Rattle.yw_journal.specs.Records.{AreOpen, IsNoRecord}
-use Rattle.yw_library.specs.Holdings as library
+use Rattle.yw_engine.specs.Held as held
 use Rattle.yw_model.specs.Texts.{reader}
 use Rattle.yw_state.specs.Events.{Leads, LeadAll}
 use Rattle.yw_state.specs.State.{State, opening}
@@ -21,12 +21,12 @@ use Rattle.yw_serve.specs.declared.header.Head.{Head}
 use Rattle.yw_serve.specs.declared.opening.OpenFault.{OpenFault}
 use Rattle.yw_serve.specs.declared.opening.OpenFault.TheVariants.{Disk, Damaged, Memory}
 use Rattle.yw_serve.specs.declared.opening.Opened.{Opened}
-use Rattle.yw_serve.specs.declared.opening_entries.Gate.{Gate}
-use Rattle.yw_serve.specs.declared.opening_entries.Gate.TheVariants.{Closed, Open, Cut}
+use Rattle.yw_serve.specs.declared.opening_entries.GateByte.{GateByte}
+use Rattle.yw_serve.specs.declared.opening_entries.GateByte.TheVariants.{Closed, Open, Cut}
 use Rattle.yw_outside.specs.declared.desk.Desk.{Ghosts}
 
 abbrev pub opened_state : Opened → State
-opened_state opened = library.state_of opened.library
+opened_state opened = held.state_of opened.engine
 
 -- Only reads and syncs came between two states of a desk: it holds what it held, and a crash leaves nothing new.
 pub record OnlyLooked {D : Type 0} (g : Ghosts D) (old new : D) : Type 0 where
@@ -60,26 +60,26 @@ abbrev pub IsHeadRead : List ℕ → Option Head → Type 0
 IsHeadRead file head = MatchOption head (is_live file ≡ false) (IsHeadOf file)
 
 -- The headers show no damage: file B isn't live, and file A isn't or this is its head.
-pub record IsChosen (i : Image) (front : Option Head) : Type 0 where
+pub record IsChosen (i : Image) (head_of_a : Option Head) : Type 0 where
   pub alone : is_live i.b ≡ false
   pub sound : heads_damage i ≡ None
-  pub head : IsHeadRead i.a front
+  pub head : IsHeadRead i.a head_of_a
 
 -- the gate is missing, or it is open and its record passes the end
 abbrev pub IsCutHere : List ℕ → Type 0
-IsCutHere rest = (rest ≡ []) ⊎ ((behind : List ℕ) × (rest ≡ 1 ∷ behind) × IsNoRecord rest)
+IsCutHere rest = (rest ≡ []) ⊎ ((after : List ℕ) × (rest ≡ 1 ∷ after) × IsNoRecord rest)
 
 abbrev pub IsClosedHere : List ℕ → Type 0
-IsClosedHere rest = (gate : ℕ) × (behind : List ℕ) × (rest ≡ gate ∷ behind) × (gate ≢ 1)
+IsClosedHere rest = (gate : ℕ) × (after : List ℕ) × (rest ≡ gate ∷ after) × (gate ≢ 1)
 
--- an open gate, and a whole record of so many bytes behind it
+-- an open gate, and a whole record of so many bytes after it
 pub record IsOpenHere (size : ℕ) (rest : List ℕ) : Type 0 where
   pub gate : take 1 rest ≡ 1 ∷ []
   pub within : 5 + size ≤ length rest
   pub value : from_be_bytes w32 (take 4 (drop 1 rest)) ≡ size
 
--- what stands at the front of these bytes
-abbrev pub StandsHere : List ℕ → Gate → Type 0
+-- what these bytes begin with
+abbrev pub StandsHere : List ℕ → GateByte → Type 0
 StandsHere rest Closed = IsClosedHere rest
 StandsHere rest (Open size) = IsOpenHere size rest
 StandsHere rest Cut = IsCutHere rest
@@ -94,7 +94,7 @@ abbrev pub AreApplied : State → List Event → Bool → State → Type 0
 AreApplied s es true t = LeadAll reader s es t
 AreApplied s es false t = (u : State) → LeadAll reader s es u → ⊥
 
--- Behind the header, up to this gate, stand records that lead to this state.
+-- After the header, up to this gate, stand records that lead to this state.
 pub record IsReached (file : List ℕ) (at : ℕ) (records : List (List ℕ)) (s : State) : Type 0 where
   pub long : 30 ≤ length file
   pub no_snapshot : snapshot_size_of file ≡ 0
@@ -104,7 +104,7 @@ pub record IsReached (file : List ℕ) (at : ℕ) (records : List (List ℕ)) (s
   pub place : length (take 29 file ++ opened) ≡ at
   pub state : LeadsTo meaning opening records s
 
--- Behind a sound header of file A this is the first damage.
+-- After a sound header of file A this is the first damage.
 pub record IsDamagedAt (file : List ℕ) (f : File) (place : ℕ) : Type 0 where
   pub which : f ≡ A
   pub here : IsCut meaning file place ⊎ HasNoMeaning meaning file place
@@ -131,8 +131,8 @@ pub record LeftByOpening (may_leave : Image → Type 0) (i k : Image) : Type 0 w
   pub files : IsOfStart may_leave k ⊎ HoldsBegun i k
   pub said : k.said ≡ i.said
 
--- What a crash leaves of the opening behind the syncs: each byte of both files as it was, or file A is being begun.
-pub record LeftBehindSyncs (i k : Image) : Type 0 where
+-- What a crash leaves of the opening after the syncs: each byte of both files as it was, or file A is being begun.
+pub record LeftAfterSyncs (i k : Image) : Type 0 where
   pub files : ((k.a ≡ i.a) × (k.b ≡ i.b)) ⊎ HoldsBegun i k
   pub said : k.said ≡ i.said
 
@@ -148,7 +148,7 @@ pub record OpensBy {D : Type 0} (g : Ghosts D) (old new : D) : Type 0 where
   pub same : g.state synced ≡ g.state old
   pub settled : IsSettled (g.state synced) (g.may_leave synced)
   pub before : LeavesOnly g old synced (g.may_leave old)
-  pub behind : LeavesOnly g synced new (LeftBehindSyncs (g.state old))
+  pub after : LeavesOnly g synced new (LeftAfterSyncs (g.state old))
 
 -- The content that was found goes on, and not one byte of file A has changed; or no file was live, and file A is begun.
 abbrev pub GoesOnOrBegins : Content → Content → Image → Image → Type 0

@@ -1,6 +1,6 @@
--- What is to be done for a line.
-use Rattle.std.specs.Prelude.{◌≡◌, ℕ, List, [], ◌∷◌, true, Option, Some, None}
-use Rattle.yw_codec.specs.Entries.{entry_bytes, framed}
+-- What is to be done for a line. What is to be appended stands in a buffer beside the plan, as it is framed.
+use Rattle.std.specs.Prelude.{◌≡◌, ℕ, List, [], ◌∷◌, Option, Some, None}
+use Rattle.yw_codec.specs.Entries.{IsEntry, framed}
 use Rattle.yw_journal.specs.Records.{IsFramed}
 use Rattle.yw_lines.specs.Replies.{done, refused}
 use Rattle.yw_state.specs.Broken.{placeless}
@@ -9,43 +9,56 @@ use Rattle.yw_state.specs.declared.command.Command.{Command}
 use Rattle.yw_state.specs.State.{State}
 use Rattle.yw_state.specs.declared.rule.Refusal.{Refusal}
 use Rattle.yw_state.specs.declared.rule.Rule.{Rule}
+use Rattle.yw_serve.specs.Session.{bytes_of}
 use Rattle.yw_serve.specs.declared.plan.Plan.{Plan}
 use Rattle.yw_serve.specs.declared.plan.Plan.TheVariants.{Refuse, Accept}
 
+-- The buffer has this entry, framed, which can be written.
+pub record HasEntry (entry : Entry) (buffer : List ℕ) : Type 0 where
+  pub bytes : buffer ≡ framed entry.events
+  pub frame : IsFramed (framed entry.events) (bytes_of entry)
+  pub written : IsEntry entry.events (bytes_of entry)
+
+-- The step takes the entry that the buffer has, and its reply is this.
+pub record TakesEntry (buffer reply : List ℕ) (step : Step) : Type 0 where
+  pub entry : Entry
+  pub taken : step.taken ≡ entry ∷ []
+  pub has : HasEntry entry buffer
+  pub told : step.reply ≡ reply
+
 -- the plan does this step
-abbrev pub Does : Plan → Step → Type 0
-Does (Refuse reply) step = (step.taken ≡ []) × (step.reply ≡ reply)
-Does (Accept entry reply) step =
-    (events : Entry) × (step.taken ≡ events ∷ []) × (entry ≡ framed events) × IsFramed (framed events) (entry_bytes events) × (step.reply ≡ reply)
+abbrev pub Does : Plan → List ℕ → Step → Type 0
+Does (Refuse reply) buffer step = (step.taken ≡ []) × (step.reply ≡ reply)
+Does (Accept reply) buffer step = TakesEntry buffer reply step
 
 -- the plan refuses so
 abbrev pub Refuses : ℕ → Refusal → Plan → Type 0
 Refuses n refusal (Refuse reply) = reply ≡ refused n refusal
-Refuses n refusal (Accept entry reply) = ⊥
+Refuses n refusal (Accept reply) = ⊥
 
 -- the plan refuses by this rule, which has no place; there is one
 abbrev pub RefusesBy : ℕ → Option Rule → Plan → Type 0
 RefusesBy n (Some r) plan = Refuses n (placeless r) plan
 RefusesBy n None plan = ⊥
 
--- the plan takes these events as an entry, and says that all is quiet
-abbrev pub Accepts : ℕ → Entry → Plan → Type 0
-Accepts n events (Accept entry reply) = (entry ≡ framed events) × IsFramed (framed events) (entry_bytes events) × (reply ≡ done n events true)
-Accepts n events (Refuse reply) = ⊥
+-- the plan takes the entry that the buffer has, and says its events and whether all is quiet after them
+abbrev pub Accepts : ℕ → Entry → List ℕ → Plan → Type 0
+Accepts n entry buffer (Accept reply) = HasEntry entry buffer × (reply ≡ done n entry.events entry.quiet)
+Accepts n entry buffer (Refuse reply) = ⊥
 
 -- what is to be appended is a record's frame and a closed gate
-abbrev pub CanBeAppended : Plan → Type 0
-CanBeAppended (Refuse reply) = Unit {0}
-CanBeAppended (Accept entry reply) = (bytes : List ℕ) × IsFramed entry bytes
+abbrev pub CanBeAppended : List ℕ → Plan → Type 0
+CanBeAppended buffer (Refuse reply) = Unit {0}
+CanBeAppended buffer (Accept reply) = (bytes : List ℕ) × IsFramed buffer bytes
 
 -- the plan is an answer to the line
-pub record IsPlan (s : State) (n : ℕ) (line : List ℕ) (plan : Plan) (t : State) : Type 0 where
+pub record IsPlan (s : State) (n : ℕ) (line : List ℕ) (plan : Plan) (buffer : List ℕ) (t : State) : Type 0 where
   pub step : Step
   pub answers : Answers s n line step t
-  pub does : Does plan step
+  pub does : Does plan buffer step
 
 -- the plan is an answer to the command
-pub record IsPlanFor (s : State) (n : ℕ) (c : Command) (plan : Plan) (t : State) : Type 0 where
+pub record IsPlanFor (s : State) (n : ℕ) (c : Command) (plan : Plan) (buffer : List ℕ) (t : State) : Type 0 where
   pub step : Step
   pub answers : CommandAnswers c s n step t
-  pub does : Does plan step
+  pub does : Does plan buffer step

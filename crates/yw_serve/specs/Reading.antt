@@ -1,6 +1,5 @@
 -- How far the reading of an input has come.
 use Rattle.std.specs.Prelude.{◌≡◌, ◌+◌, ℕ, List, length, take, Option}
-use Rattle.yw_outside.specs.declared.image.Image.{Image}
 use Rattle.yw_journal.specs.Files.{Content}
 use Rattle.yw_lines.specs.Lines.{whole_lines}
 use Rattle.yw_model.specs.Run.{Step, Run}
@@ -15,7 +14,7 @@ pub record HasAnswered {D : Type 0} (g : Ghosts D)
     (c : Content) (s : State) (session : Session) (taken : List ℕ) (old new : D) : Type 0 where
   pub steps : List Step
   pub run : Run s 1 (whole_lines taken) steps (state_of session)
-  pub are_done : AreDone g c steps session.journal old new
+  pub are_done : AreDone g c steps session.server.journal old new
   pub at : IsAtByte session taken
   pub number : session.number ≡ 1 + length (whole_lines taken)
 

@@ -5,14 +5,13 @@ use Rattle.std.specs.Prelude.{◌≡◌, ◌⊎◌, ℕ, List, Option}
 use Rattle.yw_outside.specs.Moments.{IsSettled}
 use Rattle.yw_outside.specs.Tells.{Tells, TellsWhole}
 use Rattle.yw_outside.specs.declared.desk.File.{File}
-use Rattle.yw_outside.specs.declared.image.Image.{Image}
 use Rattle.yw_journal.specs.Files.{Content}
 use Rattle.yw_state.specs.State.{State}
 use Rattle.yw_serve.specs.Damage.{HoldNow, IsDamagedNow}
 use Rattle.yw_serve.specs.Ends.{EndsWhole, EndsBetween, EndsPast, EndsShort}
 use Rattle.yw_serve.specs.Notices.{damage_line, full_line}
 use Rattle.yw_serve.specs.Opening.{GoesOnOrBegins, IsUnsynced, OpensBy}
-use Rattle.yw_serve.specs.declared.session.Stop.TheVariants as stops
+use Rattle.yw_serve.specs.declared.server.Stop.TheVariants as stops
 use Rattle.yw_serve.specs.declared.top.Status.{Status}
 use Rattle.yw_serve.specs.declared.top.Status.TheVariants.{Ok, Findings, Usage, Disk, Memory, Read, Write, Damaged, Full, InputLimit}
 use Rattle.yw_outside.specs.declared.desk.Desk.{Ghosts}
@@ -22,7 +21,7 @@ abbrev pub IsTold : {D : Type 0} → Ghosts D → Status → Status → List ℕ
 IsTold g status wanted text old new =
     ((status ≡ wanted) × TellsWhole g text old new) ⊎ ((status ≡ Write) × Tells g text old new) ⊎ ((status ≡ Memory) × (new ≡ old))
 
--- The line at work had no room, and then its one line was said, all of it or a front.
+-- The line at work had no room, and then its one line was said, all of it or a prefix.
 pub record EndsFull {D : Type 0} (g : Ghosts D)
     (c : Content) (s : State) (full_at limit : ℕ) (bytes : List ℕ) (left : Option (List ℕ)) (piece : ℕ) (Says : List ℕ → D → D → Type 0) (old new : D) : Type 0 where
   pub length : ℕ
@@ -70,7 +69,7 @@ pub record RunsFrom {D : Type 0} (g : Ghosts D)
   pub opening : OpensBy g old opened
   pub ends : Ends c s opened
 
--- Behind the syncs a damage was found, and its line said, all of it or a front; not one byte of a file has changed.
+-- After the syncs a damage was found, and its line said, all of it or a prefix; not one byte of a file has changed.
 pub record FindsDamage {D : Type 0} (g : Ghosts D)
     (Says : List ℕ → D → D → Type 0) (old new : D) : Type 0 where
   pub file : File
@@ -82,7 +81,7 @@ pub record FindsDamage {D : Type 0} (g : Ghosts D)
   pub opening : OpensBy g old mid
   pub said : Says (damage_line file place) mid new
 
--- The opening wasn't finished, before the files were synced or behind it, and nothing is said.
+-- The opening wasn't finished, before the files were synced or after it, and nothing is said.
 pub record OpensInPart {D : Type 0} (g : Ghosts D) (old new : D) : Type 0 where
   pub said : (g.state new).said ≡ (g.state old).said
   pub opening : OpensBy g old new ⊎ IsUnsynced g old new

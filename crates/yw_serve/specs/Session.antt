@@ -8,32 +8,41 @@ use Rattle.yw_outside.specs.declared.image.Image.{Image}
 use Rattle.yw_journal.specs.Files.{Content, Holds, end_of}
 use Rattle.yw_journal.specs.Journal.{IsCurrent, appended}
 use Rattle.yw_journal.specs.declared.journal.Journal.{Journal}
-use Rattle.yw_codec.specs.Entries.{entry_bytes, framed}
-use Rattle.yw_library.specs.Holdings as library
+use Rattle.yw_codec.specs.Entries.{IsEntry, entry_bytes, framed}
+use Rattle.yw_engine.specs.Held as held
 use Rattle.yw_lines.specs.Lines.{whole_lines, last_part}
 use Rattle.yw_state.specs.State.{State}
-use Rattle.yw_model.specs.Run.{Entry, Step, Answers, Run, HasRun, taken_by, said_by}
+use Rattle.yw_model.specs.Run.{Entry, Step, Answers, Run, taken_by, said_by}
 use Rattle.yw_serve.specs.Kept.{kept_of}
+use Rattle.yw_serve.specs.declared.server.Server.{Server}
+use Rattle.yw_serve.specs.declared.server.Stop.{Stop}
+use Rattle.yw_serve.specs.declared.server.Stop.TheVariants.{Disk, Write, Memory, Full}
 use Rattle.yw_serve.specs.declared.session.Session.{Session}
-use Rattle.yw_serve.specs.declared.session.Stop.{Stop}
-use Rattle.yw_serve.specs.declared.session.Stop.TheVariants.{Disk, Write, Memory, Full}
 use Rattle.yw_outside.specs.declared.desk.Desk.{Ghosts}
 
-abbrev pub state_of : Session → State
-state_of session = library.state_of session.library
+-- ---- entries in a file
 
--- a content with these entries behind its own
+-- the bytes of an entry are those of its events
+abbrev pub bytes_of : Entry → List ℕ
+bytes_of entry = entry_bytes entry.events
+
+-- each of these can be written: it has an entry's bytes
+abbrev pub EachWritten : List Entry → Type 0
+EachWritten [] = Unit {0}
+EachWritten (e ∷ es) = IsEntry e.events (bytes_of e) × EachWritten es
+
+-- a content with these entries after its own
 abbrev pub with_entries : Content → List Entry → Content
-with_entries c entries = record { generation = c.generation; count = c.count; snapshot = c.snapshot; records = c.records ++ map entry_bytes entries }
+with_entries c entries = record { generation = c.generation; count = c.count; snapshot = c.snapshot; records = c.records ++ map bytes_of entries }
 
 -- with those that these steps take
 abbrev pub with_steps : Content → List Step → Content
 with_steps c steps = with_entries c (taken_by steps)
 
--- a file of this content with these entries behind its own; every other byte is as it was
+-- a file of this content with these entries after its own; every other byte is as it was
 abbrev pub file_after : List ℕ → Content → List Entry → List ℕ
 file_after file c [] = file
-file_after file c (e ∷ es) = file_after (appended file (end_of c) (framed e)) (with_entries c (e ∷ [])) es
+file_after file c (e ∷ es) = file_after (appended file (end_of c) (framed e.events)) (with_entries c (e ∷ [])) es
 
 -- no entry is taken, or the file with those that are ends within the limit
 abbrev pub HasRoom : ℕ → Content → List Step → Type 0
@@ -43,17 +52,21 @@ HasRoom limit c steps = (taken_by steps ≡ []) ⊎ (end_of (with_steps c steps)
 abbrev pub IsIn : File → Content → Image → Type 0
 IsIn f c i = (end : ℕ) × Holds f c end i
 
+-- ---- steps
+
 -- These steps are done, and none is at work.
 pub record IsBetween (f : File) (c : Content) (done : List Step) (old i : Image) : Type 0 where
   pub file : IsIn f (with_steps c done) i
+  pub written : EachWritten (taken_by done)
   pub said : i.said ≡ old.said ++ said_by done
 
--- Of the steps behind those done the first is at work: its entry stands whole, and a front of its reply is said.
+-- Of the steps after those done the first is at work: its entry stands whole, and a prefix of its reply is said.
 pub record IsAtWork (f : File) (c : Content) (done rest : List Step) (old i : Image) : Type 0 where
   pub step : Step
   pub later : List Step
   pub first : rest ≡ step ∷ later
   pub file : IsIn f (with_steps c (done ++ step ∷ [])) i
+  pub written : EachWritten (taken_by (done ++ step ∷ []))
   pub said : SaysPart (old.said ++ said_by done) step.reply i.said
 
 -- Of these steps the first ones are done, and the next may be at work. No entry is torn, and nothing is said of a reply whose entry isn't held.
@@ -69,6 +82,7 @@ pub record OfSteps (f : File) (c : Content) (steps : List Step) (old i : Image) 
 pub record AreDone {D : Type 0} (g : Ghosts D)
     (c : Content) (steps : List Step) (journal : Journal) (old new : D) : Type 0 where
   pub file : IsCurrent journal (with_steps c steps) (g.state new)
+  pub written : EachWritten (taken_by steps)
   pub room : HasRoom journal.limit c steps
   pub bytes : file_in journal.file (g.state new) ≡ file_after (file_in journal.file (g.state old)) c (taken_by steps)
   pub other : other_in journal.file (g.state new) ≡ other_in journal.file (g.state old)
@@ -76,7 +90,49 @@ pub record AreDone {D : Type 0} (g : Ghosts D)
   pub settled : IsSettled (g.state new) (g.may_leave new)
   pub moments : LeavesOnly g old new (OfSteps journal.file c steps (g.state old))
 
--- Of all lines those behind the done ones are answered, the state is then t and the journal is this.
+-- Why a session ended at a line, of which this may come, after content c: for want of memory or of room, before anything was done for it,
+-- or within the calls of the desk, and then there was room. Where a reply wasn't said whole, its entry is held.
+abbrev pub Why : {D : Type 0} → Ghosts D → Content → Stop → Journal → List Step → D → D → Type 0
+Why g c Memory journal work old new = new ≡ old
+Why g c (Full n) journal work old new =
+    (new ≡ old) × (entry : Entry) × (step : Step) × (later : List Step) × (work ≡ step ∷ later) × (step.taken ≡ entry ∷ [])
+    × (n ≡ journal.end + length (framed entry.events)) × (journal.limit < n)
+Why g c Disk journal work old new = HasRoom journal.limit c work
+Why g c Write journal work old new =
+    HasRoom journal.limit c work × (file_in journal.file (g.state new) ≡ file_after (file_in journal.file (g.state old)) c (taken_by work))
+
+-- ---- one line
+
+-- the state that a server has
+abbrev pub server_state : Server → State
+server_state server = held.state_of server.engine
+
+-- The line with number n is answered.
+pub record EndsLine {D : Type 0} (g : Ghosts D)
+    (c : Content) (before now : Server) (n : ℕ) (line : List ℕ) (old new : D) : Type 0 where
+  pub step : Step
+  pub answers : Answers (server_state before) n line step (server_state now)
+  pub are_done : AreDone g c (step ∷ []) now.journal old new
+
+-- The server stopped at the line with number n, of which this comes.
+pub record CutsStep {D : Type 0} (g : Ghosts D)
+    (c : Content) (stop : Stop) (before : Server) (n : ℕ) (line : List ℕ) (old new : D) : Type 0 where
+  pub step : Step
+  pub after : State
+  pub answers : Answers (server_state before) n line step after
+  pub moments : LeavesOnly g old new (OfSteps before.journal.file c (step ∷ []) (g.state old))
+  pub why : Why g c stop before.journal (step ∷ []) old new
+
+-- It stopped there, or no memory was left to find out what comes of the line.
+abbrev pub CutsLine : {D : Type 0} → Ghosts D → Content → Stop → Server → ℕ → List ℕ → D → D → Type 0
+CutsLine g c stop before n line old new = ((stop ≡ Memory) × (new ≡ old)) ⊎ CutsStep g c stop before n line old new
+
+-- ---- pieces of the input
+
+abbrev pub state_of : Session → State
+state_of session = server_state session.server
+
+-- Of all lines those after the done ones are answered, the state is then t and the journal is this.
 pub record AnswersOn {D : Type 0} (g : Ghosts D)
     (c : Content) (session : Session) (done all : List (List ℕ)) (t : State) (journal : Journal) (old new : D) : Type 0 where
   pub lines : List (List ℕ)
@@ -85,18 +141,7 @@ pub record AnswersOn {D : Type 0} (g : Ghosts D)
   pub run : Run (state_of session) session.number lines steps t
   pub are_done : AreDone g c steps journal old new
 
--- Why a session ended at a line, of which this may come, behind content c: for want of memory or of room, before anything was done for it,
--- or within the calls of the desk, and then there was room. Where a reply wasn't said whole, its entry is held.
-abbrev pub Why : {D : Type 0} → Ghosts D → Content → Stop → Journal → List Step → D → D → Type 0
-Why g c Memory journal work old new = new ≡ old
-Why g c (Full n) journal work old new =
-    (new ≡ old) × (entry : Entry) × (step : Step) × (later : List Step) × (work ≡ step ∷ later) × (step.taken ≡ entry ∷ [])
-    × (n ≡ journal.end + length (framed entry)) × (journal.limit < n)
-Why g c Disk journal work old new = HasRoom journal.limit c work
-Why g c Write journal work old new =
-    HasRoom journal.limit c work × (file_in journal.file (g.state new) ≡ file_after (file_in journal.file (g.state old)) c (taken_by work))
-
--- Of the lines behind the done ones some are answered, and the session stopped at the next.
+-- Of the lines after the done ones some are answered, and the session stopped at the next.
 pub record StopsWithin {D : Type 0} (g : Ghosts D)
     (c : Content) (stop : Stop) (session : Session) (done all : List (List ℕ)) (old new : D) : Type 0 where
   pub lines : List (List ℕ)
@@ -114,42 +159,18 @@ pub record StopsWithin {D : Type 0} (g : Ghosts D)
   pub work : List Step
   pub after : State
   pub run_on : Run reached (session.number + length lines) next work after
-  -- and something comes of the further lines
-  pub goes_on : HasRun after (session.number + length lines + length next) later
   pub moments : LeavesOnly g mid new (OfSteps journal.file (with_steps c steps) work (g.state mid))
   pub why : Why g (with_steps c steps) stop journal work mid new
-  pub limit : journal.limit ≡ session.journal.limit
-  pub file : journal.file ≡ session.journal.file
+  pub limit : journal.limit ≡ session.server.journal.limit
+  pub file : journal.file ≡ session.server.journal.file
 
 -- What has come of the next line is kept.
 abbrev pub IsAtByte : Session → List ℕ → Type 0
-IsAtByte session taken = session.front.items ≡ kept_of (last_part taken)
+IsAtByte session taken = session.line.items ≡ kept_of (last_part taken)
 
--- With this piece behind the bytes taken, the lines that it ends are answered, and what it has of the next is kept.
+-- With this piece after the bytes taken, the lines that it ends are answered, and what it has of the next is kept.
 pub record GoesOn {D : Type 0} (g : Ghosts D)
     (c : Content) (before now : Session) (taken piece : List ℕ) (old new : D) : Type 0 where
-  pub answers : AnswersOn g c before (whole_lines taken) (whole_lines (taken ++ piece)) (state_of now) now.journal old new
+  pub answers : AnswersOn g c before (whole_lines taken) (whole_lines (taken ++ piece)) (state_of now) now.server.journal old new
   pub at : IsAtByte now (taken ++ piece)
   pub number : now.number ≡ before.number + length answers.lines
-
--- The line that is kept is answered, and the next begins.
-pub record EndsLine {D : Type 0} (g : Ghosts D)
-    (c : Content) (before now : Session) (old new : D) : Type 0 where
-  pub step : Step
-  pub answers : Answers (state_of before) before.number before.front.items step (state_of now)
-  pub are_done : AreDone g c (step ∷ []) now.journal old new
-  pub front : now.front.items ≡ []
-  pub number : now.number ≡ before.number + 1
-
--- The session stopped at the line that is kept, of which this comes.
-pub record CutsStep {D : Type 0} (g : Ghosts D)
-    (c : Content) (stop : Stop) (before : Session) (old new : D) : Type 0 where
-  pub step : Step
-  pub after : State
-  pub answers : Answers (state_of before) before.number before.front.items step after
-  pub moments : LeavesOnly g old new (OfSteps before.journal.file c (step ∷ []) (g.state old))
-  pub why : Why g c stop before.journal (step ∷ []) old new
-
--- It stopped there, or no memory was left to find out what comes of the line.
-abbrev pub CutsLine : {D : Type 0} → Ghosts D → Content → Stop → Session → D → D → Type 0
-CutsLine g c stop before old new = ((stop ≡ Memory) × (new ≡ old)) ⊎ CutsStep g c stop before old new

@@ -27,6 +27,6 @@ IsRun words limit =
     ((map string_bytes words ≡ codes "run" ∷ []) × (limit ≡ greatest_limit))
     ⊎ ((text : List ℕ) × (map string_bytes words ≡ codes "run" ∷ codes "--limit" ∷ text ∷ []) × IsLimit text limit)
 
--- `check`, and nothing behind it
+-- `check`, and nothing after it
 abbrev pub IsCheck : List (String Global) → Type 0
 IsCheck words = map string_bytes words ≡ codes "check" ∷ []

@@ -1,4 +1,4 @@
-// The front of a file: its header, as far as a snapshot's length, and the gate behind an empty snapshot.
+// The head of a file: its header, as far as a snapshot's length, and the gate after an empty snapshot.
 ghost use Rattle.std.specs.Prelude.{◌≡◌, ◌≤◌, ◌<◌, ◌+◌, ◌^◌, IsTrue, IfOk, IfSome, None, Some, length, slice_index};
 ghost use Rattle.yw_journal.specs.Files.{count_of, greatest, header_damage, u64_at};
 ghost use Rattle.yw_outside.specs.Causes.{HasCause};
@@ -18,7 +18,7 @@ pub struct Head {
     pub bytes: [u8; HEAD],
 }
 
-/// The front of a file, or `None` where the file isn't live: it has fewer than 30 bytes, or its first gate is
+/// The head of a file, or `None` where the file isn't live: it has fewer than 30 bytes, or its first gate is
 /// closed.
 pub fn read_head<D: Desk>(desk: &mut D, f: File) -> Result<Option<Head>, Failed>
     ensures head { IsTrue (D.tells desk.old) → IfOk result (IsHeadRead (file_in f (D.state desk.old))) }

@@ -11,8 +11,10 @@ mod opening_entries;
 mod pieces;
 mod plan;
 mod run;
+mod server;
 mod session;
 mod top;
+mod window;
 mod words;
 
 pub use top::{INPUT_LIMIT, Status, serve};

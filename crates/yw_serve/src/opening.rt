@@ -1,5 +1,5 @@
 // The opening of the files, before any line is read.
-ghost use Rattle.std.specs.Prelude.{◌≡◌, ◌≤◌, ◌<◌, ◌+◌, ◌^◌, ◌⊎◌, [], ℕ, IsTrue, IfOk, OnOk, IfErr, IfSome, IsSome, if◌then◌else◌, Err, None, Some, slice_index};
+ghost use Rattle.std.specs.Prelude.{◌≡◌, ◌≤◌, ◌<◌, ◌+◌, ◌^◌, ◌⊎◌, [], ℕ, IsTrue, IfOk, OnOk, IfErr, IfSome, IsSome, if◌then◌else◌, Err, None, Some, length, slice_index};
 ghost use Rattle.yw_journal.specs.Files.{Content, count_of, greatest};
 ghost use Rattle.yw_outside.specs.declared.image.Image.{Image};
 ghost use Rattle.yw_outside.specs.Causes.{HasCause, Rose};
@@ -8,14 +8,14 @@ ghost use Rattle.yw_outside.specs.Since.{LeavesOnly};
 ghost use Rattle.yw_state.specs.State.{State};
 ghost use Rattle.yw_serve.specs.Damage.{heads_damage, HoldNow, IsDamagedNow};
 ghost use Rattle.yw_serve.specs.Desks.{Stands, KeepsCounts};
-ghost use Rattle.yw_serve.specs.Opening.{AnswersDamage, AnswersState, HasFaultCause, IsChosen, IsHeadRead, IsOpened, IsUnsynced, LeftBehindSyncs, OnlyLooked, OpenFaults, OpensBy};
+ghost use Rattle.yw_serve.specs.Opening.{AnswersDamage, AnswersState, HasFaultCause, IsChosen, IsHeadRead, IsOpened, IsUnsynced, LeftAfterSyncs, OnlyLooked, OpenFaults, OpensBy};
 
 use crate::header::{Head, header_fault, read_head, u64_in};
 use crate::opening_entries::read_entries;
 use std::alloc::{AllocError, Global};
 use thiserror::Error;
+use yw_engine::Engine;
 use yw_journal::{AppendFault, Journal};
-use yw_library::Library;
 use yw_outside::{Desk, Failed, File};
 
 /// Why the files weren't opened.
@@ -54,11 +54,11 @@ impl From<AllocError> for OpenFault {
     }
 }
 
-/// What the files hold when they are opened: the journal that goes on, and the persons and specifications.
+/// What the files hold when they are opened: the journal that goes on, and the engine with their state.
 #[derive(Drop)]
 pub struct Opened {
     pub journal: Journal,
-    pub library: Library,
+    pub engine: Engine,
 }
 
 /// Syncs both files, so that a crash leaves of them what a read gives.
@@ -71,7 +71,7 @@ fn sync_both<D: Desk>(desk: &mut D) -> Result<(), Failed>
     desk.sync(File::B)
 }
 
-/// Behind a sound header of file A: a live file B, or a snapshot in file A.
+/// After a sound header of file A: a live file B, or a snapshot in file A.
 fn later_fault(has_snapshot: bool, b: &Option<Head>) -> Option<(File, u64)>
     ensures live { IsSome b.now → result ≡ Some (File.B, 0) }
     ensures snapshot { b.now ≡ None → result ≡ (if has_snapshot then Some (File.A, 21) else None) }
@@ -100,7 +100,7 @@ fn heads_fault(a: &Option<Head>, b: &Option<Head>) -> Option<(File, u64)>
     }
 }
 
-/// Looks at the headers of both files. It answers the front of a live file A, or `None` where no file is live.
+/// Looks at the headers of both files. It answers the head of a live file A, or `None` where no file is live.
 fn choose<D: Desk>(desk: &mut D) -> Result<Option<Head>, OpenFault>
     ensures chosen { IsTrue (D.tells desk.old) → IfOk result (IsChosen (D.state desk.old)) }
     ensures size { IfOk result (λ found. IfSome found (λ head. (30 ≤ head.len) × (head.len < 2 ^ 63))) }
@@ -117,14 +117,16 @@ fn choose<D: Desk>(desk: &mut D) -> Result<Option<Head>, OpenFault>
     }
 }
 
-/// Goes on in file A, whose front this is.
+/// Goes on in file A, whose head this is.
 fn resume<D: Desk>(
     alloc: Global,
     limit: u64,
+    piece: &mut [u8],
     desk: &mut D,
     head: &Head,
 ) -> Result<Opened, OpenFault>
     requires limit { limit ≤ 2 ^ 62 }
+    requires room { 5 ≤ length piece.old }
     requires size { (30 ≤ head.now.len) × (head.now.len < 2 ^ 63) }
     requires counted { count_of head.now.bytes ≤ greatest }
     requires chosen { IsTrue (D.tells desk.old) → IsChosen (D.state desk.old) (Some head.now) }
@@ -138,8 +140,8 @@ fn resume<D: Desk>(
     ensures none_failed { OnOk result (D.disk_faults desk.new ≡ D.disk_faults desk.old) }
     ensures fault { IfErr result (HasFaultCause (λ f place. IsTrue (D.tells desk.old) → IsDamagedNow (D.state desk.old) f place) (D.disk_faults desk.old) (D.disk_faults desk.new)) }
 {
-    let mut library = Library::new(alloc);
-    let tail = read_entries(alloc, desk, head.len, &mut library)?;
+    let mut engine = Engine::new(alloc);
+    let tail = read_entries(alloc, piece, desk, head.len, &mut engine)?;
     let journal = Journal {
         file: File::A,
         generation: u64_in(&head.bytes, 5),
@@ -147,7 +149,7 @@ fn resume<D: Desk>(
         limit,
         number: u64_in(&head.bytes, 13) + tail.records,
     };
-    Ok(Opened { journal, library })
+    Ok(Opened { journal, engine })
 }
 
 /// Makes file A, where no file is live.
@@ -161,7 +163,7 @@ fn begin<D: Desk>(alloc: Global, limit: u64, desk: &mut D) -> Result<Opened, Ope
     ensures stands { IfOk result (λ opened. Stands D.Desk opened.journal desk.new) }
     ensures limited { IfOk result (λ opened. opened.journal.limit ≡ limit) }
     ensures file { IfOk result (λ opened. opened.journal.file ≡ File.A) }
-    ensures any_moment { IsTrue (D.tells desk.old) → LeavesOnly D.Desk desk.old desk.new (LeftBehindSyncs (D.state desk.old)) }
+    ensures any_moment { IsTrue (D.tells desk.old) → LeavesOnly D.Desk desk.old desk.new (LeftAfterSyncs (D.state desk.old)) }
     ensures counts { KeepsCounts D.Desk desk.old desk.new }
     ensures say_faults { D.say_faults desk.new ≡ D.say_faults desk.old }
     ensures none_failed { OnOk result (D.disk_faults desk.new ≡ D.disk_faults desk.old) }
@@ -170,7 +172,7 @@ fn begin<D: Desk>(alloc: Global, limit: u64, desk: &mut D) -> Result<Opened, Ope
     match Journal::make(desk, File::A, 1, 0, &[0; 9], limit) {
         Ok(journal) => Ok(Opened {
             journal,
-            library: Library::new(alloc),
+            engine: Engine::new(alloc),
         }),
         Err(AppendFault::Disk) => Err(OpenFault::Disk),
         Err(AppendFault::Full(_)) => unreachable!(),
@@ -181,11 +183,17 @@ fn begin<D: Desk>(alloc: Global, limit: u64, desk: &mut D) -> Result<Opened, Ope
 /// entries one after another. `Damaged` names the first damage, and comes only where the synced files hold no
 /// state that is read, and there unless a call failed or no memory was left; not one byte is changed then. `Disk`
 /// comes only where a call of the files failed, and `Memory` where no memory was left. Up to the syncs a crash
-/// leaves what it might have left before. Behind them it leaves the files as they are; or, where no file is live,
+/// leaves what it might have left before. After them it leaves the files as they are; or, where no file is live,
 /// none that is, or file A begun with generation 1, number 0 and no record. The memory that it takes is that of the
-/// persons and specifications and of the longest entry.
-pub fn open<D: Desk>(alloc: Global, limit: u64, desk: &mut D) -> Result<Opened, OpenFault>
+/// persons and specifications and of the longest entry. The entries are read through the piece.
+pub fn open<D: Desk>(
+    alloc: Global,
+    limit: u64,
+    piece: &mut [u8],
+    desk: &mut D,
+) -> Result<Opened, OpenFault>
     requires some { 64 ≤ limit }
+    requires room { 5 ≤ length piece.old }
     requires limit { limit ≤ 2 ^ 62 }
 
     // At Ok the files held this state and hold it, and the journal stands for them.
@@ -194,7 +202,7 @@ pub fn open<D: Desk>(alloc: Global, limit: u64, desk: &mut D) -> Result<Opened, 
     ensures limited { IfOk result (λ opened. opened.journal.limit ≡ limit) }
     ensures file { IfOk result (λ opened. opened.journal.file ≡ File.A) }
 
-    // A crash before the syncs leaves what it might have left at the start, and behind them the files as they are, or the file being begun.
+    // A crash before the syncs leaves what it might have left at the start, and after them the files as they are, or the file being begun.
     ensures any_moment { IsTrue (D.tells desk.old) → OpensBy D.Desk desk.old desk.new
         ⊎ ((result ≡ Err OpenFault.Disk) × IsUnsynced D.Desk desk.old desk.new) }
     ensures said { IsTrue (D.tells desk.old) → (D.state desk.new).said ≡ (D.state desk.old).said }
@@ -214,7 +222,7 @@ pub fn open<D: Desk>(alloc: Global, limit: u64, desk: &mut D) -> Result<Opened, 
 {
     sync_both(desk)?;
     match choose(desk)? {
-        Some(head) => resume(alloc, limit, desk, &head),
+        Some(head) => resume(alloc, limit, piece, desk, &head),
         None => begin(alloc, limit, desk),
     }
 }

@@ -9,7 +9,7 @@ use std::alloc::AllocError;
 /// How much of a line is kept, in bytes: one more than a line may have.
 pub const MOST_KEPT: usize = 1_048_577;
 
-/// The bytes before the first newline, and those behind it.
+/// The bytes before the first newline, and those after it.
 pub fn split_line(bytes: &[u8]) -> Option<(&[u8], &[u8])>
     ensures { MatchOption result (HasNoNewline bytes.now)
         (λ parts. HasNoNewline parts.0.now × (bytes.now ≡ parts.0.now ++ newline ∷ parts.1.now)) }
@@ -20,12 +20,12 @@ pub fn split_line(bytes: &[u8]) -> Option<(&[u8], &[u8])>
 
 /// Adds to what is kept of a line, which of one that is too long is one byte more than a line may have. An
 /// `Err` says that no memory was left, and changes nothing.
-pub fn keep(front: &mut Vec<u8>, part: &[u8]) -> Result<(), AllocError>
-    requires { vec_len front.old ≤ MOST_KEPT }
-    ensures ok { OnOk result (front.new.items ≡ kept_of (front.old.items ++ part.now)) }
-    ensures err { OnErr result (front.new.items ≡ front.old.items) }
-    ensures bound { vec_len front.new ≤ MOST_KEPT }
+pub fn keep(line: &mut Vec<u8>, part: &[u8]) -> Result<(), AllocError>
+    requires { vec_len line.old ≤ MOST_KEPT }
+    ensures ok { OnOk result (line.new.items ≡ kept_of (line.old.items ++ part.now)) }
+    ensures err { OnErr result (line.new.items ≡ line.old.items) }
+    ensures bound { vec_len line.new ≤ MOST_KEPT }
 {
-    let count = part.len().min(MOST_KEPT - front.len());
-    front.extend_from_slice(&part[..count])
+    let count = part.len().min(MOST_KEPT - line.len());
+    line.extend_from_slice(&part[..count])
 }

@@ -4,15 +4,18 @@ ghost use Rattle.std.specs.Io.KnownBytes.{Consumes, Keeps, IsAtEnd};
 ghost use Rattle.yw_outside.specs.Causes.{HasCause};
 ghost use Rattle.yw_journal.specs.Files.{Content};
 ghost use Rattle.yw_journal.specs.Journal.{IsCurrent};
+ghost use Rattle.yw_model.specs.Texts.{reader};
 ghost use Rattle.yw_state.specs.State.{State};
-ghost use Rattle.yw_serve.specs.Desks.{Stands, KeepsCounts};
+ghost use Rattle.yw_state.specs.Well.{IsWell};
+ghost use Rattle.yw_serve.specs.Desks.{KeepsCounts, KeepsJournal, Stands};
 ghost use Rattle.yw_serve.specs.Ends.{EndsAs};
 ghost use Rattle.yw_serve.specs.Faults.{EndingFaults, TurnFaults};
 ghost use Rattle.yw_serve.specs.Reading.{HasRead};
 ghost use Rattle.yw_serve.specs.Session.{state_of};
 
 use crate::answer::{feed, finish};
-use crate::session::{Session, Stop};
+use crate::server::Stop;
+use crate::session::Session;
 use std::alloc::{AllocError, Global};
 use yw_outside::{Desk, Failed, Source};
 
@@ -54,7 +57,6 @@ pub fn new_piece(alloc: Global) -> Result<Vec<u8>, AllocError>
 
 /// Reads once and answers the lines that end in the piece. It answers an ending where that was the last turn.
 fn turn<S: Source, D: Desk>(
-    alloc: Global,
     limit: usize,
     taken: &mut usize,
     session: &mut Session,
@@ -66,17 +68,15 @@ fn turn<S: Source, D: Desk>(
     requires within { taken.old ≤ limit }
     requires room { 0 < length piece.old }
     requires number { session.old.number ≤ taken.old + 1 }
-    requires stands { Stands D.Desk session.old.journal desk.old }
+    requires stands { Stands D.Desk session.old.server.journal desk.old }
 
-    ensures ends { IsTrue (D.tells desk.old) → (c : Content) (s : State) (bytes : List ℕ) (start : D)
+    ensures ends { IsTrue (D.tells desk.old) → (c : Content) (s : State) (bytes : List ℕ) (start : D) → IsWell reader s
         → HasRead D.Desk c s session.old limit taken.old bytes (S.left source.old) start desk.old
         → MatchOption result (HasRead D.Desk c s session.new limit taken.new bytes (S.left source.new) start desk.new)
-        (λ ending. EndsAs D.Desk ending c s session.old.journal.limit limit bytes (S.left source.new) (S.piece source.new) start desk.new) }
+        (λ ending. EndsAs D.Desk ending c s session.old.server.journal.limit limit bytes (S.left source.new) (S.piece source.new) start desk.new) }
     ensures progress { IsNone result → (taken.old < taken.new) × (taken.new ≤ limit + 1) × (session.new.number ≤ taken.new + 1) }
-    ensures stands { IsNone result → (Stands D.Desk session.new.journal desk.new) }
-    ensures file { session.new.journal.file ≡ session.old.journal.file }
-    ensures limited { session.new.journal.limit ≡ session.old.journal.limit }
-    ensures counts { KeepsCounts D.Desk desk.old desk.new }
+    ensures stands { IsNone result → (Stands D.Desk session.new.server.journal desk.new) }
+    ensures keeps { KeepsJournal D.Desk session.old.server.journal session.new.server.journal desk.old desk.new }
     ensures faults { TurnFaults D.Desk result (S.faults source.old) (S.faults source.new) desk.old desk.new }
 {
     let count = match read_piece(source, piece, limit - *taken + 1) {
@@ -84,14 +84,14 @@ fn turn<S: Source, D: Desk>(
         Err(Failed) => return Some(Ending::Unread),
     };
     if count == 0 {
-        return match finish(alloc, session, desk) {
+        return match finish(session, desk) {
             Ok(()) => Some(Ending::Whole),
             Err(stop) => Some(Ending::Stopped(stop)),
         };
     }
     let kept = count.min(limit - *taken);
     *taken += count;
-    match feed(alloc, session, desk, &piece[..kept]) {
+    match feed(session, desk, &piece[..kept]) {
         Ok(()) => None,
         Err(stop) => Some(Ending::Stopped(stop)),
     }
@@ -99,7 +99,6 @@ fn turn<S: Source, D: Desk>(
 
 /// Answers each line of the input, as far as the limit goes.
 pub fn run<S: Source, D: Desk>(
-    alloc: Global,
     limit: usize,
     session: &mut Session,
     piece: &mut [u8],
@@ -109,17 +108,18 @@ pub fn run<S: Source, D: Desk>(
     requires limit { limit ≤ 4294967296 }
     requires room { 0 < length piece.old }
     requires number { session.old.number ≡ 1 }
-    requires front { session.old.front.items ≡ [] }
-    requires stands { Stands D.Desk session.old.journal desk.old }
+    requires line { session.old.line.items ≡ [] }
+    requires stands { Stands D.Desk session.old.server.journal desk.old }
 
-    ensures ends { IsTrue (D.tells desk.old) → (c : Content) (bytes : List ℕ) → IsCurrent session.old.journal c (D.state desk.old) → S.left source.old ≡ Some bytes
-        → EndsAs D.Desk result c (state_of session.old) session.old.journal.limit limit bytes (S.left source.new) (S.piece source.new) desk.old desk.new }
+    ensures ends { IsTrue (D.tells desk.old) → (c : Content) (bytes : List ℕ) → IsWell reader (state_of session.old)
+        → IsCurrent session.old.server.journal c (D.state desk.old) → S.left source.old ≡ Some bytes
+        → EndsAs D.Desk result c (state_of session.old) session.old.server.journal.limit limit bytes (S.left source.new) (S.piece source.new) desk.old desk.new }
     ensures counts { KeepsCounts D.Desk desk.old desk.new }
     ensures faults { EndingFaults D.Desk result (S.faults source.old) (S.faults source.new) desk.old desk.new }
 {
     let mut taken: usize = 0;
     while taken <= limit {
-        if let Some(ending) = turn(alloc, limit, &mut taken, session, piece, source, desk) {
+        if let Some(ending) = turn(limit, &mut taken, session, piece, source, desk) {
             return ending;
         }
     }

@@ -8,11 +8,13 @@ ghost use Rattle.yw_outside.specs.declared.image.Image.{Image};
 ghost use Rattle.yw_journal.specs.Files.{Content};
 ghost use Rattle.yw_journal.specs.Journal.{IsCurrent};
 ghost use Rattle.yw_lines.specs.Lines.{lines};
+ghost use Rattle.yw_model.specs.Texts.{reader};
 ghost use Rattle.yw_state.specs.State.{State};
+ghost use Rattle.yw_state.specs.Well.{IsWell};
 ghost use Rattle.yw_serve.specs.Damage.{HoldNow};
 ghost use Rattle.yw_serve.specs.Desks.{Stands, KeepsCounts};
 ghost use Rattle.yw_serve.specs.Faults.{EndingFaults, NoticeFaults, StatusFaults, StopFaults};
-ghost use Rattle.yw_serve.specs.Headline.{Serves, HoldsFront};
+ghost use Rattle.yw_serve.specs.Headline.{Serves, HoldsPrefix};
 ghost use Rattle.yw_serve.specs.Notices.{damage_line, full_line};
 ghost use Rattle.yw_serve.specs.Served.{RunEnds, RunsFrom, OpeningEnds, IsTold, IsOfRun};
 ghost use Rattle.yw_serve.specs.Words.{IsCheck, IsRun};
@@ -21,12 +23,12 @@ ghost use Rattle.yw_verdict.specs.declared.finding.Finding.{Finding};
 ghost use Rattle.yw_verdict.specs.Ends.{KeepsFiles, verdict_of};
 ghost use Rattle.yw_verdict.specs.Found.{IsFound};
 
-use crate::answer::tell;
 use crate::check::serve_check;
 use crate::notice::{write_damage, write_full};
 use crate::opening::{OpenFault, Opened, open};
 use crate::run::{Ending, new_piece, run};
-use crate::session::{Session, Stop};
+use crate::server::{Server, Stop, tell};
+use crate::session::Session;
 use crate::words::{file_limit, is_check};
 use std::alloc::{AllocError, Global};
 use yw_base::Bytes;
@@ -143,15 +145,17 @@ fn serve_lines<S: Source, D: Desk>(
     requires room { 0 < length piece.old }
     requires stands { Stands D.Desk opened.journal desk.old }
 
-    ensures ends { IsTrue (D.tells desk.old) → (c : Content) (bytes : List ℕ) → IsCurrent opened.journal c (D.state desk.old) → S.left source.old ≡ Some bytes
+    ensures ends { IsTrue (D.tells desk.old) → (c : Content) (bytes : List ℕ) → IsWell reader (opened_state opened)
+        → IsCurrent opened.journal c (D.state desk.old) → S.left source.old ≡ Some bytes
         → RunEnds D.Desk result c (opened_state opened) opened.journal.limit INPUT_LIMIT bytes (S.left source.new) (S.piece source.new) desk.old desk.new }
     ensures told { IsOfRun result }
     ensures counts { KeepsCounts D.Desk desk.old desk.new }
     ensures faults { StatusFaults D.Desk result (S.faults source.old) (S.faults source.new) desk.old desk.new }
 {
-    let Opened { journal, library } = opened;
-    let mut session = Session::new(alloc, library, journal);
-    let ending = run(alloc, INPUT_LIMIT, &mut session, piece, source, desk);
+    let Opened { journal, engine } = opened;
+    let server = Server::new(alloc, engine, journal);
+    let mut session = Session::new(alloc, server);
+    let ending = run(INPUT_LIMIT, &mut session, piece, source, desk);
     status_of(alloc, ending, desk)
 }
 
@@ -175,7 +179,7 @@ fn serve_files<S: Source, D: Desk>(
     let Ok(mut piece) = new_piece(alloc) else {
         return Status::Memory;
     };
-    match open(alloc, limit, desk) {
+    match open(alloc, limit, &mut piece, desk) {
         Ok(opened) => serve_lines(alloc, opened, &mut piece, source, desk),
         Err(OpenFault::Disk) => Status::Disk,
         Err(OpenFault::Memory) => Status::Memory,
@@ -234,11 +238,11 @@ pub fn serve<S: Source, D: Desk>(
     ensures served { IsTrue (D.tells desk.old) → result ≡ Status.Ok → (limit : ℕ) (bytes : List ℕ) → IsRun words.now limit → S.left source.old ≡ Some bytes
         → Serves D.Desk (lines bytes true) desk.old desk.new }
 
-    // Where the files held a state, a crash at any moment since the call began leaves what the opening left, or the state that a front of
+    // Where the files held a state, a crash at any moment since the call began leaves what the opening left, or the state that a prefix of
     // the lines leads to from it, with all that was answered.
     ensures crash { IsTrue (D.tells desk.old) → (limit : ℕ) (bytes : List ℕ) (c : Content) (s : State) → IsRun words.now limit → S.left source.old ≡ Some bytes
         → HoldNow c s (D.state desk.old) → (k : Image) → D.left_since desk.new (D.moment desk.old) k
-        → LeftByOpening (D.may_leave desk.old) (D.state desk.old) k ⊎ HoldsFront s (lines bytes true) (D.state desk.old).said k }
+        → LeftByOpening (D.may_leave desk.old) (D.state desk.old) k ⊎ HoldsPrefix s (lines bytes true) (D.state desk.old).said k }
 
     // A text that is checked has the verdict that is said, and no other; also where the desk doesn't tell what was said.
     ensures checks { IsTrue (D.tells desk.old) → (bytes : List ℕ) → IsCheck words.now → S.left source.old ≡ Some bytes

@@ -44,7 +44,8 @@ fn fresh() -> Case {
     }
 }
 
-/// A file with two of them is opened, and the other three come.
+/// A file with two of them is opened, and the other three come. The opening makes two syncs, asks for two lengths, and reads the header, all
+/// entries at once, and the last gate.
 fn again() -> Case {
     Case {
         file: b"\x01YWJ1\0\0\0\0\0\0\0\x01\0\0\0\0\0\0\0\0\0\0\0\0\0\0\0\0\x01\0\0\0\x0e\0\x01\x01\x03ann\x01\x05clerk\x01\0\0\0\x0e\0\x01\x01\x03bob\x01\x05clerk\0",
@@ -57,8 +58,8 @@ fn again() -> Case {
 {"n":2,"ok":true,"quiet":true,"steps":["person dan"]}
 {"n":3,"ok":true,"quiet":true,"steps":["person eve"]}
 "#,
-        opening: 10,
-        calls: 25,
+        opening: 7,
+        calls: 22,
     }
 }
 
@@ -247,7 +248,7 @@ fn answers_pieces_of_any_size(rt: HostRuntime) -> Result<(), AllocError> {
 fn a_failed_say_comes_behind_its_entry(rt: HostRuntime) -> Result<(), AllocError> {
     let case = again();
     let mut source = source_of(rt.alloc(), case.lines, 10, 0)?;
-    let image = left_by(&rt, (case.file, &[]), 25, &mut source, Status::Write)?;
+    let image = left_by(&rt, (case.file, &[]), 22, &mut source, Status::Write)?;
     assert_eq!(rt; image.a.as_slice(), five_persons());
     assert_eq!(rt; image.said.as_slice().len(), 108);
     Ok(())

@@ -4,19 +4,19 @@ use Rattle.std.proofs.lemmas.List.{append-nil}
 use Rattle.std.proofs.lemmas.Result.{IfOk-weaker, IfErr-weaker}
 use Rattle.yw_lines.specs.Lines.{newline, whole_lines}
 use Rattle.yw_lines.proofs.LinesLemmas.{whole_lines-part}
-use Rattle.yw_serve.specs.declared.session.Stop.{Stop}
-use Rattle.yw_serve.specs.declared.session.Stop.TheVariants.{Memory}
+use Rattle.yw_serve.specs.declared.server.Server.{Server}
+use Rattle.yw_serve.specs.declared.server.Stop.{Stop}
+use Rattle.yw_serve.specs.declared.server.Stop.TheVariants.{Memory}
 use Rattle.yw_journal.specs.Journal.{IsCurrent}
-use Rattle.yw_journal.specs.declared.journal.Journal.{Journal}
 use Rattle.yw_serve.specs.Session.{GoesOn, StopsWithin, with_steps}
 use Rattle.yw_serve.proofs.FaultLemmas.{faults_as, faults_of_memory, none_then, stop_then}
-use Rattle.yw_serve.proofs.Going.{goes_nowhere, goes_by_part, goes_further, stops_further, stops_short, stops_before}
+use Rattle.yw_serve.proofs.Going.{IsReadyAt, goes_nowhere, goes_by_part, goes_further, stops_further, stops_short, stops_before}
 use Rattle.yw_serve.proofs.answer.feed.Goals as goal
 
--- a piece as what is taken of it, a line and what is behind it
-regrouped : (taken front rest piece part behind : List ℕ) → piece ≡ front ++ rest → rest ≡ part ++ newline ∷ behind → taken ++ piece ≡ ((taken ++ front) ++ (part ++ newline ∷ [])) ++ behind
-regrouped taken front rest piece part behind e f =
-    ap (λ (p : List ℕ). taken ++ p) (e ∙ ap (λ (r : List ℕ). front ++ r) f) ∙ sym (simp append_assoc)
+-- a piece as what is taken of it, a line and what is after it
+regrouped : (taken prefix rest piece part after : List ℕ) → piece ≡ prefix ++ rest → rest ≡ part ++ newline ∷ after → taken ++ piece ≡ ((taken ++ prefix) ++ (part ++ newline ∷ [])) ++ after
+regrouped taken prefix rest piece part after e f =
+    ap (λ (p : List ℕ). taken ++ p) (e ∙ ap (λ (r : List ℕ). prefix ++ r) f) ∙ sym (simp append_assoc)
 
 err_as : {T E : Type 0} (r : Result T E) (e : E) (P : E → Type 0) → IsErrAnd r (λ x. x ≡ e) → P e → IfErr r P
 err_as (Ok x) e P is p = tt
@@ -28,10 +28,8 @@ loop-part-init g c =
     let desk = c.args.desk.now in
     record {
       stands = c.requires.stands;
-      counts = record { telling = refl; disk = omega arith; say = omega arith };
+      keeps = record { file = refl; limit = refl; counts = record { telling = refl; disk = omega arith; say = omega arith } };
       none = record { disk = refl; say = refl };
-      file = refl;
-      limit = refl;
       count = omega arith;
       went = (
         [],
@@ -48,10 +46,10 @@ returns-in_err-take_line-clause-err g c = err_as c.from_residual.result c.in_err
     let went = inv.went in
     let stop = c.in_err-take_line.field-0.0 in
     let first = went.2 tells content taken current at in
-    let cut = c.in_err-take_line.ensures.err (inv.counts.telling ∙ tells) (with_steps content first.answers.steps) (taken ++ went.0) first.answers.are_done.file first.at in
-    let e = regrouped taken went.0 c.loop-part.rest.now c.args.piece.now c.in-Some.part.now c.in-Some.behind.now went.1 c.in-Some.ensures.1 in
-    stops_short D content stop c.args.session.now (whole_lines taken) _ c.in-Some.behind.now (taken ++ c.args.piece.now) c.args.desk.now c.take_line.new.desk e
-    (stops_further D content c.args.session.now c.loop-part.session taken went.0 c.args.desk.now c.loop-part.desk c.take_line.new.desk inv.file inv.limit first stop _ cut))
+    let cut = c.in_err-take_line.ensures.err (inv.keeps.counts.telling ∙ tells) (with_steps content first.answers.steps) (taken ++ went.0) first.answers.are_done.file first.at in
+    let e = regrouped taken went.0 c.loop-part.rest.now c.args.piece.now c.in-Some.part.now c.in-Some.after.now went.1 c.in-Some.ensures.1 in
+    stops_short D content stop c.args.session.now (whole_lines taken) _ c.in-Some.after.now (taken ++ c.args.piece.now) c.args.desk.now c.take_line.new.desk e
+    (stops_further D content c.args.session.now c.loop-part.session taken went.0 c.args.desk.now c.loop-part.desk c.take_line.new.desk inv.keeps.file inv.keeps.limit first stop _ cut))
 
 pub returns-in_err-take_line-clause-faults : goal.returns-in_err-take_line-clause-faults
 returns-in_err-take_line-clause-faults g c =
@@ -68,22 +66,28 @@ loop-part-preserved g c =
     let went = inv.went in
     let line : List ℕ = c.in-Some.part.now ++ newline ∷ [] in
     let made = c.in_ok-take_line.ensures in
-    let shorter : length c.loop-part.rest.now ≡ length c.in-Some.part.now + (length c.in-Some.behind.now + 1) =
-    ap length c.in-Some.ensures.1 ∙ length-append c.in-Some.part.now (newline ∷ c.in-Some.behind.now) ∙ omega arith in
+    let shorter : length c.loop-part.rest.now ≡ length c.in-Some.part.now + (length c.in-Some.after.now + 1) =
+    ap length c.in-Some.ensures.1 ∙ length-append c.in-Some.part.now (newline ∷ c.in-Some.after.now) ∙ omega arith in
     record {
       stands = made.stands;
-      counts = record { telling = made.counts.telling ∙ inv.counts.telling; disk = omega (arith, inv.counts.disk, made.counts.disk); say = omega (arith, inv.counts.say, made.counts.say) };
+      keeps = record {
+        file = made.keeps.file ∙ inv.keeps.file;
+        limit = made.keeps.limit ∙ inv.keeps.limit;
+        counts = record {
+          telling = made.keeps.counts.telling ∙ inv.keeps.counts.telling;
+          disk = omega (arith, inv.keeps.counts.disk, made.keeps.counts.disk);
+          say = omega (arith, inv.keeps.counts.say, made.keeps.counts.say);
+        };
+      };
       none = none_then D c.args.desk.now c.loop-part.desk c.take_line.new.desk inv.none made.faults;
-      file = made.file ∙ inv.file;
-      limit = made.limit ∙ inv.limit;
-      count = omega (arith, inv.count, made.count, shorter);
+      count = omega (arith, inv.count, made.number, shorter);
       went = (
         went.0 ++ line,
         went.1 ∙ ap (λ (r : List ℕ). went.0 ++ r) c.in-Some.ensures.1 ∙ sym (simp append_assoc),
         λ tells content taken current at.
             let first = went.2 tells content taken current at in
-            goes_further D content c.args.session.now c.loop-part.session taken went.0 c.args.desk.now c.loop-part.desk c.take_line.new.desk inv.file inv.limit first
-            c.take_line.new.session line made.file made.limit (made.ok (inv.counts.telling ∙ tells) (with_steps content first.answers.steps) (taken ++ went.0) first.answers.are_done.file first.at),
+            goes_further D content c.args.session.now c.loop-part.session taken went.0 c.args.desk.now c.loop-part.desk c.take_line.new.desk inv.keeps.file inv.keeps.limit first
+            c.take_line.new.session line made.keeps.file made.keeps.limit (made.ok (inv.keeps.counts.telling ∙ tells) (with_steps content first.answers.steps) (taken ++ went.0) first.answers.are_done.file first.at),
       );
     }
 
@@ -95,12 +99,15 @@ returns-clause-ok g c =
     let desk = c.loop-part.desk in
     IfOk-weaker c.take_part.result _ _ (λ x made tells content taken current at.
     let first = went.2 tells content taken current at in
-    let there = inv.counts.telling ∙ tells in
-    let next = goes_by_part D (with_steps content first.answers.steps) c.loop-part.session c.take_part.new.session (taken ++ went.0) c.loop-part.rest.now first.at c.in_default.ensures made
-    c.take_part.ensures.state c.take_part.ensures.number c.take_part.ensures.journal desk desk
-    (record { settled = inv.stands.settled there; said = g.met.D.Desk.said_by_now desk; only = g.met.D.Desk.only_now desk; current = subst (λ (j : Journal). IsCurrent j (with_steps content first.answers.steps) (D.state desk)) (sym c.take_part.ensures.journal) first.answers.are_done.file }) in
+    let there = inv.keeps.counts.telling ∙ tells in
+    let same = c.take_part.ensures.server in
+    let current_there = subst (λ (x : Server). IsCurrent x.journal (with_steps content first.answers.steps) (D.state desk)) (sym same) first.answers.are_done.file in
+    let ready : IsReadyAt D (with_steps content first.answers.steps) c.take_part.new.session.server.journal desk =
+    record { settled = inv.stands.settled there; said = g.met.D.Desk.said_by_now desk; only = g.met.D.Desk.only_now desk; current = current_there } in
+    let next = goes_by_part D (with_steps content first.answers.steps) c.loop-part.session (taken ++ went.0) c.loop-part.rest.now first.at c.in_default.ensures
+    c.take_part.new.session desk made same c.take_part.ensures.number ready in
     subst (λ (p : List ℕ). GoesOn D content c.args.session.now c.take_part.new.session taken p c.args.desk.now desk) (sym went.1)
-    (goes_further D content c.args.session.now c.loop-part.session taken went.0 c.args.desk.now desk desk inv.file inv.limit first c.take_part.new.session c.loop-part.rest.now (ap (λ j. j.file) c.take_part.ensures.journal) (ap (λ j. j.limit) c.take_part.ensures.journal) next))
+    (goes_further D content c.args.session.now c.loop-part.session taken went.0 c.args.desk.now desk desk inv.keeps.file inv.keeps.limit first c.take_part.new.session c.loop-part.rest.now (ap (λ (x : Server). x.journal.file) same) (ap (λ (x : Server). x.journal.limit) same) next))
     c.take_part.ensures.ok
 
 pub returns-clause-err : goal.returns-clause-err
@@ -114,9 +121,9 @@ returns-clause-err g c =
     let same : whole_lines (taken ++ c.args.piece.now) ≡ whole_lines (taken ++ went.0) =
     ap (λ (p : List ℕ). whole_lines (taken ++ p)) went.1 ∙ ap whole_lines (sym (append_assoc taken went.0 c.loop-part.rest.now)) ∙ whole_lines-part (taken ++ went.0) c.loop-part.rest.now c.in_default.ensures in
     subst (λ (s : Stop). StopsWithin D content s c.args.session.now (whole_lines taken) (whole_lines (taken ++ c.args.piece.now)) c.args.desk.now desk) (sym is)
-    (stops_further D content c.args.session.now c.loop-part.session taken went.0 c.args.desk.now desk desk inv.file inv.limit first Memory (whole_lines (taken ++ c.args.piece.now))
+    (stops_further D content c.args.session.now c.loop-part.session taken went.0 c.args.desk.now desk desk inv.keeps.file inv.keeps.limit first Memory (whole_lines (taken ++ c.args.piece.now))
     (stops_before D (with_steps content first.answers.steps) c.loop-part.session (whole_lines (taken ++ went.0)) _ [] desk
-    (record { settled = inv.stands.settled (inv.counts.telling ∙ tells); said = g.met.D.Desk.said_by_now desk; only = g.met.D.Desk.only_now desk; current = first.answers.are_done.file })
+    (record { settled = inv.stands.settled (inv.keeps.counts.telling ∙ tells); said = g.met.D.Desk.said_by_now desk; only = g.met.D.Desk.only_now desk; current = first.answers.are_done.file })
     (same ∙ sym (append-nil (whole_lines (taken ++ went.0)))))))
     c.take_part.ensures.memory
 

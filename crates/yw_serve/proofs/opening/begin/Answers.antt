@@ -4,10 +4,10 @@ use Rattle.yw_outside.specs.declared.desk.File.TheVariants.{A}
 use Rattle.yw_journal.specs.Files as files
 use Rattle.yw_journal.specs.Journal.{IsCurrent, IsBeforeOrMade}
 use Rattle.yw_journal.proofs.Passing.{weakened}
-use Rattle.yw_library.specs.Holdings as library
+use Rattle.yw_engine.specs.Held as engine
 use Rattle.yw_state.specs.State.{State, opening}
 use Rattle.yw_serve.specs.Damage.{HoldNow}
-use Rattle.yw_serve.specs.Opening.{LeftBehindSyncs, begun}
+use Rattle.yw_serve.specs.Opening.{LeftAfterSyncs, begun}
 use Rattle.yw_serve.proofs.OpenHeld.{framed_nothing, none_live, held_nothing, held_begun, left_by_making}
 use Rattle.yw_serve.proofs.opening.begin.Goals as goal
 
@@ -23,7 +23,7 @@ returns-in-Ok-clause-opened g c = λ tells.
     let current : IsCurrent c.in-Ok.journal begun j = here.current tells files.opening [] (inl (none_live i chosen, refl)) framed_nothing in
     let a : c.in-Ok.journal.file ≡ A = search rules in
     let holds : files.Holds A begun c.in-Ok.journal.end j = subst (λ (f : File). files.Holds f begun c.in-Ok.journal.end j) a current.holds in
-    let s : State = library.state_of c.new.result in
+    let s : State = engine.state_of c.new.result in
     let nobody : s ≡ opening = c.new.ensures.state in
     record {
       before = files.opening;
@@ -51,7 +51,7 @@ returns-in-Ok-clause-any_moment g c = λ tells.
     let D = g.D.Desk in
     let i = D.state c.args.desk.now in
     let chosen = c.requires.chosen tells in
-    weakened D c.args.desk.now c.make.new.desk (IsBeforeOrMade A files.opening begun i) (LeftBehindSyncs i)
+    weakened D c.args.desk.now c.make.new.desk (IsBeforeOrMade A files.opening begun i) (LeftAfterSyncs i)
     (c.in-Ok.ensures.any_moment tells files.opening [] (inl (none_live i chosen, refl)) framed_nothing)
     (left_by_making i chosen)
 
@@ -60,6 +60,6 @@ returns-in-Err-Disk-clause-any_moment g c = λ tells.
     let D = g.D.Desk in
     let i = D.state c.args.desk.now in
     let chosen = c.requires.chosen tells in
-    weakened D c.args.desk.now c.make.new.desk (IsBeforeOrMade A files.opening begun i) (LeftBehindSyncs i)
+    weakened D c.args.desk.now c.make.new.desk (IsBeforeOrMade A files.opening begun i) (LeftAfterSyncs i)
     (c.in-Err-Disk.ensures.any_moment tells files.opening [] (inl (none_live i chosen, refl)) framed_nothing)
     (left_by_making i chosen)

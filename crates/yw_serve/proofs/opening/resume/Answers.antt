@@ -5,7 +5,7 @@ use Rattle.yw_outside.specs.declared.image.Image.{Image}
 use Rattle.yw_journal.specs.Files.{count_of, greatest}
 use Rattle.yw_journal.specs.Journal.{IsCurrent}
 use Rattle.yw_journal.specs.declared.journal.Journal.{Journal}
-use Rattle.yw_library.specs.Holdings as library
+use Rattle.yw_engine.specs.Held as engine
 use Rattle.yw_state.specs.State.{State, opening}
 use Rattle.yw_serve.specs.Damage.{IsDamagedNow}
 use Rattle.yw_serve.specs.Opening.{HasFaultCause, IsDamagedAt, IsReached, IsOpened}
@@ -21,11 +21,11 @@ returns-in_err-tail-clause-fault g c =
     let old = c.args.desk.now in
     let new = c.read_entries.new.desk in
     let i = D.state old in
-    let s : State = library.state_of c.new-library.result in
+    let s : State = engine.state_of c.new-engine.result in
     let whole = λ (f : File) (place : ℕ). IsTrue (D.tells old) → IsDamagedNow i f place in
     let found = λ (_ : ℕ) (f : File) (place : ℕ). IsTrue (D.tells old) → IsReached i.a 29 [] s → IsDamagedAt i.a f place in
     let fault : OpenFault = c.in_err-tail.field-0.0 in
-    let nobody : opening ≡ s = sym c.new-library.ensures.state in
+    let nobody : opening ≡ s = sym c.new-engine.ensures.state in
     let is : c.from_residual.result ≡ Err fault = search rules in
     let cause : HasFaultCause whole (D.disk_faults old) (D.disk_faults new) fault =
     fault_further found whole (D.disk_faults old) (D.disk_faults old) (D.disk_faults new) fault (λ n. c.in_err-tail.ensures.fault) 0
@@ -41,14 +41,14 @@ returns-clause-opened g c = λ tells.
     let head = c.args.head.now in
     let chosen = c.requires.chosen tells in
     let tail = c.in_ok-tail.tail in
-    let s : State = library.state_of c.read_entries.new.library in
-    let first : State = library.state_of c.new-library.result in
-    let nobody : opening ≡ first = sym c.new-library.ensures.state in
+    let s : State = engine.state_of c.read_entries.new.engine in
+    let first : State = engine.state_of c.new-engine.result in
+    let nobody : opening ≡ first = sym c.new-engine.ensures.state in
     let looked = c.in_ok-tail.ensures.looked in
     let read = c.in_ok-tail.ensures.reached tells (subst (λ (p : State). IsReached i.a 29 [] p) nobody (chosen_start i head chosen)) in
     let records = read.1.0 in
     let journal : Journal = record { file = A; generation = c.u64_in.result; end = tail.gate + 1; limit = c.args.limit; number = c.u64_in-2.result + tail.records } in
-    let opened : Opened = record { journal = journal; library = c.read_entries.new.library } in
+    let opened : Opened = record { journal = journal; engine = c.read_entries.new.engine } in
     let held = held_records i head chosen tail.gate records s read.1.1 read.0 in
     let current = current_records i head chosen journal tail.gate records s read.1.1 read.0 refl refl c.u64_in.ensures
     (ap (λ (n : ℕ). n + tail.records) c.u64_in-2.ensures ∙ ap (λ (n : ℕ). count_of head.bytes + n) (sym read.1.2)) in
@@ -61,9 +61,9 @@ returns-clause-stands g c =
     let i = D.state c.args.desk.now in
     let head = c.args.head.now in
     let tail = c.in_ok-tail.tail in
-    let s : State = library.state_of c.read_entries.new.library in
-    let first : State = library.state_of c.new-library.result in
-    let nobody : opening ≡ first = sym c.new-library.ensures.state in
+    let s : State = engine.state_of c.read_entries.new.engine in
+    let first : State = engine.state_of c.new-engine.result in
+    let nobody : opening ≡ first = sym c.new-engine.ensures.state in
     let looked = c.in_ok-tail.ensures.looked in
     let bound = c.in_ok-tail.ensures.bound in
     let few : c.u64_in-2.result ≤ greatest = subst (λ (n : ℕ). n ≤ greatest) (sym c.u64_in-2.ensures) c.requires.counted in

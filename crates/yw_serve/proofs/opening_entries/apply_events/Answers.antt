@@ -1,6 +1,6 @@
 use Rattle.std.proofs.Common.{◌≡◌, [], List, Bool, true, false, refl, sym, subst, arith}
 use Rattle.std.specs.Vec.Iter.{into_iter_items}
-use Rattle.yw_library.specs.Holdings as library
+use Rattle.yw_engine.specs.Held as engine
 use Rattle.yw_state.specs.declared.event.Event.{Event}
 use Rattle.yw_serve.specs.Opening.{AreApplied, IsApplied}
 use Rattle.yw_serve.proofs.OpenEntries.{first_applied, first_stops, further_events, none_left}
@@ -8,8 +8,8 @@ use Rattle.yw_serve.proofs.opening_entries.apply_events.Goals as goal
 
 pub returns-then-not-branch : goal.returns-then-not-branch
 returns-then-not-branch c =
-    let s = library.state_of c.loop-event.library in
-    let t = library.state_of c.apply_event.new.library in
+    let s = engine.state_of c.loop-event.engine in
+    let t = engine.state_of c.apply_event.new.engine in
     let event = c.in-Some.event in
     let stops = subst (λ (b : Bool). IsApplied s event b t) c.if-not-branch.true c.in_ok-apply_event.ensures in
     c.loop-event.invariant.2 false t
@@ -17,14 +17,14 @@ returns-then-not-branch c =
 
 pub returns : goal.returns
 returns c =
-    let t = library.state_of c.loop-event.library in
+    let t = engine.state_of c.loop-event.engine in
     let none : into_iter_items c.loop-event.event-iterator ≡ [] = none_left (into_iter_items c.loop-event.event-iterator) (omega (arith, c.loop-event.event-iterator.rest.ok, c.in-None.ensures.steps.0)) in
     c.loop-event.invariant.2 true t (subst (λ (es : List Event). AreApplied t es true t) (sym none) refl)
 
 pub loop-event-preserved : goal.loop-event-preserved
 loop-event-preserved c =
-    let s = library.state_of c.loop-event.library in
-    let mid = library.state_of c.apply_event.new.library in
+    let s = engine.state_of c.loop-event.engine in
+    let mid = engine.state_of c.apply_event.new.engine in
     let event = c.in-Some.event in
     let rest = into_iter_items c.next.new.self in
     let one = subst (λ (b : Bool). IsApplied s event b mid) c.if-not-branch.false c.in_ok-apply_event.ensures in (

@@ -8,5 +8,5 @@ returns-then-from-len-clause-stands g c = λ tells.
     let rest = drop c.args.at file in
     let len : c.args.len ≡ length file = c.requires.len tells in
     let size = length-drop c.args.at file in
-    let e = c.in_ok-read.ensures.bytes tells in
-    cut_by_size c.from_be_bytes-size.result rest (open_gate 5 rest c.read.new.buf (omega arith) (omega arith) e (search rules)) (search rules) (omega arith)
+    let e = c.part-start.ensures.bytes file (c.in_ok-reach.ensures.shows tells) in
+    cut_by_size c.from_be_bytes-size.result rest (open_gate 5 rest c.part-start.result.now (omega arith) (omega arith) e (search rules)) (search rules) (omega arith)

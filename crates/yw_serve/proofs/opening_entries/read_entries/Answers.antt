@@ -1,59 +1,71 @@
 use Rattle.std.proofs.Common.{◌≡◌, ◌+◌, ℕ, List, [], ◌∷◌, ◌++◌, IsTrue, None, Result, Ok, Err, IfErr, drop, sym, ap, ◌∙◌, subst, rules, length-append}
 use Rattle.yw_outside.specs.declared.desk.File.{File}
 use Rattle.yw_outside.specs.declared.image.Image.{Image}
-use Rattle.yw_library.specs.Holdings as library
+use Rattle.yw_engine.specs.Held as engine
 use Rattle.yw_state.specs.State.{State}
 use Rattle.yw_serve.specs.Opening.{HasFaultCause, IsClosedHere, IsDamagedAt, IsReached}
 use Rattle.yw_serve.specs.declared.opening.OpenFault.{OpenFault}
 use Rattle.yw_serve.specs.declared.opening_entries.Tail.{Tail}
+use Rattle.yw_serve.specs.Window.{Shows}
 use Rattle.yw_serve.proofs.OpenLooked.{fault_further, looked_on, none_case, some_case}
 use Rattle.yw_serve.proofs.opening_entries.read_entries.Goals as goal
 
-pub returns-in_err-behind-clause-fault : goal.returns-in_err-behind-clause-fault
-returns-in_err-behind-clause-fault g c =
+pub returns-in_err-next-clause-fault : goal.returns-in_err-next-clause-fault
+returns-in_err-next-clause-fault g c =
     let D = g.D.Desk in
     let old = c.args.desk.now in
-    let mid = c.loop-behind.desk in
+    let mid = c.loop-next.desk in
     let new = c.next_entry.new.desk in
-    let inv = c.loop-behind.invariant in
-    let s : State = library.state_of c.args.library.now in
-    let t : State = library.state_of c.loop-behind.library in
+    let inv = c.loop-next.invariant in
+    let s : State = engine.state_of c.args.engine.now in
+    let t : State = engine.state_of c.loop-next.engine in
     let whole = λ (f : File) (place : ℕ). IsTrue (D.tells old) → IsReached (D.state old).a 29 [] s → IsDamagedAt (D.state old).a f place in
-    let found = λ (records : List (List ℕ)) (f : File) (place : ℕ). IsTrue (D.tells mid) → IsReached (D.state mid).a c.loop-behind.gate records t → IsDamagedAt (D.state mid).a f place in
-    let fault : OpenFault = c.in_err-behind.field-0.0 in
+    let found = λ (records : List (List ℕ)) (f : File) (place : ℕ). IsTrue (D.tells mid) → IsReached (D.state mid).a c.loop-next.gate records t → IsDamagedAt (D.state mid).a f place in
+    let fault : OpenFault = c.in_err-next.field-0.0 in
     let is : c.from_residual.result ≡ Err fault = search rules in
     let cause : HasFaultCause whole (D.disk_faults old) (D.disk_faults new) fault =
-    fault_further found whole (D.disk_faults old) (D.disk_faults mid) (D.disk_faults new) fault c.in_err-behind.ensures.fault []
+    fault_further found whole (D.disk_faults old) (D.disk_faults mid) (D.disk_faults new) fault c.in_err-next.ensures.fault []
     (λ f place all tells start.
     let reached = inv.reached tells start in
     subst (λ (i : Image). IsDamagedAt i.a f place) inv.looked.same
-    (all reached.0 (inv.looked.telling ∙ tells) (subst (λ (i : Image). IsReached i.a c.loop-behind.gate reached.0 t) (sym inv.looked.same) reached.1)))
+    (all reached.0 (inv.looked.telling ∙ tells) (subst (λ (i : Image). IsReached i.a c.loop-next.gate reached.0 t) (sym inv.looked.same) reached.1)))
     inv.none_failed in
     subst (λ (r : Result Tail OpenFault). IfErr r (HasFaultCause whole (D.disk_faults old) (D.disk_faults new))) (sym is) cause
 
-pub loop-behind-preserved : goal.loop-behind-preserved
-loop-behind-preserved g c =
+pub next_entry-requires-clause-fits : goal.next_entry-requires-clause-fits
+next_entry-requires-clause-fits g c = c.loop-next.invariant.fits
+
+pub next_entry-requires-clause-shows : goal.next_entry-requires-clause-shows
+next_entry-requires-clause-shows g c = λ tells.
+    let inv = c.loop-next.invariant in
+    subst (λ (i : Image). Shows i.a c.loop-next.piece c.loop-next.window) (sym inv.looked.same) (inv.shows (sym inv.looked.telling ∙ tells))
+
+pub loop-next-preserved : goal.loop-next-preserved
+loop-next-preserved g c =
     let D = g.D.Desk in
     let old = c.args.desk.now in
-    let mid = c.loop-behind.desk in
+    let mid = c.loop-next.desk in
     let new = c.next_entry.new.desk in
-    let inv = c.loop-behind.invariant in
-    let s : State = library.state_of c.args.library.now in
-    let t : State = library.state_of c.loop-behind.library in
-    let u : State = library.state_of c.next_entry.new.library in
+    let inv = c.loop-next.invariant in
+    let s : State = engine.state_of c.args.engine.now in
+    let t : State = engine.state_of c.loop-next.engine in
+    let u : State = engine.state_of c.next_entry.new.engine in
     record {
-      looked = looked_on D old mid new inv.looked c.in_ok-behind.ensures.looked;
-      none_failed = c.in_ok-behind.ensures.none_failed ∙ inv.none_failed;
+      looked = looked_on D old mid new inv.looked c.in_ok-next.ensures.looked;
+      none_failed = c.in_ok-next.ensures.none_failed ∙ inv.none_failed;
       low = search rules;
       within = search rules;
       few = search rules;
+      fits = c.in_ok-next.ensures.fits;
+      shows = λ tells.
+          subst (λ (i : Image). Shows i.a c.next_entry.new.piece c.next_entry.new.window) inv.looked.same (c.in_ok-next.ensures.shows (inv.looked.telling ∙ tells));
       reached = λ tells start.
           let reached = inv.reached tells start in
-          let next = c.in_ok-behind.ensures.reached (inv.looked.telling ∙ tells) reached.0 (subst (λ (i : Image). IsReached i.a c.loop-behind.gate reached.0 t) (sym inv.looked.same) reached.1) in
-          let here = some_case c.in_ok-behind.field-0 c.in-Some.behind (IsClosedHere (drop c.loop-behind.gate (D.state mid).a))
-          (λ (behind : ℕ). (bytes : List ℕ) × IsReached (D.state mid).a behind (reached.0 ++ bytes ∷ []) u) c.in-Some.is next in (
+          let next = c.in_ok-next.ensures.reached (inv.looked.telling ∙ tells) reached.0 (subst (λ (i : Image). IsReached i.a c.loop-next.gate reached.0 t) (sym inv.looked.same) reached.1) in
+          let here = some_case c.in_ok-next.field-0 c.in-Some.next (IsClosedHere (drop c.loop-next.gate (D.state mid).a))
+          (λ (after : ℕ). (bytes : List ℕ) × IsReached (D.state mid).a after (reached.0 ++ bytes ∷ []) u) c.in-Some.is next in (
             reached.0 ++ here.0 ∷ [],
-            subst (λ (i : Image). IsReached i.a c.in-Some.behind (reached.0 ++ here.0 ∷ []) u) inv.looked.same here.1,
+            subst (λ (i : Image). IsReached i.a c.in-Some.next (reached.0 ++ here.0 ∷ []) u) inv.looked.same here.1,
             length-append reached.0 (here.0 ∷ []) ∙ ap (λ (n : ℕ). n + 1) reached.2,
           );
     }
@@ -61,17 +73,17 @@ loop-behind-preserved g c =
 pub returns-clause-reached : goal.returns-clause-reached
 returns-clause-reached g c = λ tells start.
     let D = g.D.Desk in
-    let mid = c.loop-behind.desk in
-    let inv = c.loop-behind.invariant in
-    let t : State = library.state_of c.loop-behind.library in
-    let u : State = library.state_of c.next_entry.new.library in
+    let mid = c.loop-next.desk in
+    let inv = c.loop-next.invariant in
+    let t : State = engine.state_of c.loop-next.engine in
+    let u : State = engine.state_of c.next_entry.new.engine in
     let reached = inv.reached tells start in
-    let none : c.in_ok-behind.field-0 ≡ None = search rules in
-    let next = c.in_ok-behind.ensures.reached (inv.looked.telling ∙ tells) reached.0 (subst (λ (i : Image). IsReached i.a c.loop-behind.gate reached.0 t) (sym inv.looked.same) reached.1) in
-    let here = none_case c.in_ok-behind.field-0 (IsClosedHere (drop c.loop-behind.gate (D.state mid).a))
-    (λ (behind : ℕ). (bytes : List ℕ) × IsReached (D.state mid).a behind (reached.0 ++ bytes ∷ []) u) none next in
-    let same : c.next_entry.new.library ≡ c.loop-behind.library = c.in_ok-behind.ensures.same (ap Ok none) in
-    let as_before : t ≡ u = ap library.state_of (sym same) in (
-      subst (λ (i : Image). IsClosedHere (drop c.loop-behind.gate i.a)) inv.looked.same here,
-      (reached.0, subst (λ (p : State). IsReached (D.state c.args.desk.now).a c.loop-behind.gate reached.0 p) as_before reached.1, reached.2),
+    let none : c.in_ok-next.field-0 ≡ None = search rules in
+    let next = c.in_ok-next.ensures.reached (inv.looked.telling ∙ tells) reached.0 (subst (λ (i : Image). IsReached i.a c.loop-next.gate reached.0 t) (sym inv.looked.same) reached.1) in
+    let here = none_case c.in_ok-next.field-0 (IsClosedHere (drop c.loop-next.gate (D.state mid).a))
+    (λ (after : ℕ). (bytes : List ℕ) × IsReached (D.state mid).a after (reached.0 ++ bytes ∷ []) u) none next in
+    let same : c.next_entry.new.engine ≡ c.loop-next.engine = c.in_ok-next.ensures.same (ap Ok none) in
+    let as_before : t ≡ u = ap engine.state_of (sym same) in (
+      subst (λ (i : Image). IsClosedHere (drop c.loop-next.gate i.a)) inv.looked.same here,
+      (reached.0, subst (λ (p : State). IsReached (D.state c.args.desk.now).a c.loop-next.gate reached.0 p) as_before reached.1, reached.2),
     )

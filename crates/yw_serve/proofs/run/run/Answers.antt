@@ -14,20 +14,19 @@ loop-taken-init g c =
       small = omega arith;
       number = omega (arith, c.requires.number);
       stands = c.requires.stands;
-      counts = record { telling = refl; disk = omega arith; say = omega arith };
+      keeps = record { file = refl; limit = refl; counts = record { telling = refl; disk = omega arith; say = omega arith } };
       none = record { disk = refl; say = refl };
       read = refl;
-      limited = refl;
-      went = λ tells content bytes current e. read_nothing D content _ desk c.args.session.now c.args.limit bytes _ e c.requires.front c.requires.number refl
+      went = λ tells content bytes well current e. read_nothing D content _ desk c.args.session.now c.args.limit bytes _ e c.requires.line c.requires.number refl
           (record { settled = c.requires.stands.settled tells; said = g.met.D.Desk.said_by_now desk; only = g.met.D.Desk.only_now desk; current = current });
     }
 
 pub returns-in-Some-clause-ends : goal.returns-in-Some-clause-ends
-returns-in-Some-clause-ends g c = λ tells content bytes current e.
+returns-in-Some-clause-ends g c = λ tells content bytes well current e.
     let D = g.D.Desk in
     let inv = c.loop-taken.invariant in
     subst (λ (n : ℕ). EndsAs D c.in-Some.ending content (state_of c.args.session.now) n c.args.limit bytes (g.S.Source.left c.turn.new.source) (g.S.Source.piece c.turn.new.source) c.args.desk.now c.turn.new.desk)
-    inv.limited (c.in-Some.ensures.ends (inv.counts.telling ∙ tells) content (state_of c.args.session.now) bytes c.args.desk.now (inv.went tells content bytes current e))
+    inv.keeps.limit (c.in-Some.ensures.ends (inv.keeps.counts.telling ∙ tells) content (state_of c.args.session.now) bytes c.args.desk.now well (inv.went tells content bytes well current e))
 
 pub loop-taken-preserved : goal.loop-taken-preserved
 loop-taken-preserved g c =
@@ -39,20 +38,28 @@ loop-taken-preserved g c =
       small = on.1;
       number = on.2;
       stands = made.stands refl;
-      counts = record { telling = made.counts.telling ∙ inv.counts.telling; disk = omega (arith, inv.counts.disk, made.counts.disk); say = omega (arith, inv.counts.say, made.counts.say) };
+      keeps = record {
+        file = made.keeps.file ∙ inv.keeps.file;
+        limit = made.keeps.limit ∙ inv.keeps.limit;
+        counts = record {
+          telling = made.keeps.counts.telling ∙ inv.keeps.counts.telling;
+          disk = omega (arith, inv.keeps.counts.disk, made.keeps.counts.disk);
+          say = omega (arith, inv.keeps.counts.say, made.keeps.counts.say);
+        };
+      };
       none = none_then D c.args.desk.now c.loop-taken.desk c.turn.new.desk inv.none made.faults.1;
       read = made.faults.0 ∙ inv.read;
-      limited = made.limited ∙ inv.limited;
-      went = λ tells content bytes current e. made.ends (inv.counts.telling ∙ tells) content (state_of c.args.session.now) bytes c.args.desk.now (inv.went tells content bytes current e);
+      went = λ tells content bytes well current e.
+          made.ends (inv.keeps.counts.telling ∙ tells) content (state_of c.args.session.now) bytes c.args.desk.now well (inv.went tells content bytes well current e);
     }
 
 pub returns-clause-ends : goal.returns-clause-ends
-returns-clause-ends g c = λ tells content bytes current e.
+returns-clause-ends g c = λ tells content bytes well current e.
     let D = g.D.Desk in
     let inv = c.loop-taken.invariant in
     subst (λ (n : ℕ). EndsAs D Past content (state_of c.args.session.now) n c.args.limit bytes (g.S.Source.left c.loop-taken.source) (g.S.Source.piece c.loop-taken.source) c.args.desk.now c.loop-taken.desk)
-    inv.limited
-    (read_past D content (state_of c.args.session.now) c.args.desk.now c.loop-taken.session _ _ bytes _ c.loop-taken.desk (inv.went tells content bytes current e) c.loop-taken-test.false inv.small)
+    inv.keeps.limit
+    (read_past D content (state_of c.args.session.now) c.args.desk.now c.loop-taken.session _ _ bytes _ c.loop-taken.desk (inv.went tells content bytes well current e) c.loop-taken-test.false inv.small)
 
 pub returns-in-Some-clause-faults : goal.returns-in-Some-clause-faults
 returns-in-Some-clause-faults g c =

@@ -2,8 +2,10 @@ use Rattle.std.proofs.Common.{◌≡◌, ◌≤◌, ◌+◌, ◌-◌, List, ℕ,
 use Rattle.std.specs.Prelude.{IsTrue}
 use Rattle.yw_journal.specs.Files.{Content}
 use Rattle.yw_journal.specs.Journal.{IsCurrent}
+use Rattle.yw_model.specs.Texts.{reader}
 use Rattle.yw_outside.specs.Since.{NoneFailed}
-use Rattle.yw_serve.specs.Desks.{Stands, KeepsCounts}
+use Rattle.yw_state.specs.Well.{IsWell}
+use Rattle.yw_serve.specs.Desks.{KeepsJournal, Stands}
 use Rattle.yw_serve.specs.Reading.{HasRead}
 use Rattle.yw_serve.specs.Session.{state_of}
 use Rattle.yw_serve.proofs.run.run.Given as goal
@@ -15,12 +17,12 @@ invariant-loop-taken g l =
     record {
       small : l.taken ≤ l.limit + 1;
       number : l.session.number ≤ l.taken + 1;
-      stands : Stands D l.session.journal l.desk;
-      counts : KeepsCounts D l.fn.desk l.desk;
+      stands : Stands D l.session.server.journal l.desk;
+      keeps : KeepsJournal D l.fn.session.server.journal l.session.server.journal l.fn.desk l.desk;
       none : NoneFailed D l.fn.desk l.desk;
       read : S.faults l.source ≡ S.faults l.fn.source;
-      limited : l.session.journal.limit ≡ l.fn.session.journal.limit;
-      went : IsTrue (D.tells l.fn.desk) → (c : Content) (bytes : List ℕ) → IsCurrent l.fn.session.journal c (D.state l.fn.desk) → S.left l.fn.source ≡ Some bytes
+      went : IsTrue (D.tells l.fn.desk) → (c : Content) (bytes : List ℕ) → IsWell reader (state_of l.fn.session)
+          → IsCurrent l.fn.session.server.journal c (D.state l.fn.desk) → S.left l.fn.source ≡ Some bytes
           → HasRead D c (state_of l.fn.session) l.session l.limit l.taken bytes (S.left l.source) l.fn.desk l.desk;
     }
 

@@ -4,7 +4,8 @@ use Rattle.yw_serve.proofs.FaultLemmas.{notice_faults, status_then}
 use Rattle.yw_serve.specs.declared.top.Status.TheVariants as statuses
 use Rattle.yw_serve.proofs.OpenEnds.{opens_by, opens_in_part}
 use Rattle.yw_serve.proofs.ServedLemmas.{damage_ends, runs_from}
-use Rattle.yw_serve.specs.Opening.{OpenFaults}
+use Rattle.yw_serve.proofs.HeldWell.{held_well}
+use Rattle.yw_serve.specs.Opening.{OpenFaults, opened_state}
 use Rattle.yw_serve.specs.declared.opening.OpenFault.{OpenFault}
 use Rattle.yw_serve.specs.declared.opening.OpenFault.TheVariants as faults
 use Rattle.yw_serve.specs.declared.opening.Opened.{Opened}
@@ -22,7 +23,7 @@ returns-in-Ok-open-clause-ends g c = λ tells bytes left.
     let then : IsTrue (D.tells mid) = subst (λ (b : Bool). IsTrue b) (sym c.open.ensures.counts.telling) tells in
     inr (runs_from D c.in-Ok-open.opened INPUT_LIMIT c.args.limit piece bytes still c.serve_lines.result old mid c.serve_lines.new.desk is
     (c.in-Ok-open.ensures.stands.settled then) (opens_by D c.open.result old mid (c.open.ensures.any_moment tells) (search rules)) c.in-Ok-open.ensures.limited
-    (c.serve_lines.ensures.ends then is.now bytes is.current left))
+    (c.serve_lines.ensures.ends then is.now bytes (held_well is.before (opened_state c.in-Ok-open.opened) (D.state old) is.held) is.current left))
 
 pub returns-in-Err-Disk-clause-ends : goal.returns-in-Err-Disk-clause-ends
 returns-in-Err-Disk-clause-ends g c = λ tells bytes left.

@@ -4,7 +4,7 @@ use Rattle.yw_serve.specs.Ends.{EndsShort}
 use Rattle.yw_serve.specs.Faults.{StopFaults}
 use Rattle.yw_serve.specs.declared.top.Status.TheVariants.{Full}
 use Rattle.yw_serve.proofs.FaultLemmas.{notice_faults, status_then}
-use Rattle.yw_serve.specs.declared.session.Stop.{Stop}
+use Rattle.yw_serve.specs.declared.server.Stop.{Stop}
 use Rattle.yw_serve.proofs.top.status_of_stop.Goals as goal
 
 pub returns-in-Disk-clause-ends : goal.returns-in-Disk-clause-ends

@@ -4,7 +4,7 @@ use Rattle.std.proofs.lemmas.Result.{IfOk-weaker, IfErr-weaker}
 use Rattle.yw_outside.specs.declared.desk.File.{File}
 use Rattle.yw_outside.specs.Image.{file_in, other_in}
 use Rattle.yw_outside.specs.Since.{LeavesOnly}
-use Rattle.yw_codec.specs.Entries.{entry_bytes, framed}
+use Rattle.yw_codec.specs.Entries.{framed}
 use Rattle.yw_journal.specs.FileLaws.{content_end}
 use Rattle.yw_journal.specs.Journal.{IsBeforeOrAfter, appended, with_record}
 use Rattle.yw_journal.specs.Records.{IsFramed}
@@ -12,22 +12,22 @@ use Rattle.yw_journal.specs.declared.journal.AppendFault.{AppendFault}
 use Rattle.yw_journal.specs.declared.journal.AppendFault.TheVariants.{Full}
 use Rattle.yw_journal.proofs.Passing.{weakened}
 use Rattle.yw_model.specs.Run.{Step, taken_by}
-use Rattle.yw_serve.specs.Session.{OfSteps, Why, file_after}
-use Rattle.yw_serve.specs.declared.session.Stop.{Stop}
+use Rattle.yw_serve.specs.Session.{OfSteps, Why, bytes_of, file_after}
+use Rattle.yw_serve.specs.declared.server.Stop.{Stop}
 use Rattle.yw_serve.specs.Plans.{Does, CanBeAppended}
 use Rattle.yw_serve.specs.declared.plan.Plan.{Plan}
 use Rattle.yw_serve.specs.declared.plan.Plan.TheVariants.{Refuse, Accept}
 use Rattle.yw_serve.proofs.Doing.{leaves_nothing}
 use Rattle.yw_serve.proofs.FaultLemmas.{call_then}
 use Rattle.yw_serve.proofs.Telling.{not_begun, of_append, leaves_telling, done_by_telling, current_none, current_one, current_same, same_file}
-use Rattle.yw_serve.proofs.Written.{file_after-none, file_after-one, room_for_one, taken_none}
-use Rattle.yw_serve.proofs.answer.carry_out.Goals as goal
+use Rattle.yw_serve.proofs.Written.{file_after-none, file_after-one, room_for_one, taken_none, written_none, written_one}
+use Rattle.yw_serve.proofs.server.carry_out.Goals as goal
 
-does_as : (p q : Plan) (step : Step) → p ≡ q → Does p step → Does q step
-does_as p q step e d = subst (λ (x : Plan). Does x step) e d
+does_as : (p q : Plan) (buffer : List ℕ) (step : Step) → p ≡ q → Does p buffer step → Does q buffer step
+does_as p q buffer step e d = subst (λ (x : Plan). Does x buffer step) e d
 
-can_append : (p q : Plan) → p ≡ q → CanBeAppended p → CanBeAppended q
-can_append p q e h = subst CanBeAppended e h
+can_append : (p q : Plan) (buffer : List ℕ) → p ≡ q → CanBeAppended buffer p → CanBeAppended buffer q
+can_append p q buffer e h = subst (CanBeAppended buffer) e h
 
 framed_as : (items : List ℕ) (bytes : List ℕ) (whole : List ℕ) → items ≡ whole → IsFramed whole bytes → IsFramed items bytes
 framed_as items bytes whole e h = subst (λ (l : List ℕ). IsFramed l bytes) (sym e) h
@@ -37,79 +37,81 @@ fits : {T : Type 0} (limit end : ℕ) (result : Result T AppendFault) → (limit
 fits limit end result full never = elim (cases_lt limit end) [ inl over ↦ absurd (never end (full over)) | inr within ↦ within ]
 
 pub returns-in-Refuse-clause-ok : goal.returns-in-Refuse-clause-ok
-returns-in-Refuse-clause-ok g c = IfOk-weaker c.tell.result _ _ (λ x said tells content step current does.
+returns-in-Refuse-clause-ok g c = IfOk-weaker c.tell.result _ _ (λ x said tells content current step does.
     let D = g.D.Desk in
     let old = c.args.desk.now in
     let journal = c.args.journal.now in
-    let d = does_as c.args.plan.now (Refuse c.in-Refuse.reply) step c.in-Refuse.is does in
+    let d = does_as c.args.plan.now (Refuse c.in-Refuse.reply) c.args.entry.now step c.in-Refuse.is does in
     let settled = c.requires.stands.settled tells in
     let told = c.tell.ensures in
     let first = leaves_nothing D old (OfSteps journal.file content (step ∷ []) (D.state old)) settled (g.met.D.Desk.said_by_now old) (g.met.D.Desk.only_now old)
     (not_begun journal.file content step (D.state old) (D.state old) (journal.end, current.holds) refl refl) in
-    done_by_telling D content step journal old old c.tell.new.desk c.as_slice.result.now (c.as_slice.ensures ∙ sym d.1)
+    done_by_telling D content step journal old old c.tell.new.desk c.as_slice.result.now (c.as_slice.ensures ∙ sym d.1) (written_none step d.0)
     (current_none journal content step (D.state old) d.0 current) refl refl first (told.any_moment tells settled)
     (inl (taken_none step d.0)) (file_after-none (file_in journal.file (D.state old)) (file_in journal.file (D.state old)) content step d.0 refl) told.a told.b (said tells) (told.settled tells settled)) c.tell.ensures.said
 
 pub returns-in-Refuse-clause-moments : goal.returns-in-Refuse-clause-moments
-returns-in-Refuse-clause-moments g c = IfErr-weaker c.tell.result _ _ (λ x write tells content step current does.
+returns-in-Refuse-clause-moments g c = IfErr-weaker c.tell.result _ _ (λ x write tells content current step does.
     let D = g.D.Desk in
     let old = c.args.desk.now in
     let journal = c.args.journal.now in
-    let d = does_as c.args.plan.now (Refuse c.in-Refuse.reply) step c.in-Refuse.is does in
+    let d = does_as c.args.plan.now (Refuse c.in-Refuse.reply) c.args.entry.now step c.in-Refuse.is does in
     let settled = c.requires.stands.settled tells in
     let first = leaves_nothing D old (OfSteps journal.file content (step ∷ []) (D.state old)) settled (g.met.D.Desk.said_by_now old) (g.met.D.Desk.only_now old)
     (not_begun journal.file content step (D.state old) (D.state old) (journal.end, current.holds) refl refl) in
-    leaves_telling D content step journal old old c.tell.new.desk c.as_slice.result.now (c.as_slice.ensures ∙ sym d.1)
+    leaves_telling D content step journal old old c.tell.new.desk c.as_slice.result.now (c.as_slice.ensures ∙ sym d.1) (written_none step d.0)
     (current_none journal content step (D.state old) d.0 current) refl refl first (c.tell.ensures.any_moment tells settled)) c.tell.ensures.write
 
 pub returns-in-Ok-clause-ok : goal.returns-in-Ok-clause-ok
-returns-in-Ok-clause-ok g c = IfOk-weaker c.tell-in-Ok.result _ _ (λ x said tells content step current does.
+returns-in-Ok-clause-ok g c = IfOk-weaker c.tell-in-Ok.result _ _ (λ x said tells content current step does.
     let D = g.D.Desk in
     let old = c.args.desk.now in
     let mid = c.append.new.desk in
     let before = c.args.journal.now in
     let journal = c.append.new.self in
-    let d = does_as c.args.plan.now (Accept c.in-Accept.entry c.in-Accept.reply) step c.in-Accept.is does in
-    let bytes : List ℕ = entry_bytes d.0 in
-    let whole : IsFramed c.as_slice-in-Accept.result.now bytes = framed_as c.as_slice-in-Accept.result.now bytes (framed d.0) (c.as_slice-in-Accept.ensures ∙ d.2) d.3 in
+    let d = does_as c.args.plan.now (Accept c.in-Accept.reply) c.args.entry.now step c.in-Accept.is does in
+    let e = d.entry in
+    let bytes : List ℕ = bytes_of e in
+    let whole : IsFramed c.args.entry.now bytes = framed_as c.args.entry.now bytes (framed e.events) d.has.bytes d.has.frame in
     let kept = c.in-Ok.ensures in
     let file : journal.file ≡ before.file = ap (λ j. j.file) kept.journal in
     let tells_mid = kept.counts.tells ∙ tells in
     let settled = (kept.rewrites tells).settled in
     let first = weakened D old mid (IsBeforeOrAfter before.file content bytes (D.state old)) (OfSteps journal.file content (step ∷ []) (D.state old)) (kept.any_moment tells content bytes current whole)
-    (λ i h. subst (λ (f : File). OfSteps f content (step ∷ []) (D.state old) i) (sym file) (of_append before.file content step d.0 (D.state old) i d.1 h)) in
+    (λ i h. subst (λ (f : File). OfSteps f content (step ∷ []) (D.state old) i) (sym file) (of_append before.file content step e (D.state old) i d.taken d.has.written h)) in
     let other : other_in journal.file (D.state mid) ≡ other_in journal.file (D.state old) = subst (λ (f : File). other_in f (D.state mid) ≡ other_in f (D.state old)) (sym file) (kept.rewrites tells).other in
-    let entry : c.as_slice-in-Accept.result.now ≡ framed d.0 = c.as_slice-in-Accept.ensures ∙ d.2 in
+    let entry : c.args.entry.now ≡ framed e.events = d.has.bytes in
     let at = content_end (file_in before.file (D.state old)) content before.end current.holds.file in
-    let within = fits before.limit (before.end + length c.as_slice-in-Accept.result.now) c.append.result (λ over. c.append.ensures.fits _ (refl, over)) (λ n e. cc (c.in-Ok.is, e)) in
+    let within = fits before.limit (before.end + length c.args.entry.now) c.append.result (λ over. c.append.ensures.fits _ (refl, over)) (λ n e. cc (c.in-Ok.is, e)) in
     let written : file_in before.file (D.state mid) ≡ file_after (file_in before.file (D.state old)) content (taken_by (step ∷ [])) =
-    file_after-one (file_in before.file (D.state old)) (file_in before.file (D.state mid)) content step d.0 before.end d.1 at ((kept.rewrites tells).bytes ∙ ap (appended (file_in before.file (D.state old)) before.end) entry) in
+    file_after-one (file_in before.file (D.state old)) (file_in before.file (D.state mid)) content step e before.end d.taken at ((kept.rewrites tells).bytes ∙ ap (appended (file_in before.file (D.state old)) before.end) entry) in
     let told = c.tell-in-Ok.ensures in
-    done_by_telling D content step journal old mid c.tell-in-Ok.new.desk c.as_slice-in-Ok.result.now (c.as_slice-in-Ok.ensures ∙ sym d.4)
-    (current_one journal content step d.0 (D.state mid) d.1 (kept.ok tells content bytes current whole).current) (kept.rewrites tells).said other first (told.any_moment tells_mid settled)
-    (room_for_one journal.limit content step d.0 before.end d.1 d.3 at (omega (arith, within, ap length entry, ap (λ j. j.limit) kept.journal)))
+    done_by_telling D content step journal old mid c.tell-in-Ok.new.desk c.as_slice-in-Ok.result.now (c.as_slice-in-Ok.ensures ∙ sym d.told) (written_one step e d.taken d.has.written)
+    (current_one journal content step e (D.state mid) d.taken (kept.ok tells content bytes current whole).current) (kept.rewrites tells).said other first (told.any_moment tells_mid settled)
+    (room_for_one journal.limit content step e before.end d.taken d.has.frame at (omega (arith, within, ap length entry, ap (λ j. j.limit) kept.journal)))
     (subst (λ (f : File). file_in f (D.state mid) ≡ file_after (file_in f (D.state old)) content (taken_by (step ∷ []))) (sym file) written)
     told.a told.b (said tells_mid) (told.settled tells_mid settled))
     c.tell-in-Ok.ensures.said
 
 pub returns-in-Ok-clause-moments : goal.returns-in-Ok-clause-moments
-returns-in-Ok-clause-moments g c = IfErr-weaker c.tell-in-Ok.result _ _ (λ x write tells content step current does.
+returns-in-Ok-clause-moments g c = IfErr-weaker c.tell-in-Ok.result _ _ (λ x write tells content current step does.
     let D = g.D.Desk in
     let old = c.args.desk.now in
     let mid = c.append.new.desk in
     let before = c.args.journal.now in
     let journal = c.append.new.self in
-    let d = does_as c.args.plan.now (Accept c.in-Accept.entry c.in-Accept.reply) step c.in-Accept.is does in
-    let bytes : List ℕ = entry_bytes d.0 in
-    let whole : IsFramed c.as_slice-in-Accept.result.now bytes = framed_as c.as_slice-in-Accept.result.now bytes (framed d.0) (c.as_slice-in-Accept.ensures ∙ d.2) d.3 in
+    let d = does_as c.args.plan.now (Accept c.in-Accept.reply) c.args.entry.now step c.in-Accept.is does in
+    let e = d.entry in
+    let bytes : List ℕ = bytes_of e in
+    let whole : IsFramed c.args.entry.now bytes = framed_as c.args.entry.now bytes (framed e.events) d.has.bytes d.has.frame in
     let kept = c.in-Ok.ensures in
     let file : journal.file ≡ before.file = ap (λ j. j.file) kept.journal in
     let first = weakened D old mid (IsBeforeOrAfter before.file content bytes (D.state old)) (OfSteps journal.file content (step ∷ []) (D.state old)) (kept.any_moment tells content bytes current whole)
-    (λ i h. subst (λ (f : File). OfSteps f content (step ∷ []) (D.state old) i) (sym file) (of_append before.file content step d.0 (D.state old) i d.1 h)) in
+    (λ i h. subst (λ (f : File). OfSteps f content (step ∷ []) (D.state old) i) (sym file) (of_append before.file content step e (D.state old) i d.taken d.has.written h)) in
     let other : other_in journal.file (D.state mid) ≡ other_in journal.file (D.state old) = subst (λ (f : File). other_in f (D.state mid) ≡ other_in f (D.state old)) (sym file) (kept.rewrites tells).other in
     subst (λ (f : File). LeavesOnly D old c.tell-in-Ok.new.desk (OfSteps f content (step ∷ []) (D.state old))) file
-    (leaves_telling D content step journal old mid c.tell-in-Ok.new.desk c.as_slice-in-Ok.result.now (c.as_slice-in-Ok.ensures ∙ sym d.4)
-    (current_one journal content step d.0 (D.state mid) d.1 (kept.ok tells content bytes current whole).current) (kept.rewrites tells).said other first (c.tell-in-Ok.ensures.any_moment (kept.counts.tells ∙ tells) (kept.rewrites tells).settled)))
+    (leaves_telling D content step journal old mid c.tell-in-Ok.new.desk c.as_slice-in-Ok.result.now (c.as_slice-in-Ok.ensures ∙ sym d.told) (written_one step e d.taken d.has.written)
+    (current_one journal content step e (D.state mid) d.taken (kept.ok tells content bytes current whole).current) (kept.rewrites tells).said other first (c.tell-in-Ok.ensures.any_moment (kept.counts.tells ∙ tells) (kept.rewrites tells).settled)))
     c.tell-in-Ok.ensures.write
 
 pub returns-in-Ok-clause-stands : goal.returns-in-Ok-clause-stands
@@ -119,8 +121,8 @@ returns-in-Ok-clause-stands g c = IfOk-weaker c.tell-in-Ok.result _ _ (λ x said
     let new = c.tell-in-Ok.new.desk in
     let kept = c.in-Ok.ensures in
     let told = c.tell-in-Ok.ensures in
-    let framed = can_append c.args.plan.now (Accept c.in-Accept.entry c.in-Accept.reply) c.in-Accept.is c.requires.framed in
-    let whole : IsFramed c.as_slice-in-Accept.result.now framed.0 = subst (λ (l : List ℕ). IsFramed l framed.0) (sym c.as_slice-in-Accept.ensures) framed.1 in
+    let framed = can_append c.args.plan.now (Accept c.in-Accept.reply) c.args.entry.now c.in-Accept.is c.requires.framed in
+    let whole : IsFramed c.args.entry.now framed.0 = framed.1 in
     record {
       ready = kept.ready;
       current = λ telling.
@@ -134,63 +136,67 @@ returns-in-Ok-clause-stands g c = IfOk-weaker c.tell-in-Ok.result _ _ (λ x said
     }) c.tell-in-Ok.ensures.said
 
 pub returns-in-Err-Disk-clause-moments : goal.returns-in-Err-Disk-clause-moments
-returns-in-Err-Disk-clause-moments g c = λ tells content step current does.
+returns-in-Err-Disk-clause-moments g c = λ tells content current step does.
     let D = g.D.Desk in
     let old = c.args.desk.now in
     let before = c.args.journal.now in
-    let d = does_as c.args.plan.now (Accept c.in-Accept.entry c.in-Accept.reply) step c.in-Accept.is does in
-    let bytes : List ℕ = entry_bytes d.0 in
-    let whole : IsFramed c.as_slice-in-Accept.result.now bytes = framed_as c.as_slice-in-Accept.result.now bytes (framed d.0) (c.as_slice-in-Accept.ensures ∙ d.2) d.3 in
+    let d = does_as c.args.plan.now (Accept c.in-Accept.reply) c.args.entry.now step c.in-Accept.is does in
+    let e = d.entry in
+    let bytes : List ℕ = bytes_of e in
+    let whole : IsFramed c.args.entry.now bytes = framed_as c.args.entry.now bytes (framed e.events) d.has.bytes d.has.frame in
     weakened D old c.append.new.desk (IsBeforeOrAfter before.file content bytes (D.state old)) (OfSteps before.file content (step ∷ []) (D.state old)) (c.append.ensures.any_moment tells content bytes current whole)
-    (λ i h. of_append before.file content step d.0 (D.state old) i d.1 h)
+    (λ i h. of_append before.file content step e (D.state old) i d.taken d.has.written h)
 
 pub returns-in-Err-Full-clause-moments : goal.returns-in-Err-Full-clause-moments
-returns-in-Err-Full-clause-moments g c = λ tells content step current does.
+returns-in-Err-Full-clause-moments g c = λ tells content current step does.
     let D = g.D.Desk in
     let old = c.args.desk.now in
     let before = c.args.journal.now in
-    let d = does_as c.args.plan.now (Accept c.in-Accept.entry c.in-Accept.reply) step c.in-Accept.is does in
-    let bytes : List ℕ = entry_bytes d.0 in
-    let whole : IsFramed c.as_slice-in-Accept.result.now bytes = framed_as c.as_slice-in-Accept.result.now bytes (framed d.0) (c.as_slice-in-Accept.ensures ∙ d.2) d.3 in
+    let d = does_as c.args.plan.now (Accept c.in-Accept.reply) c.args.entry.now step c.in-Accept.is does in
+    let e = d.entry in
+    let bytes : List ℕ = bytes_of e in
+    let whole : IsFramed c.args.entry.now bytes = framed_as c.args.entry.now bytes (framed e.events) d.has.bytes d.has.frame in
     weakened D old c.append.new.desk (IsBeforeOrAfter before.file content bytes (D.state old)) (OfSteps before.file content (step ∷ []) (D.state old)) (c.append.ensures.any_moment tells content bytes current whole)
-    (λ i h. of_append before.file content step d.0 (D.state old) i d.1 h)
+    (λ i h. of_append before.file content step e (D.state old) i d.taken d.has.written h)
 
 pub returns-in-Refuse-clause-why : goal.returns-in-Refuse-clause-why
-returns-in-Refuse-clause-why g c = IfErr-weaker c.tell.result _ _ (λ x write tells content step current does.
+returns-in-Refuse-clause-why g c = IfErr-weaker c.tell.result _ _ (λ x write tells content current step does.
     let D = g.D.Desk in
     let old = c.args.desk.now in
     let journal = c.args.journal.now in
-    let d = does_as c.args.plan.now (Refuse c.in-Refuse.reply) step c.in-Refuse.is does in
+    let d = does_as c.args.plan.now (Refuse c.in-Refuse.reply) c.args.entry.now step c.in-Refuse.is does in
     subst (λ (stop : Stop). Why D content stop journal (step ∷ []) old c.tell.new.desk) (sym write)
     (inl (taken_none step d.0), file_after-none _ _ content step d.0 (same_file journal.file (D.state old) (D.state c.tell.new.desk) c.tell.ensures.a c.tell.ensures.b))) c.tell.ensures.write
 
 pub returns-in-Ok-clause-why : goal.returns-in-Ok-clause-why
-returns-in-Ok-clause-why g c = IfErr-weaker c.tell-in-Ok.result _ _ (λ x write tells content step current does.
+returns-in-Ok-clause-why g c = IfErr-weaker c.tell-in-Ok.result _ _ (λ x write tells content current step does.
     let D = g.D.Desk in
     let old = c.args.desk.now in
     let mid = c.append.new.desk in
     let before = c.args.journal.now in
-    let d = does_as c.args.plan.now (Accept c.in-Accept.entry c.in-Accept.reply) step c.in-Accept.is does in
+    let d = does_as c.args.plan.now (Accept c.in-Accept.reply) c.args.entry.now step c.in-Accept.is does in
+    let e = d.entry in
     let kept = c.in-Ok.ensures in
     let told = c.tell-in-Ok.ensures in
-    let entry : c.as_slice-in-Accept.result.now ≡ framed d.0 = c.as_slice-in-Accept.ensures ∙ d.2 in
+    let entry : c.args.entry.now ≡ framed e.events = d.has.bytes in
     let at = content_end (file_in before.file (D.state old)) content before.end current.holds.file in
-    let within = fits before.limit (before.end + length c.as_slice-in-Accept.result.now) c.append.result (λ over. c.append.ensures.fits _ (refl, over)) (λ n e. cc (c.in-Ok.is, e)) in
+    let within = fits before.limit (before.end + length c.args.entry.now) c.append.result (λ over. c.append.ensures.fits _ (refl, over)) (λ n e. cc (c.in-Ok.is, e)) in
     let written : file_in before.file (D.state mid) ≡ file_after (file_in before.file (D.state old)) content (taken_by (step ∷ [])) =
-    file_after-one (file_in before.file (D.state old)) (file_in before.file (D.state mid)) content step d.0 before.end d.1 at ((kept.rewrites tells).bytes ∙ ap (appended (file_in before.file (D.state old)) before.end) entry) in
+    file_after-one (file_in before.file (D.state old)) (file_in before.file (D.state mid)) content step e before.end d.taken at ((kept.rewrites tells).bytes ∙ ap (appended (file_in before.file (D.state old)) before.end) entry) in
     subst (λ (stop : Stop). Why D content stop before (step ∷ []) old c.tell-in-Ok.new.desk) (sym write)
-    (room_for_one before.limit content step d.0 before.end d.1 d.3 at (omega (arith, within, ap length entry)), same_file before.file (D.state mid) (D.state c.tell-in-Ok.new.desk) told.a told.b ∙ written))
+    (room_for_one before.limit content step e before.end d.taken d.has.frame at (omega (arith, within, ap length entry)), same_file before.file (D.state mid) (D.state c.tell-in-Ok.new.desk) told.a told.b ∙ written))
     c.tell-in-Ok.ensures.write
 
 pub returns-in-Err-Disk-clause-why : goal.returns-in-Err-Disk-clause-why
-returns-in-Err-Disk-clause-why g c = λ tells content step current does.
+returns-in-Err-Disk-clause-why g c = λ tells content current step does.
     let D = g.D.Desk in
     let before = c.args.journal.now in
-    let d = does_as c.args.plan.now (Accept c.in-Accept.entry c.in-Accept.reply) step c.in-Accept.is does in
-    let entry : c.as_slice-in-Accept.result.now ≡ framed d.0 = c.as_slice-in-Accept.ensures ∙ d.2 in
+    let d = does_as c.args.plan.now (Accept c.in-Accept.reply) c.args.entry.now step c.in-Accept.is does in
+    let e = d.entry in
+    let entry : c.args.entry.now ≡ framed e.events = d.has.bytes in
     let at = content_end (file_in before.file (D.state c.args.desk.now)) content before.end current.holds.file in
-    let within = fits before.limit (before.end + length c.as_slice-in-Accept.result.now) c.append.result (λ over. c.append.ensures.fits _ (refl, over)) (λ n e. cc (c.in-Err-Disk.is, e)) in
-    room_for_one before.limit content step d.0 before.end d.1 d.3 at (omega (arith, within, ap length entry))
+    let within = fits before.limit (before.end + length c.args.entry.now) c.append.result (λ over. c.append.ensures.fits _ (refl, over)) (λ n e. cc (c.in-Err-Disk.is, e)) in
+    room_for_one before.limit content step e before.end d.taken d.has.frame at (omega (arith, within, ap length entry))
 
 pub returns-in-Ok-clause-faults : goal.returns-in-Ok-clause-faults
 returns-in-Ok-clause-faults g c =

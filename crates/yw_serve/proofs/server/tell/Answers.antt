@@ -1,5 +1,5 @@
 use Rattle.yw_serve.proofs.Telling.{told, told_after}
-use Rattle.yw_serve.proofs.answer.tell.Goals as goal
+use Rattle.yw_serve.proofs.server.tell.Goals as goal
 
 pub returns-in-Ok-clause-any_moment : goal.returns-in-Ok-clause-any_moment
 returns-in-Ok-clause-any_moment g c = λ tells settled.

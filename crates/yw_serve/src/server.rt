@@ -1,0 +1,132 @@
+// A server: the state, where it is kept, and the answer to one line.
+ghost use Rattle.std.specs.Prelude.{◌≡◌, ◌≢◌, ◌++◌, ◌∷◌, [], IfErr, Err, OnOk, OnErr, IsTrue};
+ghost use Rattle.yw_model.specs.Run.{Step};
+ghost use Rattle.yw_outside.specs.Image.{SaysPart, Speaks};
+ghost use Rattle.yw_outside.specs.Moments.{After, IsSettled};
+ghost use Rattle.yw_outside.specs.Since.{LeavesOnly};
+ghost use Rattle.yw_engine.specs.Held as held;
+ghost use Rattle.yw_serve.specs.Desks.{ForContent, KeepsCounts, KeepsJournal, Stands};
+ghost use Rattle.yw_serve.specs.Faults.{CallFaults};
+ghost use Rattle.yw_serve.specs.Plans.{CanBeAppended, Does};
+ghost use Rattle.yw_serve.specs.Session.{AreDone, CutsLine, EndsLine, OfSteps, Why, server_state};
+
+use crate::plan::{Plan, plan_line};
+use std::alloc::{AllocError, Global};
+use yw_engine::Engine;
+use yw_journal::{AppendFault, Journal};
+use yw_outside::{Desk, Failed};
+
+/// Why lines aren't answered any further.
+#[derive(Clone, Copy, Debug, PartialEq, Eq)]
+pub enum Stop {
+    /// An entry couldn't be written, or not be synced.
+    Disk,
+    /// A reply couldn't be said whole.
+    Write,
+    /// No memory was left.
+    Memory,
+    /// The file with the entry would be this long, which is more than its limit.
+    Full(u64),
+}
+
+/// The state, and where it is kept.
+#[derive(Drop)]
+pub struct Server {
+    pub alloc: Global,
+    /// Decides what commands do.
+    pub engine: Engine,
+    /// Where entries are appended.
+    pub journal: Journal,
+    /// The last entry as it was appended; its room serves the next.
+    pub entry: Vec<u8>,
+}
+
+/// Says a text. At `Write` a prefix of it may have been said.
+pub fn tell<D: Desk>(desk: &mut D, text: &[u8]) -> Result<(), Stop>
+    ensures said { OnOk result (IsTrue (D.tells desk.old) → (D.state desk.new).said ≡ (D.state desk.old).said ++ text.now) }
+    ensures a { (D.state desk.new).a ≡ (D.state desk.old).a }
+    ensures b { (D.state desk.new).b ≡ (D.state desk.old).b }
+    ensures settled { IsTrue (D.tells desk.old) → IsSettled (D.state desk.old) (D.may_leave desk.old) → IsSettled (D.state desk.new) (D.may_leave desk.new) }
+    ensures any_moment { IsTrue (D.tells desk.old) → IsSettled (D.state desk.old) (D.may_leave desk.old)
+        → LeavesOnly D.Desk desk.old desk.new (Speaks text.now (D.state desk.old)) }
+    ensures part { IsTrue (D.tells desk.old) → SaysPart (D.state desk.old).said text.now (D.state desk.new).said }
+    ensures passes { IsTrue (D.tells desk.old) → LeavesOnly D.Desk desk.old desk.new (After (Speaks text.now) (D.may_leave desk.old)) }
+    ensures counts { KeepsCounts D.Desk desk.old desk.new }
+    ensures write { IfErr result (λ stop. stop ≡ Stop.Write) }
+    ensures faults { CallFaults D.Desk result desk.old desk.new }
+{
+    match desk.say(text) {
+        Ok(()) => Ok(()),
+        Err(Failed) => Err(Stop::Write),
+    }
+}
+
+/// Does what is planned: what is appended is on the disk before its reply is said.
+fn carry_out<D: Desk>(
+    journal: &mut Journal,
+    plan: &Plan,
+    entry: &[u8],
+    desk: &mut D,
+) -> Result<(), Stop>
+    requires framed { CanBeAppended entry.now plan.now }
+    requires stands { Stands D.Desk journal.old desk.old }
+
+    ensures ok { OnOk result (ForContent D.Desk journal.old desk.old (λ c. (step : Step) → Does plan.now entry.now step
+        → AreDone D.Desk c (step ∷ []) journal.new desk.old desk.new)) }
+    ensures moments { OnErr result (ForContent D.Desk journal.old desk.old (λ c. (step : Step) → Does plan.now entry.now step
+        → LeavesOnly D.Desk desk.old desk.new (OfSteps journal.old.file c (step ∷ []) (D.state desk.old)))) }
+    ensures why { IfErr result (λ stop. ForContent D.Desk journal.old desk.old (λ c. (step : Step) → Does plan.now entry.now step
+        → Why D.Desk c stop journal.old (step ∷ []) desk.old desk.new)) }
+
+    ensures stands { OnOk result (Stands D.Desk journal.new desk.new) }
+    ensures keeps { KeepsJournal D.Desk journal.old journal.new desk.old desk.new }
+    ensures faults { CallFaults D.Desk result desk.old desk.new }
+    ensures memory { result ≢ Err Stop.Memory }
+{
+    match plan {
+        Plan::Refuse(reply) => tell(desk, reply.as_slice()),
+        Plan::Accept(reply) => match journal.append(desk, entry) {
+            Ok(()) => tell(desk, reply.as_slice()),
+            Err(AppendFault::Disk) => Err(Stop::Disk),
+            Err(AppendFault::Full(end)) => Err(Stop::Full(end)),
+        },
+    }
+}
+
+impl Server {
+    /// A server with the state that the files hold. It takes no memory.
+    pub fn new(alloc: Global, engine: Engine, journal: Journal) -> Server
+        ensures state { server_state result ≡ held.state_of engine }
+        ensures journal { result.journal ≡ journal }
+    {
+        Server {
+            alloc,
+            engine,
+            journal,
+            entry: Vec::new(alloc),
+        }
+    }
+
+    /// Answers the line with this number, of which one byte past the limit may stand for all that is too long. What it
+    /// does is on the disk before its reply is said. A refusal is a reply. An `Err` says where the server stopped: `Disk`
+    /// only where a call of the files failed, `Write` only where the say did, `Full` only where the file with the entry would
+    /// pass its limit, and `Memory` where no memory was left.
+    pub fn line<D: Desk>(&mut self, desk: &mut D, n: u64, line: &[u8]) -> Result<(), Stop>
+        requires stands { Stands D.Desk self.old.journal desk.old }
+
+        ensures ok { OnOk result (ForContent D.Desk self.old.journal desk.old (λ c.
+            EndsLine D.Desk c self.old self.new n line.now desk.old desk.new)) }
+        ensures err { IfErr result (λ stop. ForContent D.Desk self.old.journal desk.old (λ c.
+            CutsLine D.Desk c stop self.old n line.now desk.old desk.new)) }
+
+        ensures stands { OnOk result (Stands D.Desk self.new.journal desk.new) }
+        ensures keeps { KeepsJournal D.Desk self.old.journal self.new.journal desk.old desk.new }
+        ensures faults { CallFaults D.Desk result desk.old desk.new }
+    {
+        let plan = match plan_line(self.alloc, &mut self.engine, &mut self.entry, n, line) {
+            Ok(plan) => plan,
+            Err(AllocError) => return Err(Stop::Memory),
+        };
+        carry_out(&mut self.journal, &plan, self.entry.as_slice(), desk)
+    }
+}
