@@ -8,3 +8,4 @@ pub mod Prefix
 pub mod Swaps
 pub mod Unique
 pub mod Gained
+pub mod HeldAlong

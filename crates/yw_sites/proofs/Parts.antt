@@ -1,20 +1,20 @@
 -- One part of a map in place of another. A part is its own site, and the entries below it.
-use Rattle.std.proofs.Common.{None, Some, [], ap, cond, false, sym, true, ◌∙◌, ◌∷◌, ◌≡◌}
+use Rattle.std.proofs.Common.{Bool, None, Some, [], ap, cond, false, sym, true, ◌++◌, ◌∙◌, ◌∷◌, ◌≡◌}
 use Rattle.std.proofs.lemmas.Bool.{and_from, and_parts, false_from_ne_true, not-true, not_from_false}
 use Rattle.std.specs.FinMap.Entries.{find}
 use Rattle.std.specs.Ordering.{eq_by_cmp}
-use Rattle.std.specs.Prelude.{IsTrue, not, option_map, ◌&&◌}
+use Rattle.std.specs.Prelude.{IsTrue, not, option_map, ◌&&◌, ◌||◌}
 use Rattle.yw_base.specs.Identity.{under}
 use Rattle.yw_sites.proofs.Prefix.{same_refl, same_true, under_refl}
-use Rattle.yw_sites.proofs.Swaps.{else_at, new_at, old_at}
+use Rattle.yw_sites.proofs.Swaps.{at_skip, else_at, new_at, old_at}
 use Rattle.yw_sites.specs.Entries.{Entries, AllUnder, Swaps}
 use Rattle.yw_state.specs.State.{sites_of_entries}
 use Rattle.yw_state.proofs.MapEntries.{get-of_entries}
-use Rattle.yw_state.proofs.MapLemmas.{by_name, get-retain_gone, get-retain_kept, get-update_other, get-update_same, same_map, tied, tied_self}
+use Rattle.yw_state.proofs.MapLemmas.{by_name, get-retain, get-retain_gone, get-retain_kept, get-update_other, get-update_same, same_map, tied, tied_self}
 use Rattle.yw_state.proofs.Tests.{by_test, never}
 use Rattle.yw_state.specs.Identity.{Ident, same, strictly_under}
 use Rattle.yw_state.specs.Map.{get, lexical, retain, update}
-use Rattle.yw_state.specs.State.{Site, Sites, bare, drop}
+use Rattle.yw_state.specs.State.{Site, Sites, bare, bare_but, drop}
 
 -- one strictly under id is another, and lies under it
 pub other : (q id : Ident) → IsTrue (strictly_under q id) → (under q id ≡ true) × (eq_by_cmp lexical q id ≡ false)
@@ -82,6 +82,28 @@ module _ (id : Ident) (x y : Site) (xs ys es fs : Entries) (s : Swaps id ((id, x
       (get-update_same by_name (retain m keep) id h ∙ ap (option_map h) (get-retain_kept by_name m keep id itself ∙ own_was) ∙ ap (λ z. Some z) (sym own))
       (λ q u. get-update_other by_name (retain m keep) id h q (apart q (other q id u).1) ∙ get-retain_gone by_name m keep q (ap not u) ∙ sym (ap (find lexical q) rest))
       (λ q u. get-update_other by_name (retain m keep) id h q (off q u) ∙ get-retain_kept by_name m keep q (ap (λ z. not (z && not (same q id))) u))
+
+  -- ---- the same, but one stays that stood below it
+  pub is_bared_but : (r : Ident) (v : Site) (nets : Entries) → IsTrue (strictly_under r id) → xs ≡ nets ++ ((r, v) ∷ []) → find lexical r nets ≡ None → ys ≡ (r, v) ∷ [] → y ≡ record x { net = None }
+      → sites_of_entries fs ≡ bare_but (sites_of_entries es) id r
+  is_bared_but r v nets strict was none rest own =
+      let m = sites_of_entries es in
+      let keep = λ (k : Ident). not (strictly_under k id) || same k r in
+      let h = λ (z : Site). record z { net = None } in
+      let itself : keep id ≡ true = ap (λ z. z || same id r) (not_from_false _ (ap (λ z. under id id && not z) (same_refl id) ∙ ap (λ z. z && false) (under_refl id))) in
+      let one : Entries = (r, v) ∷ [] in
+      is_new (bare_but m id r)
+      (get-update_same by_name (retain m keep) id h ∙ ap (option_map h) (get-retain_kept by_name m keep id itself ∙ own_was) ∙ ap (λ z. Some z) (sym own))
+      (λ q u.
+      get-update_other by_name (retain m keep) id h q (apart q (other q id u).1) ∙ get-retain by_name m keep q ∙ ap (λ z. cond (not z || same q r) (get m q) None) u
+      ∙ by_test (same q r)
+      (λ (t : same q r ≡ true).
+      let e = same_true q r t in
+      ap (λ (z : Bool). cond z (get m q) None) t ∙ below_was q u ∙ ap (find lexical q) was ∙ at_skip q nets one (ap (λ z. find lexical z nets) e ∙ none) ∙ sym (ap (find lexical q) rest))
+      (λ (t : same q r ≡ false).
+      let off_here : eq_by_cmp lexical q r ≡ false = false_from_ne_true _ (λ w. never (sym t ∙ ap (λ z. same z r) (tied by_name q r w) ∙ same_refl r)) in
+      ap (λ (z : Bool). cond z (get m q) None) t ∙ sym (ap (find lexical q) rest ∙ ap (λ (z : Bool). cond z (Some v) None) off_here)))
+      (λ q u. get-update_other by_name (retain m keep) id h q (off q u) ∙ get-retain_kept by_name m keep q (ap (λ z. not (z && not (same q id)) || same q r) u))
 
 -- ---- all under an identity goes
 pub drop_law : (id : Ident) (olds es fs : Entries) → Swaps id olds [] es fs → AllUnder id olds → sites_of_entries fs ≡ drop (sites_of_entries es) id

@@ -18,9 +18,10 @@ use Rattle.yw_state.specs.Identity.{Ident, same}
 use Rattle.yw_state.specs.Map.{lexical}
 use Rattle.yw_state.specs.State.{ItemPart, Site}
 use Rattle.yw_tree.proofs.Equations.{flat-append, net_entries_is, node_entries_is, run_entries_is}
+use Rattle.yw_tree.proofs.Halves.{none_leads}
 use Rattle.yw_tree.proofs.Induct.{below_every_net, below_every_node, below_every_run}
 use Rattle.yw_tree.proofs.Keys.{ids_are, kids, kids-append, node_keys, run_keys}
-use Rattle.yw_tree.proofs.Split.{in_net, none_leads, place_leads, place_there}
+use Rattle.yw_tree.proofs.Split.{in_net, place_leads, place_there}
 use Rattle.yw_tree.proofs.Steps.{found_is, here_found}
 use Rattle.yw_tree.specs.Boxed.{AtNet, AtNode, AtRun, Held, IsBoxedNet, IsBoxedNode, IsBoxedRun, IsNetAt, ids, net_ids, run_ids}
 use Rattle.yw_tree.specs.Entries.{below_net, below_run, flat, item_site, net_entries, node_entries, nodes, run_entries, run_site}
@@ -36,22 +37,22 @@ module _ (names : ℕ → List ℕ) (id : Ident) where
   abbrev pub item_there : Entries → Option ItemPart
   item_there es = option_and_then (λ (x : Site). x.item) (find lexical id es)
 
-  none_of : (ns : List Node) → Each IsBoxedNode ns → Each (λ k. under id k ≡ false) (kids ns) → at id (flat ents ns) ≡ None
+  pub none_of : (ns : List Node) → Each IsBoxedNode ns → Each (λ k. under id k ≡ false) (kids ns) → at id (flat ents ns) ≡ None
   none_of [] b h = refl
   none_of (n ∷ ns) b h = at_skip id (ents n) (flat ents ns) (at_under id (out-Node n).id (ents n) (node_keys names n b.0) h.0) ∙ none_of ns b.1 h.1
 
-  by_kids : (ns : List Node) → Each (λ n. leads id n ≡ false) ns → Each (λ k. under id k ≡ false) (kids ns)
+  pub by_kids : (ns : List Node) → Each (λ n. leads id n ≡ false) ns → Each (λ k. under id k ≡ false) (kids ns)
   by_kids [] h = tt
   by_kids (n ∷ ns) h = (h.0, by_kids ns h.1)
 
-  short : (i : Ident) → length id ≤ length i → (ks : List Ident) → Each (IsChild i) ks → Each (λ k. under id k ≡ false) ks
+  pub short : (i : Ident) → length id ≤ length i → (ks : List Ident) → Each (IsChild i) ks → Each (λ k. under id k ≡ false) ks
   short i l [] c = tt
   short i l (k ∷ ks) c = (under_short id k (let e = child_length i k c.0 in omega arith), short i l ks c.1)
 
   pub none_net : (s : NetState) → IsBoxedNet s → Each (λ k. under id k ≡ false) (ids s) → at id (net_entries names s).1 ≡ None
   none_net s b h = ap (λ z. at id z.1) (net_entries_is names s) ∙ none_of (nodes s) (below_every_net AtNet AtNode AtRun s b) (subst (Each (λ k. under id k ≡ false)) (ids_are s) h)
 
-  none_held : (o : Option (Box NetState Global)) → Held IsBoxedNet o → Each (λ k. under id k ≡ false) (net_ids o) → at id (below_net names o) ≡ None
+  pub none_held : (o : Option (Box NetState Global)) → Held IsBoxedNet o → Each (λ k. under id k ≡ false) (net_ids o) → at id (below_net names o) ≡ None
   none_held None b h = refl
   none_held (Some x) b h = none_net x.value b h
 
@@ -107,7 +108,7 @@ module _ (names : ℕ → List ℕ) (id : Ident) where
   absent zero i s b at l e = ap (option_and_then (λ (x : Site). x.item)) (none_net s b (short i (omega arith) (ids s) at.0))
   absent (suc d) i s b at l e =
       by_option (place_of id s)
-      (λ (p : place_of id s ≡ None). ap (option_and_then (λ (x : Site). x.item)) (none_net s b (subst (Each (λ k. under id k ≡ false)) (sym (ids_are s)) (by_kids (nodes s) (none_leads id s p)))))
+      (λ (p : place_of id s ≡ None). ap (option_and_then (λ (x : Site). x.item)) (none_net s b (subst (Each (λ k. under id k ≡ false)) (sym (ids_are s)) (by_kids (nodes s) (none_leads id i s b at p)))))
       (λ (p : ℕ × ℕ) (h : place_of id s ≡ Some p).
       let n = place_there id s p h in
       let q = in_net s p.0 p.1 n.0 n.1 in

@@ -8,10 +8,10 @@ use Rattle.yw_sites.proofs.Parts.{own_changes}
 use Rattle.yw_state.specs.After.{stands}
 use Rattle.yw_state.specs.Identity.{Ident}
 use Rattle.yw_state.specs.Map.{update}
-use Rattle.yw_state.specs.State.{RunPart, Site, no_checks}
+use Rattle.yw_state.specs.State.{Site, no_checks}
 use Rattle.yw_state.proofs.Tests.{nowhere}
 use Rattle.yw_tree.specs.Boxed.{AtNet, AtNode, AtRun, IsBoxedNet, IsBoxedNode, IsBoxedRun, head, ids, net_ids, run_ids}
-use Rattle.yw_tree.specs.Entries.{below_net, below_run, flat, item_site, net_entries, net_part, net_part_of, node_entries, nodes, run_entries, run_site}
+use Rattle.yw_tree.specs.Entries.{below_net, below_run, flat, net_entries, net_part, net_part_of, node_entries, nodes, run_entries, run_site}
 use Rattle.yw_tree.specs.Forest.{IsForest, entries, item_of, placed, sites_of}
 use Rattle.yw_tree.specs.Places.{placed_run, run_of}
 use Rattle.yw_tree.specs.Ways.{net_in}

@@ -2,7 +2,7 @@
 use Rattle.std.proofs.Common.{List, None, Option, Some, [], ap, cond, false, sym, true, ℕ, ◌++◌, ◌∙◌, ◌∷◌, ◌≡◌}
 use Rattle.std.specs.FinMap.Entries.{find}
 use Rattle.std.specs.Ordering.{eq_by_cmp}
-use Rattle.std.specs.Prelude.{Box}
+use Rattle.std.specs.Prelude.{Box, is_some}
 use Rattle.std.specs.declared.alloc.Global.{Global}
 use Rattle.yw_base.specs.Identity.{under}
 use Rattle.yw_sites.proofs.Children.{strictly}
@@ -49,6 +49,16 @@ module _ (names : ℕ → List ℕ) (i : Ident) where
       let s : q ≡ (out-Run r).id = under_same q q (out-Run r).id (child_length i q qc ∙ sym (child_length i (out-Run r).id cr)) (under_refl q) u in
       never (sym t ∙ ap (λ z. eq_by_cmp lexical z (out-Run r).id) s ∙ tied_self by_name (out-Run r).id)) in
       nowhere (sym (at_under q (out-Run r).id (run_entries names r) (run_keys names r b) off) ∙ e))
+
+  -- the run is among what stands there
+  pub run_known : (r : Option (Box Run Global)) → Each (λ j. is_some (find lexical j (below_run names r)) ≡ true) (run_ids r)
+  run_known None = tt
+  run_known (Some y) =
+      let j = (out-Run y.value).id in (
+        ap (λ z. is_some (find lexical j z)) (run_entries_is names y.value)
+            ∙ ap (λ z. is_some (cond z (Some (run_site names y.value)) (find lexical j (below_net names (out-Run y.value).net)))) (tied_self by_name j),
+        tt,
+      )
 
   pub run_beside : (r : Option (Box Run Global)) (js : List Ident) → Held IsBoxedRun r → AreChildren i (js ++ run_ids r) → StandsBeside i js (below_run names r)
   run_beside None js b c = record { quiet = λ q x d e. nowhere e; apart = none_beside js }

@@ -1,7 +1,7 @@
 -- One case more.
-use Rattle.std.proofs.Common.{◌≡◌, ℕ, Bool, true, false, cond, refl, Option, Some, None, List, [], ◌∷◌, ◌++◌, ap, subst, sym, ◌∙◌, Ordering}
+use Rattle.std.proofs.Common.{◌≡◌, ℕ, cond, refl, Some, None, List, [], ◌∷◌, ◌++◌, ap, subst, sym, ◌∙◌}
 use Rattle.std.specs.Prelude.{T}
-use Rattle.std.specs.BTreeMap.{insert_entry, is_at}
+use Rattle.std.specs.BTreeMap.{insert_entry}
 use Rattle.std.specs.FinMap.Entries.{by_order, is_sorted, is_sorted-put, put}
 use Rattle.std.specs.Ordering.{is_eq, match_ordering, nat_cmp}
 use Rattle.std.specs.declared.cmp.Ordering.TheVariants.{Less, Equal, Greater}
@@ -10,13 +10,13 @@ use Rattle.yw_sites.specs.Idents.{Each}
 use Rattle.yw_sites.proofs.Each.{Each-append, Each-back, Each-front}
 use Rattle.yw_sites.proofs.Gained.{gained, one_gained}
 use Rattle.yw_sites.proofs.Prefix.{under_refl}
-use Rattle.yw_state.specs.Identity.{Ident, case_ident}
+use Rattle.yw_state.specs.Identity.{case_ident}
 use Rattle.yw_state.specs.Map.{insert}
 use Rattle.yw_state.proofs.MapLemmas.{by_number}
 use Rattle.yw_state.proofs.Tests.{nowhere}
 use Rattle.yw_tree.specs.Boxed.{IsBoxedCase}
 use Rattle.yw_tree.specs.Cases.{CaseList, case_at}
-use Rattle.yw_tree.specs.Entries.{below_run, case_entries, case_site, flat, net_entries, node_entries, nodes}
+use Rattle.yw_tree.specs.Entries.{below_run, case_entries, case_site, flat, node_entries, nodes}
 use Rattle.yw_tree.specs.Forest.{IsForest, entries, sites_of}
 use Rattle.yw_tree.specs.declared.Case.{Case}
 use Rattle.yw_tree.specs.declared.Forest.{Forest}

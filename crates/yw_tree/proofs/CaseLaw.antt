@@ -5,7 +5,7 @@ use Rattle.yw_base.specs.Identity.{under}
 use Rattle.yw_sites.proofs.Children.{children_front}
 use Rattle.yw_sites.proofs.Dropped.{above, get-drop_all, untouched}
 use Rattle.yw_sites.proofs.Each.{Each-append, each_mid}
-use Rattle.yw_sites.proofs.Parts.{own_changes}
+use Rattle.yw_sites.proofs.Parts.{own_changes, own_was}
 use Rattle.yw_tree.proofs.PartNet.{net_changes, net_shown}
 use Rattle.yw_sites.proofs.Prefix.{under_refl}
 use Rattle.yw_sites.proofs.Swaps.{swaps_whole}
@@ -47,7 +47,7 @@ module _ (names : ℕ → List ℕ) (f : Forest) (b : IsForest f) (n : ℕ) (c :
         (net_keys names k.net k.id kb.net (children_front k.id (ids k.net) (run_ids k.run) kb.here))
         (run_under names k.id k.run (ids k.net) (held_keys names k.run) kb.run kb.here)
 
-    placing : Swaps (case_ident n) ((case_ident n, case_site names c) ∷ below c) ((case_ident n, case_site names d) ∷ below d) (entries names f) (entries names after) × IsForest after
+    pub placing : Swaps (case_ident n) ((case_ident n, case_site names c) ∷ below c) ((case_ident n, case_site names d) ∷ below d) (entries names f) (entries names after) × IsForest after
     placing =
         let t = in_table n f.cases c e in
         let w = each_mid Well t.front (n, c) t.back (subst (Each Well) t.whole b.1) in
@@ -59,15 +59,19 @@ module _ (names : ℕ → List ℕ) (f : Forest) (b : IsForest f) (n : ℕ) (c :
           p.1,
         )
 
-    under_was : AllUnder (case_ident n) (below c)
+    pub under_was : AllUnder (case_ident n) (below c)
     under_was = subst (λ z. AllUnder z (below c)) its.0 (below_under c its.1)
 
-    under_is : AllUnder (case_ident n) (below d)
+    pub under_is : AllUnder (case_ident n) (below d)
     under_is = subst (λ z. AllUnder z (below d)) (same_id ∙ its.0) (below_under d db)
 
     -- its own site changes
     pub case_own : (h : Site → Site) → below d ≡ below c → case_site names d ≡ h (case_site names c) → sites_of names after ≡ update (sites_of names f) (case_ident n) h
     case_own h rest own = own_changes (case_ident n) (case_site names c) (case_site names d) (below c) (below d) (entries names f) (entries names after) placing.0 under_was under_is h rest own
+
+  -- the map has the case at its identity
+  pub case_stands : get (sites_of names f) (case_ident n) ≡ Some (case_site names c)
+  case_stands = own_was (case_ident n) (case_site names c) (case_site names c) (below c) (below c) (entries names f) (entries names (after c refl its.1)) (placing c refl its.1).0 (under_was c refl its.1) (under_is c refl its.1)
 
   -- ---- another net
   module _ (w : NetState) (wb : IsBoxedNet w) (fits : AreChildren (case_ident n) (ids w ++ run_ids c.run)) where

@@ -1,30 +1,14 @@
 -- The first item that leads to an identity, by places.
-use Rattle.std.proofs.Common.{Bool, List, None, Option, Some, [], ap, arith, cond, false, length, refl, suc, true, zero, ℕ, ◌∙◌, ◌∷◌, ◌≡◌}
+use Rattle.std.proofs.Common.{List, None, Option, Some, [], ap, arith, length, refl, suc, zero, ℕ, ◌∙◌, ◌∷◌, ◌≡◌}
 use Rattle.std.specs.Prelude.{Vec, option_map, slice_get}
 use Rattle.std.specs.declared.alloc.Global.{Global}
 use Rattle.yw_state.proofs.Tests.{nowhere, some_same}
 use Rattle.yw_state.specs.Identity.{Ident}
 use Rattle.yw_tree.proofs.Lists.{EachBelow}
-use Rattle.yw_tree.specs.Ways.{leads, next_list, or_later, place_among, place_in}
+use Rattle.yw_tree.specs.Ways.{next_list, or_later, place_among, place_in}
 use Rattle.yw_tree.specs.declared.Node.{Node}
 
 module _ (id : Ident) where
-  abbrev pub Off : Node → Type 0
-  Off n = leads id n ≡ false
-
-  pub first_in : (ns : List Node) (i : ℕ) (n : Node) → EachBelow Off ns i → slice_get ns i ≡ Some n → leads id n ≡ true → place_in id ns ≡ Some i
-  first_in [] i n off e l = nowhere e
-  first_in (x ∷ ns) zero n off e l = ap (λ (b : Bool). cond b (Some zero) (option_map suc (place_in id ns))) (ap (leads id) (some_same x n e) ∙ l)
-  first_in (x ∷ ns) (suc i) n off e l =
-      ap (λ (b : Bool). cond b (Some zero) (option_map suc (place_in id ns))) (off zero x (omega arith) refl)
-      ∙ ap (option_map suc) (first_in ns i n (λ k y lt f. off (suc k) y (omega arith) f) e l)
-
-  pub none_in : (ns : List Node) → EachBelow Off ns (length ns) → place_in id ns ≡ None
-  none_in [] off = refl
-  none_in (x ∷ ns) off =
-      ap (λ (b : Bool). cond b (Some zero) (option_map suc (place_in id ns))) (off zero x (omega arith) refl)
-      ∙ ap (option_map suc) (none_in ns (λ k y lt f. off (suc k) y (omega arith) f))
-
   abbrev pub OffRow : Vec Node Global → Type 0
   OffRow v = place_in id v.items ≡ None
 

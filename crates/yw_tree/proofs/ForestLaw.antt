@@ -7,7 +7,7 @@ use Rattle.yw_base.specs.Identity.{is_identity, under}
 use Rattle.yw_sites.proofs.Children.{children_front, others_off, strictly}
 use Rattle.yw_sites.proofs.Each.{Each-back, Each-front, each_mid}
 use Rattle.yw_sites.proofs.Prefix.{under_refl}
-use Rattle.yw_sites.proofs.Swaps.{at, else_at, new_at, old_at, swaps_after, swaps_before}
+use Rattle.yw_sites.proofs.Swaps.{else_at, new_at, old_at, swaps_after, swaps_before}
 use Rattle.yw_sites.specs.Entries.{Entries, AllUnder, Swaps}
 use Rattle.yw_sites.specs.Idents.{AreChildren, Each, IsChild}
 use Rattle.yw_state.proofs.MapEntries.{get-of_entries}

@@ -1,21 +1,19 @@
 -- One item more at the end of its task's list.
-use Rattle.std.proofs.Common.{◌≡◌, ◌+◌, ℕ, zero, suc, Bool, true, false, refl, Option, Some, None, List, [], ◌∷◌, ◌++◌, map, set, ap, subst, sym, ◌∙◌, append_assoc, arith}
-use Rattle.std.specs.Prelude.{Box, IsTrue, T, Vec, slice_get}
+use Rattle.std.proofs.Common.{◌≡◌, ◌+◌, ℕ, zero, suc, refl, Option, Some, None, List, [], ◌∷◌, ◌++◌, map, set, ap, subst, sym, ◌∙◌, append_assoc, arith}
+use Rattle.std.specs.Prelude.{Box, T, Vec, slice_get}
 use Rattle.std.specs.FinMap.Entries.{below_all, is_sorted}
 use Rattle.std.specs.Ordering.{is_lt}
 use Rattle.std.specs.Vec.{with_item}
 use Rattle.std.specs.declared.alloc.Global.{Global}
-use Rattle.yw_sites.specs.Entries.{Entries}
 use Rattle.yw_sites.specs.Idents.{AreChildren, Distinct, Each, IsChild}
 use Rattle.yw_sites.proofs.Each.{Each-append, Each-back, Each-front}
 use Rattle.yw_sites.proofs.Picked.{halves, joined}
-use Rattle.yw_state.specs.Identity.{Ident, strictly_under}
-use Rattle.yw_state.specs.Map.{get, insert, lexical}
-use Rattle.yw_state.specs.State.{Sites}
+use Rattle.yw_state.specs.Identity.{Ident}
+use Rattle.yw_state.specs.Map.{lexical}
 use Rattle.yw_state.proofs.Tests.{nowhere, some_same}
 use Rattle.yw_tree.specs.Boxed.{AreRows, AtNet, AtNode, AtRun, Held, IsBoxedNet, IsBoxedNode, IsBoxedRun, head, heads, ids, net_ids, run_ids}
-use Rattle.yw_tree.specs.Entries.{item_site, net_part, nodes, row_nodes}
-use Rattle.yw_tree.specs.Shows.{AddsItem, IsLast, ShowsNet, row_or_none}
+use Rattle.yw_tree.specs.Entries.{nodes, row_nodes}
+use Rattle.yw_tree.specs.Shows.{AddsItem, IsLast, row_or_none}
 use Rattle.yw_tree.specs.declared.NetState.{NetState, NetState-F, out-NetState, roll-NetState, out-roll-NetState, every_here-NetState}
 use Rattle.yw_tree.specs.declared.Node.{Node, out-Node, roll-out-Node}
 use Rattle.yw_tree.specs.declared.Run.{Run}
@@ -27,7 +25,7 @@ use Rattle.yw_tree.proofs.Law.{part_is}
 use Rattle.yw_tree.proofs.Made.{made_net, made_node}
 
 -- an item alone is well boxed
-alone_boxed : (n : Node) → (out-Node n).net ≡ None → (out-Node n).run ≡ None → IsBoxedNode n
+pub alone_boxed : (n : Node) → (out-Node n).net ≡ None → (out-Node n).run ≡ None → IsBoxedNode n
 alone_boxed n no_net no_run =
     let l = out-Node n in
     let nothing : AreChildren l.id [] = (tt, tt) in
@@ -52,7 +50,7 @@ distinct_more j (x ∷ xs) ys d n = (
   distinct_more j xs ys d.1 n.1,
 )
 
-children_more : (i j : Ident) (xs ys : List Ident) → AreChildren i (xs ++ ys) → IsChild i j → Each (λ k. j ≡ k → ⊥) (xs ++ ys) → AreChildren i (xs ++ (j ∷ ys))
+pub children_more : (i j : Ident) (xs ys : List Ident) → AreChildren i (xs ++ ys) → IsChild i j → Each (λ k. j ≡ k → ⊥) (xs ++ ys) → AreChildren i (xs ++ (j ∷ ys))
 children_more i j xs ys c cj n = (Each-append (IsChild i) xs (j ∷ ys) (Each-front (IsChild i) xs ys c.0) (cj, Each-back (IsChild i) xs ys c.0), distinct_more j xs ys c.1 n)
 
 -- ---- the order of a list with one more at its end

@@ -1,6 +1,6 @@
 -- The net that is found at an identity stands there.
-use Rattle.std.proofs.Common.{◌≡◌, ◌≤◌, ◌+◌, ℕ, zero, suc, Bool, true, false, cond, refl, length, Option, Some, None, List, [], ◌∷◌, ap, subst, sym, ◌∙◌, arith}
-use Rattle.std.specs.Prelude.{◌==◌, is_some}
+use Rattle.std.proofs.Common.{◌≡◌, ◌≤◌, Bool, true, false, cond, refl, length, Option, Some, None, [], ◌∷◌, ap, subst, sym, ◌∙◌, arith}
+use Rattle.std.specs.Prelude.{is_some}
 use Rattle.std.proofs.lemmas.Bool.{eqb-true}
 use Rattle.yw_state.specs.Identity.{Ident, case_ident, case_number, is_case_ident}
 use Rattle.yw_state.proofs.Tests.{by_option, by_test, nowhere}

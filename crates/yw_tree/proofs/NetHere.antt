@@ -1,18 +1,19 @@
 -- The net at an identity, whether of a case, an item or a run: what a change of it does to the whole forest.
-use Rattle.std.proofs.Common.{◌≡◌, ◌≤◌, ℕ, Bool, true, false, cond, refl, length, Option, Some, None, List, [], ◌∷◌, ◌++◌, ap, subst, sym, ◌∙◌}
-use Rattle.std.specs.Prelude.{Box, option_and_then, option_map}
+use Rattle.std.proofs.Common.{◌≡◌, ◌≤◌, ℕ, true, false, cond, refl, length, Option, Some, None, List, [], ◌∷◌, ◌++◌, ap, subst, sym, ◌∙◌}
+use Rattle.std.specs.Prelude.{Box, is_some, option_and_then, option_map}
+use Rattle.std.specs.FinMap.Entries.{find}
 use Rattle.std.specs.declared.alloc.Global.{Global}
 use Rattle.yw_base.specs.Identity.{under}
-use Rattle.yw_sites.specs.Entries.{AllUnder, Entries, Entry, Swaps}
+use Rattle.yw_sites.specs.Entries.{AllUnder, Entries, Swaps}
 use Rattle.yw_sites.specs.Idents.{AreChildren, Each, IsChild}
 use Rattle.yw_sites.proofs.Children.{children_front}
 use Rattle.yw_sites.proofs.Dropped.{above, get-drop_all, untouched}
 use Rattle.yw_sites.proofs.Each.{nil_right}
 use Rattle.yw_state.specs.After.{with_net as with_part}
-use Rattle.yw_state.specs.Identity.{Ident, case_ident, case_number, is_case_ident}
-use Rattle.yw_state.specs.Map.{get}
-use Rattle.yw_state.specs.State.{NetPart, RunPart, Site, Sites, drop_all, no_checks}
-use Rattle.yw_state.proofs.Tests.{by_test, map_some, nowhere, some_same, then_some}
+use Rattle.yw_state.specs.Identity.{Ident, case_ident}
+use Rattle.yw_state.specs.Map.{get, lexical}
+use Rattle.yw_state.specs.State.{NetPart, Site, Sites, drop_all, no_checks}
+use Rattle.yw_state.proofs.Tests.{map_some, nowhere, some_same}
 use Rattle.yw_tree.specs.Boxed.{AtNet, AtNode, AtRun, Held, IsBoxedNet, IsBoxedRun, IsNetAt, ids, net_ids, run_ids}
 use Rattle.yw_tree.specs.Cases.{case_at}
 use Rattle.yw_tree.specs.Entries.{below_net, below_run, net_entries, net_part, net_part_of, run_entries, run_site}
@@ -25,7 +26,7 @@ use Rattle.yw_tree.specs.declared.Forest.{Forest}
 use Rattle.yw_tree.specs.declared.NetState.{NetState}
 use Rattle.yw_tree.specs.declared.Node.{Node, out-Node}
 use Rattle.yw_tree.specs.declared.Run.{Run, Run-F, out-Run, out-roll-Run, every_here-Run}
-use Rattle.yw_tree.proofs.Beside.{none_beside, run_beside}
+use Rattle.yw_tree.proofs.Beside.{none_beside, run_beside, run_known}
 use Rattle.yw_tree.proofs.CaseLaw.{its, top_changes, top_shown}
 use Rattle.yw_tree.proofs.Equations.{run_entries_is}
 use Rattle.yw_tree.proofs.ForestLaw.{InCase, item_found}
@@ -46,6 +47,7 @@ pub record NetHere (f : Forest) (i : Ident) (s : NetState) (placed : NetState �
   pub beside : (ℕ → List ℕ) → Entries
   pub stands : (names : ℕ → List ℕ) → StandsBeside i (ids s) (beside names)
   pub shows : (names : ℕ → List ℕ) → ShowsNet names (sites_of names f) i (beside names) s
+  pub known : (names : ℕ → List ℕ) → Each (λ j. is_some (find lexical j (beside names)) ≡ true) others
   pub lift : (w : NetState) → IsBoxedNet w → AreChildren i (ids w ++ others) → (names : ℕ → List ℕ) (m : Sites) → ShowsNet names m i (beside names) w
       → get m i ≡ option_map (with_part (λ _. net_part names w)) (get (sites_of names f) i) → ((q : Ident) → under q i ≡ false → get m q ≡ get (sites_of names f) q)
       → (sites_of names (placed w) ≡ m) × IsForest (placed w)
@@ -67,6 +69,7 @@ top_here f n s b e =
           beside = λ names. below_run names c.run;
           stands = λ names. run_beside names (case_ident n) c.run (ids c.net) i.1.run children;
           shows = λ names. top_shown names f b n c at c.net i.1.net children;
+          known = λ names. run_known names (case_ident n) c.run;
           lift = λ w wb fits names m shows own outside.
               subst (λ (o : Option Case). (sites_of names (with_top f n w o) ≡ m) × IsForest (with_top f n w o)) (sym at) (top_changes names f b n c at w wb fits m shows own outside);
         }
@@ -83,6 +86,7 @@ item_net_here f id n s b within e at =
       beside = λ names. below_run names (out-Node n).run;
       stands = λ names. run_beside names id (out-Node n).run (ids s) (below_every_node AtNet AtNode AtRun n g.1).1 children;
       shows = λ names. shown names f id n b within e s at;
+      known = λ names. run_known names id (out-Node n).run;
       lift = λ w wb fits names m shows own outside.
           subst (λ (o : Option Node). (sites_of names (placed_part f id w o) ≡ m) × IsForest (placed_part f id w o)) (sym e) (net_lifted names f id n b within e s w at wb fits m shows own outside);
     }
@@ -185,9 +189,15 @@ module _ (f : Forest) (id : Ident) (long : 1 ≤ length id) (r : Run) (s : NetSt
     beside = λ names. [];
     stands = λ names. nothing_beside;
     shows = λ names. run_shows names s net_boxed children;
+    known = λ names. tt;
     lift = λ w wb fits names m shows own_site outside.
         subst (λ (o : Option Run). (sites_of names (over_run_net f id w o) ≡ m) × IsForest (over_run_net f id w o)) (sym e) (run_changes names w wb fits m shows own_site outside);
   }
+
+-- what has this net keeps it
+pub same_part : (p : NetPart) (o : Option Site) → option_and_then (λ (x : Site). x.net) o ≡ Some p → option_map (with_part (λ _. p)) o ≡ o
+same_part p None h = refl
+same_part p (Some x) h = ap (λ (z : Option NetPart). Some (record x { net = z })) (ap (option_map (λ (_ : NetPart). p)) h ∙ sym h)
 
 -- ---- all under some items goes
 
@@ -202,10 +212,6 @@ module _ (f : Forest) (id : Ident) (s : NetState) (placed : NetState → Forest)
       let part : option_and_then (λ (x : Site). x.net) (get m id) ≡ Some (net_part names w) = ap (option_and_then (λ (x : Site). x.net)) (sym same_at) ∙ now.part in
       h.lift w wb (fewer id h.others h.here) names (drop_all m js) now (same_at ∙ sym (same_part (net_part names w) (get m id) part))
       (λ q u. get-drop_all m js q ∙ ap (λ z. cond z None (get m q)) (untouched id q js c u))
-    where
-      same_part : (p : NetPart) (o : Option Site) → option_and_then (λ (x : Site). x.net) o ≡ Some p → option_map (with_part (λ _. p)) o ≡ o
-      same_part p None h = refl
-      same_part p (Some x) h = ap (λ (z : Option NetPart). Some (record x { net = z })) (ap (option_map (λ (_ : NetPart). p)) h ∙ sym h)
 
   pub net_at_here : IsNetAt id s
   net_at_here = children_front id (ids s) h.others h.here

@@ -51,7 +51,7 @@ module _ (names : ℕ → List ℕ) where
 
     -- ---- another item in its place
     module _ (w : Node) (same_head : head w ≡ head old) (wb : IsBoxedNode w) where
-      placing : Swaps id ((id, item_site names old) ∷ below old) ((id, item_site names w) ∷ below w) (entries names f) (entries names (placed f id w)) × IsForest (placed f id w)
+      pub placing : Swaps id ((id, item_site names old) ∷ below old) ((id, item_site names w) ∷ below w) (entries names f) (entries names (placed f id w)) × IsForest (placed f id w)
       placing =
           let p = forest_law names id w old same_head wb f b within e in
           let first : node_entries names old ≡ (id, item_site names old) ∷ below old = node_entries_is names old ∙ ap (λ z. (z, item_site names old) ∷ below old) own_id in
@@ -61,13 +61,13 @@ module _ (names : ℕ → List ℕ) where
             p.1,
           )
 
-      below_under : (n : Node) → IsBoxedNode n → (out-Node n).id ≡ id → AllUnder id (below n)
+      pub below_under : (n : Node) → IsBoxedNode n → (out-Node n).id ≡ id → AllUnder id (below n)
       below_under n nb same = subst (λ z. AllUnder z (below n)) same (subst (AllUnder (out-Node n).id) (node_entries_is names n) (node_keys names n nb)).1
 
-      under_was : AllUnder id (below old)
+      pub under_was : AllUnder id (below old)
       under_was = below_under old (item_found f id old b e).1 own_id
 
-      under_is : AllUnder id (below w)
+      pub under_is : AllUnder id (below w)
       under_is = below_under w wb (ap (λ z. z.0) same_head ∙ own_id)
 
       pub item_own : (h : Site → Site) → below w ≡ below old → item_site names w ≡ h (item_site names old) → sites_of names (placed f id w) ≡ update (sites_of names f) id h

@@ -1,21 +1,15 @@
 -- Changes of an item's own entry.
-use Rattle.yw_state.specs.declared.event.Event.TheVariants as events
-use Rattle.std.proofs.Common.{List, None, Some, [], ap, refl, subst, sym, ℕ, ◌++◌, ◌∙◌, ◌≡◌}
+use Rattle.std.proofs.Common.{List, Some, [], subst, sym, ℕ, ◌++◌, ◌≡◌}
 use Rattle.yw_sites.specs.Idents.{AreChildren}
-use Rattle.yw_state.specs.After.{begun, change, end_case, with_item, with_sites}
-use Rattle.yw_state.specs.Events.{after}
 use Rattle.yw_state.specs.Identity.{Ident}
 use Rattle.yw_state.specs.Map.{update}
-use Rattle.yw_state.specs.State.{Site, Sites, State}
-use Rattle.yw_state.specs.Texts.{Said}
-use Rattle.yw_state.specs.declared.part.Stage.TheVariants.{Executing}
-use Rattle.yw_state.specs.declared.part.Way.TheVariants.{Cancelled}
+use Rattle.yw_state.specs.State.{Site}
 use Rattle.yw_tree.proofs.ForestLaw.{InCase, item_found, placed_law}
 use Rattle.yw_tree.proofs.Induct.{below_every_node}
 use Rattle.yw_tree.proofs.Made.{made_node}
 use Rattle.yw_tree.proofs.NetLaw.{item_own}
 use Rattle.yw_tree.specs.Boxed.{AtNet, AtNode, AtRun, Held, IsBoxedNet, IsBoxedNode, IsBoxedRun, head, net_ids, run_ids}
-use Rattle.yw_tree.specs.Entries.{below_net, below_run, item_site, net_part_of}
+use Rattle.yw_tree.specs.Entries.{below_net, below_run, item_site}
 use Rattle.yw_tree.specs.Forest.{IsForest, item_of, placed, sites_of}
 use Rattle.yw_tree.specs.declared.Forest.{Forest}
 use Rattle.yw_tree.specs.declared.NetState.{NetState}

@@ -1,8 +1,9 @@
 -- The first number of an identity, and the identity without its last one.
-use Rattle.std.proofs.Common.{◌≡◌, ◌≤◌, ◌<◌, ◌-◌, ◌+◌, ℕ, zero, suc, List, [], ◌∷◌, false, true, take, length, refl, sym, ap, ◌∙◌, arith}
-use Rattle.std.specs.Prelude.{slice_index_or}
-use Rattle.std.proofs.lemmas.Bool.{eq-eqb}
-use Rattle.yw_base.specs.Identity.{is_identity}
+use Rattle.std.proofs.Common.{◌≡◌, ◌≤◌, ◌-◌, ℕ, zero, suc, [], ◌∷◌, false, true, take, length, refl, sym, ap, ◌∙◌, arith}
+use Rattle.std.specs.List.{list_all}
+use Rattle.std.specs.Prelude.{nat_le, nat_lt, slice_index_or, ◌&&◌}
+use Rattle.std.proofs.lemmas.Bool.{and_parts, eq-eqb, leb-true}
+use Rattle.yw_base.specs.Identity.{is_identity, is_number, most_numbers}
 use Rattle.yw_sites.specs.Idents.{IsChild}
 use Rattle.yw_state.specs.Identity.{Ident, case_number, is_case_ident, parent}
 use Rattle.yw_state.proofs.Tests.{never}
@@ -49,3 +50,8 @@ parent_child (x ∷ xs) h = last_of x xs
 pub identity_long : (id : Ident) → is_identity id ≡ true → 1 ≤ length id
 identity_long [] h = never h
 identity_long (x ∷ xs) h = omega arith
+
+pub identity_short : (id : Ident) → is_identity id ≡ true → length id ≤ 40
+identity_short id h =
+    let bounds = and_parts (nat_lt 0 (length id) && nat_le (length id) most_numbers) (list_all is_number id) h in
+    leb-true (length id) most_numbers (and_parts (nat_lt 0 (length id)) (nat_le (length id) most_numbers) bounds.0).1

@@ -1,6 +1,6 @@
 -- A part of a forest whose net is another: what the forest then means.
-use Rattle.std.proofs.Common.{◌≡◌, ℕ, false, Option, Some, None, List, ◌∷◌, ◌++◌, ap, sym, ◌∙◌}
-use Rattle.std.specs.Prelude.{IsTrue, option_and_then, option_map}
+use Rattle.std.proofs.Common.{◌≡◌, ℕ, false, Some, List, ◌∷◌, ◌++◌, ap, sym, ◌∙◌}
+use Rattle.std.specs.Prelude.{option_and_then, option_map}
 use Rattle.std.specs.FinMap.Entries.{find}
 use Rattle.yw_base.specs.Identity.{under}
 use Rattle.yw_sites.specs.Entries.{AllUnder, Entries, Swaps}

@@ -15,7 +15,7 @@ use Rattle.yw_sites.specs.Entries.{Entries}
 use Rattle.yw_sites.specs.Idents.{AreChildren, Distinct, Each, IsChild}
 use Rattle.yw_state.proofs.MapLemmas.{by_name, tied, tied_self}
 use Rattle.yw_state.proofs.Tests.{by_option, by_test, never, nowhere, some_same}
-use Rattle.yw_state.specs.Identity.{Ident, is_child, same}
+use Rattle.yw_state.specs.Identity.{Ident, is_child}
 use Rattle.yw_state.specs.Map.{entries, get, lexical}
 use Rattle.yw_state.specs.State.{ItemPart, Site, State, item_of_task, items_of}
 use Rattle.yw_tree.proofs.Equations.{net_entries_is, node_entries_is}

@@ -1,6 +1,6 @@
 -- A run put back where it stands changes nothing.
 use Rattle.std.proofs.Common.{◌≡◌, Bool, true, false, cond, refl, Option, Some, None, ap, sym, ◌∙◌}
-use Rattle.std.specs.Prelude.{Box, IfSome, IsSome, is_some, option_and_then}
+use Rattle.std.specs.Prelude.{Box, IfSome, IsSome, is_some}
 use Rattle.std.specs.declared.alloc.Global.{Global}
 use Rattle.yw_state.specs.Identity.{Ident, case_number, is_case_ident, parent, same}
 use Rattle.yw_state.proofs.Tests.{by_test, never, nowhere, some_same, then_some}

@@ -1,7 +1,5 @@
 -- A run goes from its case or its item.
-use Rattle.std.proofs.Common.{◌≡◌, ◌≤◌, ℕ, false, length, Option, Some, None, List, [], ◌∷◌, ◌++◌, subst, sym, ◌∙◌, ap}
-use Rattle.std.specs.Prelude.{Box}
-use Rattle.std.specs.declared.alloc.Global.{Global}
+use Rattle.std.proofs.Common.{◌≡◌, ◌≤◌, ℕ, false, length, Some, None, List, [], ◌++◌, subst, sym}
 use Rattle.yw_sites.specs.Entries.{AllUnder}
 use Rattle.yw_sites.specs.Idents.{AreChildren}
 use Rattle.yw_sites.proofs.Children.{children_front}
@@ -17,7 +15,7 @@ use Rattle.yw_tree.specs.Places.{placed_case, run_at, run_of}
 use Rattle.yw_tree.specs.declared.Case.{Case}
 use Rattle.yw_tree.specs.declared.Forest.{Forest}
 use Rattle.yw_tree.specs.declared.Node.{Node, out-Node, roll-Node, every_here-Node}
-use Rattle.yw_tree.specs.declared.Run.{Run, out-Run}
+use Rattle.yw_tree.specs.declared.Run.{Run}
 use Rattle.yw_tree.proofs.CaseLaw.{its}
 use Rattle.yw_tree.proofs.ForestLaw.{in_case, item_found}
 use Rattle.yw_tree.proofs.Keys.{run_keys}

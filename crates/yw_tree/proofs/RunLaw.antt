@@ -1,5 +1,5 @@
 -- A run in place of another, or none in its place: what the whole forest then means. A run stands at a case or at an item.
-use Rattle.std.proofs.Common.{◌≡◌, ◌≤◌, ℕ, Bool, true, false, cond, refl, length, Option, Some, None, List, [], ◌∷◌, ◌++◌, ap, subst, sym, ◌∙◌}
+use Rattle.std.proofs.Common.{◌≡◌, ◌≤◌, ℕ, true, refl, length, Option, Some, None, List, [], ◌∷◌, ◌++◌, ap, subst, sym, ◌∙◌}
 use Rattle.std.specs.Prelude.{Box}
 use Rattle.std.specs.declared.alloc.Global.{Global}
 use Rattle.yw_base.specs.Identity.{under}
@@ -9,13 +9,13 @@ use Rattle.yw_sites.proofs.Children.{strictly}
 use Rattle.yw_sites.proofs.Each.{Each-back}
 use Rattle.yw_sites.proofs.Prefix.{child_under, same_true, under_refl}
 use Rattle.yw_sites.proofs.Swaps.{swaps_whole, swaps_within}
-use Rattle.yw_state.specs.Identity.{Ident, case_ident, case_number, is_case_ident, parent, same}
+use Rattle.yw_state.specs.Identity.{Ident, case_ident, case_number, parent}
 use Rattle.yw_state.proofs.Tests.{nowhere, some_same}
-use Rattle.yw_tree.specs.Boxed.{AtNet, AtNode, AtRun, Held, IsBoxedCase, IsBoxedNode, IsBoxedRun, head, ids, net_ids, run_ids}
-use Rattle.yw_tree.specs.Cases.{case_at, with_case}
+use Rattle.yw_tree.specs.Boxed.{AtNet, AtNode, AtRun, Held, IsBoxedCase, IsBoxedNode, IsBoxedRun, ids, net_ids, run_ids}
+use Rattle.yw_tree.specs.Cases.{case_at}
 use Rattle.yw_tree.specs.Entries.{below_net, below_run, case_entries, case_site, item_site, net_entries, node_entries, run_entries}
 use Rattle.yw_tree.specs.Forest.{IsForest, entries, item_of, placed}
-use Rattle.yw_tree.specs.Places.{has_run, over_case_run, over_item_run, placed_case, placed_run, run_at, run_of}
+use Rattle.yw_tree.specs.Places.{over_case_run, over_item_run, placed_case, placed_run, run_at, run_of}
 use Rattle.yw_tree.specs.Ways.{run_in, with_run}
 use Rattle.yw_tree.specs.declared.Case.{Case}
 use Rattle.yw_tree.specs.declared.Forest.{Forest}

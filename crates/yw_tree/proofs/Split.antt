@@ -1,15 +1,13 @@
 -- One item of a net among the others.
 use Rattle.std.proofs.Common.{List, None, Option, Some, [], ap, append_assoc, cond, false, map, refl, set, subst, suc, sym, true, zero, ℕ, ◌++◌, ◌∙◌, ◌∷◌, ◌≡◌}
-use Rattle.std.specs.Prelude.{Vec, option_map, slice_get}
+use Rattle.std.specs.Prelude.{Bool, Vec, slice_get}
 use Rattle.std.specs.Vec.{with_item}
 use Rattle.std.specs.declared.alloc.Global.{Global}
-use Rattle.yw_sites.proofs.Each.{Each-append}
-use Rattle.yw_sites.specs.Idents.{Each}
 use Rattle.yw_state.proofs.Tests.{by_test, nowhere, some_same}
 use Rattle.yw_state.specs.Identity.{Ident}
 use Rattle.yw_tree.specs.Boxed.{head, heads}
 use Rattle.yw_tree.specs.Entries.{nodes, row_nodes}
-use Rattle.yw_tree.specs.Ways.{item_in_row, leads, next_list, node_at, or_later, place_among, place_in, place_of, with_node, with_row}
+use Rattle.yw_tree.specs.Ways.{item_in_row, leads, next_list, node_at, or_later, if_leads, last_place, place_among, place_in, place_of, with_node, with_row}
 use Rattle.yw_tree.specs.declared.NetState.{NetState, NetState-F, out-NetState, out-roll-NetState, roll-NetState}
 use Rattle.yw_tree.specs.declared.Node.{Node}
 use Rattle.yw_tree.specs.declared.Run.{Run}
@@ -91,23 +89,19 @@ pub nodes_put : (s : NetState) (t k : ℕ) (n w : Node) (r : InRows (out-NetStat
 nodes_put s t k n w r = ap (λ (l : NetState-F NetState Node Run). row_nodes l.items.items) (out_with_node s t k n w r) ∙ r.put w
 
 -- ---- the item at the place that leads to an identity does so
-later_place : (o : Option ℕ) (k : ℕ) (G : ℕ → Type 0) → option_map suc o ≡ Some k → ((j : ℕ) → o ≡ Some j → G (suc j)) → G k
-later_place None k G e f = nowhere e
-later_place (Some j) k G e f = subst G (some_same (suc j) k e) (f j refl)
+the_place : (id : Ident) (j k : ℕ) (o : Option Node) → if_leads id j o ≡ Some k → (n : Node) × (o ≡ Some n) × (leads id n ≡ true) × (j ≡ k)
+the_place id j k None e = nowhere e
+the_place id j k (Some n) e =
+    by_test (leads id n)
+    (λ (t : leads id n ≡ true). (n, refl, t, some_same j k (ap (λ (b : Bool). cond b (Some j) None) (sym t) ∙ e)))
+    (λ (t : leads id n ≡ false). nowhere (ap (λ (b : Bool). cond b (Some j) None) (sym t) ∙ e))
 
-in_list_leads : (id : Ident) (ns : List Node) (k : ℕ) (n : Node) → place_in id ns ≡ Some k → slice_get ns k ≡ Some n → leads id n ≡ true
-in_list_leads id [] k n e f = nowhere e
-in_list_leads id (x ∷ ns) k n e f =
-    by_test (leads id x)
-    (λ t.
-    let z : zero ≡ k = some_same zero k (ap (λ b. cond b (Some zero) (option_map suc (place_in id ns))) (sym t) ∙ e) in
-    let g : x ≡ n = some_same x n (subst (λ j. slice_get (x ∷ ns) j ≡ Some n) (sym z) f) in
-    ap (leads id) (sym g) ∙ t)
-    (λ t. later_place (place_in id ns) k (λ j. slice_get (x ∷ ns) j ≡ Some n → leads id n ≡ true)
-    (ap (λ b. cond b (Some zero) (option_map suc (place_in id ns))) (sym t) ∙ e)
-    (λ j g h. in_list_leads id ns j n g h) f)
+pub in_list_leads : (id : Ident) (ns : List Node) (k : ℕ) (n : Node) → place_in id ns ≡ Some k → slice_get ns k ≡ Some n → leads id n ≡ true
+in_list_leads id ns k n e f =
+    let r = the_place id (last_place id ns) k (slice_get ns (last_place id ns)) e in
+    ap (leads id) (some_same n r.0 (sym f ∙ ap (slice_get ns) (sym r.3) ∙ r.1)) ∙ r.2
 
-either_place : {G : Type 0} (o : Option ℕ) (rest : Option (ℕ × ℕ)) (p : ℕ × ℕ) → or_later o rest ≡ Some p
+pub either_place : {G : Type 0} (o : Option ℕ) (rest : Option (ℕ × ℕ)) (p : ℕ × ℕ) → or_later o rest ≡ Some p
     → ((i : ℕ) → o ≡ Some i → (0, i) ≡ p → G) → ((q : ℕ × ℕ) → o ≡ None → rest ≡ Some q → next_list q ≡ p → G) → G
 either_place None None p e here later = nowhere e
 either_place None (Some q) p e here later = later q refl refl (some_same (next_list q) p e)
@@ -123,41 +117,11 @@ in_rows_leads id (v ∷ vs) p n e f =
 pub place_leads : (id : Ident) (s : NetState) (p : ℕ × ℕ) (n : Node) → place_of id s ≡ Some p → node_at s p.0 p.1 ≡ Some n → leads id n ≡ true
 place_leads id s p n e f = in_rows_leads id (out-NetState s).items.items p n e f
 
--- ---- where nothing leads there, no item does
-none_list : (id : Ident) (ns : List Node) → place_in id ns ≡ None → Each (λ n. leads id n ≡ false) ns
-none_list id [] e = tt
-none_list id (x ∷ ns) e =
-    by_test (leads id x)
-    (λ t. nowhere (sym (ap (λ b. cond b (Some zero) (option_map suc (place_in id ns))) (sym t) ∙ e)))
-    (λ t. (t, none_list id ns (no_later (place_in id ns) (ap (λ b. cond b (Some zero) (option_map suc (place_in id ns))) (sym t) ∙ e))))
-  where
-    no_later : (o : Option ℕ) → option_map suc o ≡ None → o ≡ None
-    no_later None e = refl
-    no_later (Some j) e = nowhere (sym e)
-
-neither : (o : Option ℕ) (rest : Option (ℕ × ℕ)) → or_later o rest ≡ None → (o ≡ None) × (rest ≡ None)
-neither None None e = (refl, refl)
-neither None (Some q) e = nowhere (sym e)
-neither (Some i) rest e = nowhere (sym e)
-
-none_rows : (id : Ident) (vs : List (Vec Node Global)) → place_among id vs ≡ None → Each (λ n. leads id n ≡ false) (row_nodes vs)
-none_rows id [] e = tt
-none_rows id (v ∷ vs) e =
-    let h = neither (place_in id v.items) (place_among id vs) e in
-    Each-append (λ n. leads id n ≡ false) v.items (row_nodes vs) (none_list id v.items h.0) (none_rows id vs h.1)
-
-pub none_leads : (id : Ident) (s : NetState) → place_of id s ≡ None → Each (λ n. leads id n ≡ false) (nodes s)
-none_leads id s e = none_rows id (out-NetState s).items.items e
-
 -- ---- an item stands at that place
-list_there : (id : Ident) (ns : List Node) (k : ℕ) → place_in id ns ≡ Some k → (n : Node) × (slice_get ns k ≡ Some n)
-list_there id [] k e = nowhere e
-list_there id (x ∷ ns) k e =
-    by_test (leads id x)
-    (λ t.
-    let z : zero ≡ k = some_same zero k (ap (λ b. cond b (Some zero) (option_map suc (place_in id ns))) (sym t) ∙ e) in
-    (x, ap (slice_get (x ∷ ns)) (sym z)))
-    (λ t. later_place (place_in id ns) k (λ j. (n : Node) × (slice_get (x ∷ ns) j ≡ Some n)) (ap (λ b. cond b (Some zero) (option_map suc (place_in id ns))) (sym t) ∙ e) (λ j g. list_there id ns j g))
+pub list_there : (id : Ident) (ns : List Node) (k : ℕ) → place_in id ns ≡ Some k → (n : Node) × (slice_get ns k ≡ Some n)
+list_there id ns k e =
+    let r = the_place id (last_place id ns) k (slice_get ns (last_place id ns)) e in
+    (r.0, ap (slice_get ns) (sym r.3) ∙ r.1)
 
 rows_there : (id : Ident) (vs : List (Vec Node Global)) (p : ℕ × ℕ) → place_among id vs ≡ Some p → (n : Node) × (item_in_row (slice_get vs p.0) p.1 ≡ Some n)
 rows_there id [] p e = nowhere e

@@ -55,7 +55,7 @@ in_table n (x ∷ cs) c e =
     })
 
 -- ---- the order of the numbers
-not_both : (o : Ordering) → is_eq o ≡ true → T (is_lt o) → ⊥
+pub not_both : (o : Ordering) → is_eq o ≡ true → T (is_lt o) → ⊥
 not_both Less e h = never e
 not_both Equal e h = h
 not_both Greater e h = h

@@ -2,7 +2,7 @@
 use Rattle.std.specs.Prelude.{Box, List, None, Option, Some, Vec, [], false, ℕ, ◌++◌, ◌∷◌}
 use Rattle.std.specs.declared.alloc.Global.{Global}
 use Rattle.yw_sites.specs.Entries.{Entries}
-use Rattle.yw_state.specs.State.{ItemPart, NetPart, Site, no_checks}
+use Rattle.yw_state.specs.State.{ItemPart, NetPart, RunPart, Site, no_checks}
 use Rattle.yw_tree.specs.declared.Case.{Case}
 use Rattle.yw_tree.specs.declared.NetState.{NetState, NetState-F, fold-NetState, out-NetState}
 use Rattle.yw_tree.specs.declared.Node.{Node, Node-F, fold-Node, out-Node}
@@ -55,10 +55,14 @@ module _ (names : ℕ → List ℕ) where
   net_step l = (record { spec = names l.spec; net = l.net; vals = l.vals; tokens = l.marks }, join_vecs l.items.items)
 
   abbrev pub node_step : Node-F NetEntries Entries Entries → Entries
-  node_step l = (l.id, record { net = part_of l.net; item = Some (record { task = l.task; stage = l.stage; given = l.given; made = l.made; who = l.who }); run = None; suspended = l.suspended; due = l.due }) ∷ (below_of l.net ++ run_of l.run)
+  node_step l =
+      let item : ItemPart = record { task = l.task; stage = l.stage; given = l.given; made = l.made; who = l.who } in
+      (l.id, record { net = part_of l.net; item = Some item; run = None; suspended = l.suspended; due = l.due }) ∷ (below_of l.net ++ run_of l.run)
 
   abbrev pub run_step : Run-F NetEntries Entries Entries → Entries
-  run_step l = (l.id, record { net = part_of l.net; item = None; run = Some (record { rest = l.rest; waiting = l.waiting }); suspended = false; due = no_checks }) ∷ below_of l.net
+  run_step l =
+      let run : RunPart = record { rest = l.rest; waiting = l.waiting } in
+      (l.id, record { net = part_of l.net; item = None; run = Some run; suspended = false; due = no_checks }) ∷ below_of l.net
 
   abbrev pub net_entries : NetState → NetEntries
   net_entries = fold-NetState NetEntries Entries Entries net_step node_step run_step
@@ -78,10 +82,15 @@ module _ (names : ℕ → List ℕ) where
   net_part_of (Some b) = Some (net_part b.value)
 
   abbrev pub item_site : Node → Site
-  item_site n = let l = out-Node n in record { net = net_part_of l.net; item = Some (item_part_of n); run = None; suspended = l.suspended; due = l.due }
+  item_site n =
+      let l = out-Node n in
+      record { net = net_part_of l.net; item = Some (item_part_of n); run = None; suspended = l.suspended; due = l.due }
 
   abbrev pub run_site : Run → Site
-  run_site r = let l = out-Run r in record { net = net_part_of l.net; item = None; run = Some (record { rest = l.rest; waiting = l.waiting }); suspended = false; due = no_checks }
+  run_site r =
+      let l = out-Run r in
+      let run : RunPart = record { rest = l.rest; waiting = l.waiting } in
+      record { net = net_part_of l.net; item = None; run = Some run; suspended = false; due = no_checks }
 
   abbrev pub case_site : Case → Site
   case_site c = record { net = Some (net_part c.net); item = None; run = None; suspended = c.suspended; due = c.due }

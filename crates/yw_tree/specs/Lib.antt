@@ -8,3 +8,7 @@ pub mod Places
 pub mod Shows
 pub mod Spots
 pub mod Changes
+pub mod Coming
+pub mod Becomes
+pub mod Holding
+pub mod Begins

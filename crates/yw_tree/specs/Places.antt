@@ -1,10 +1,8 @@
 -- What stands at an identity, whether a case, an item or a run, and the net there; and a forest with another in its place.
-use Rattle.std.specs.Prelude.{◌≡◌, ◌||◌, ℕ, Bool, true, false, Option, Some, None, Box, List, is_some, option_and_then, option_map, if◌then◌else◌}
+use Rattle.std.specs.Prelude.{◌≡◌, ◌||◌, ℕ, Bool, false, Option, Some, None, Box, is_some, option_and_then, if◌then◌else◌}
 use Rattle.std.specs.declared.alloc.Global.{Global}
 use Rattle.yw_state.specs.Identity.{Ident, case_number, is_case_ident, parent, same}
-use Rattle.yw_state.specs.State.{Site}
 use Rattle.yw_tree.specs.Cases.{case_at, with_case}
-use Rattle.yw_tree.specs.Entries.{case_site, item_site, run_site}
 use Rattle.yw_tree.specs.Forest.{item_of, placed, placed_item_net, placed_top, top_of}
 use Rattle.yw_tree.specs.Ways.{net_in, net_of_item, place_of, run_in, with_net_in_run, with_run}
 use Rattle.yw_tree.specs.declared.Case.{Case}
@@ -39,6 +37,12 @@ run_at_item f id = option_and_then (run_of_item id) (item_of f (parent id))
 abbrev pub run_of : Forest → Ident → Option Run
 run_of f id = if is_case_ident id then None else (if is_case_ident (parent id) then run_at_case f id else run_at_item f id)
 
+-- the run that hangs at the case or item at an identity
+abbrev pub hung_at : Forest → Ident → Option (Box Run Global)
+hung_at f id =
+    if is_case_ident id then option_and_then (λ (c : Case). c.run) (case_at (case_number id) f.cases) else
+    option_and_then (λ (n : Node). (out-Node n).run) (item_of f id)
+
 abbrev pub case_with_run : Case → Run → Case
 case_with_run c w = record c { run = with_run c.run w }
 
@@ -59,7 +63,8 @@ over_item_run f j w (Some n) = placed f j (item_with_run n w)
 -- the run at an identity is w, and all else is as in f
 abbrev pub placed_run : Forest → Ident → Run → Forest
 placed_run f id w =
-    if is_case_ident (parent id) then over_case_run f (case_number id) w (case_at (case_number id) f.cases) else over_item_run f (parent id) w (item_of f (parent id))
+    if is_case_ident (parent id) then over_case_run f (case_number id) w (case_at (case_number id) f.cases) else
+    over_item_run f (parent id) w (item_of f (parent id))
 
 -- ---- the net at an identity
 

@@ -1,14 +1,15 @@
 -- What a map of the definitions shows of a net, wherever the net stands.
-use Rattle.std.specs.Prelude.{◌≡◌, ℕ, true, Option, Some, None, List, [], ◌++◌, T, Vec, IsTrue, option_and_then, slice_get}
+use Rattle.std.specs.Prelude.{◌≡◌, ◌+◌, ℕ, true, Option, Some, None, List, [], ◌++◌, T, Vec, IsTrue, length, option_and_then, slice_get}
 use Rattle.std.specs.FinMap.Entries.{find}
 use Rattle.std.specs.Ordering.{is_lt}
 use Rattle.std.specs.declared.alloc.Global.{Global}
 use Rattle.yw_sites.specs.Entries.{Entries, NoneUnder}
 use Rattle.yw_sites.specs.Idents.{AreChildren, Each, IsChild}
+use Rattle.yw_state.specs.After.{idents}
 use Rattle.yw_state.specs.Identity.{Ident, is_child, strictly_under}
 use Rattle.yw_state.specs.Map.{get, insert, lexical}
-use Rattle.yw_state.specs.State.{Site, Sites}
-use Rattle.yw_tree.specs.Boxed.{IsBoxedNet, ids}
+use Rattle.yw_state.specs.State.{Site, Sites, State, drop, drop_all, items_of}
+use Rattle.yw_tree.specs.Boxed.{IsBoxedNet, IsNetAt, ids}
 use Rattle.yw_tree.specs.Entries.{item_site, net_entries, net_part}
 use Rattle.yw_tree.specs.declared.NetState.{NetState, out-NetState}
 use Rattle.yw_tree.specs.declared.Node.{Node, out-Node}
@@ -23,6 +24,24 @@ pub record StandsBeside (i : Ident) (js : List Ident) (beside : Entries) : Type 
   pub quiet : (q : Ident) (x : Site) → is_child q i ≡ true → find lexical q beside ≡ Some x → x.item ≡ None
   pub apart : Each (λ j. NoneUnder j beside) js
 
+-- ---- items that go
+
+-- no identity more than those of old stands in new
+abbrev pub NoneMore : NetState → NetState → Type 0
+NoneMore old new = (i : Ident) (js : List Ident) → AreChildren i (ids old ++ js) → AreChildren i (ids new ++ js)
+
+-- Once all items of task t are dropped, a map that showed old shows new.
+abbrev pub LosesTask : NetState → NetState → ℕ → Type 0
+LosesTask old new t =
+    (names : ℕ → List ℕ) (s : State) (i : Ident) (beside : Entries) → IsNetAt i old → StandsBeside i (ids old) beside
+    → ShowsNet names s.sites i beside old → ShowsNet names (drop_all s.sites (idents (items_of s i t))) i beside new
+
+-- Once all under an identity is dropped that is one number longer than the net's, a map that showed old shows new.
+abbrev pub LosesItem : NetState → NetState → Ident → Type 0
+LosesItem old new id =
+    (names : ℕ → List ℕ) (m : Sites) (i : Ident) (beside : Entries) → length id ≡ length i + 1 → IsNetAt i old → StandsBeside i (ids old) beside
+    → ShowsNet names m i beside old → ShowsNet names (drop m id) i beside new
+
 -- ---- one item more
 
 abbrev pub row_or_none : Option (Vec Node Global) → List Node
@@ -33,10 +52,21 @@ row_or_none (Some v) = v.items
 abbrev pub IsLast : NetState → Node → Type 0
 IsLast s n = Each (λ x. T (is_lt (lexical (out-Node x).id (out-Node n).id))) (row_or_none (slice_get (out-NetState s).items.items (out-Node n).task))
 
+-- what may stand directly below i with n beside the items of old and js
+abbrev pub MakesRoom : NetState → NetState → Node → Type 0
+MakesRoom old new n =
+    (i : Ident) (js : List Ident) → AreChildren i (ids old ++ js) → IsChild i (out-Node n).id → Each (λ k. (out-Node n).id ≡ k → ⊥) (ids old ++ js)
+    → AreChildren i (ids new ++ js)
+
+-- Once n's site stands at its identity, where nothing stood, a map that showed old shows new.
+abbrev pub GainsItem : NetState → NetState → Node → Type 0
+GainsItem old new n =
+    (names : ℕ → List ℕ) (m : Sites) (i : Ident) (beside : Entries) → IsTrue (strictly_under (out-Node n).id i) → get m (out-Node n).id ≡ None
+    → ShowsNet names m i beside old → ShowsNet names (insert m (out-Node n).id (item_site names n)) i beside new
+
 -- new is the net old with item n more: it is well boxed, n stands beside the others, and a map that shows old shows new with n's
--- site at its identity, where nothing stood.
+-- site at its identity.
 pub record AddsItem (old new : NetState) (n : Node) : Type 0 where
   pub boxed : IsBoxedNet new
-  pub children : (i : Ident) (js : List Ident) → AreChildren i (ids old ++ js) → IsChild i (out-Node n).id → Each (λ k. (out-Node n).id ≡ k → ⊥) (ids old ++ js) → AreChildren i (ids new ++ js)
-  pub shows : (names : ℕ → List ℕ) (m : Sites) (i : Ident) (beside : Entries) → IsTrue (strictly_under (out-Node n).id i) → get m (out-Node n).id ≡ None → ShowsNet names m i beside old
-      → ShowsNet names (insert m (out-Node n).id (item_site names n)) i beside new
+  pub children : MakesRoom old new n
+  pub shows : GainsItem old new n

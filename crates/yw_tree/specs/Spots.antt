@@ -3,6 +3,7 @@ use Rattle.std.specs.Prelude.{Option, Some, None, option_map, if◌then◌else�
 use Rattle.yw_state.specs.Identity.{Ident, case_number, is_case_ident}
 use Rattle.yw_state.specs.State.{Site}
 use Rattle.yw_tree.specs.Cases.{case_at}
+use Rattle.yw_tree.specs.Entries.{case_site, item_site, run_site}
 use Rattle.yw_tree.specs.Forest.{item_of}
 use Rattle.yw_tree.specs.Places.{run_of}
 use Rattle.yw_tree.specs.declared.Case.{Case}
@@ -31,3 +32,9 @@ item_or_run (Some n) o = Some (an_item n)
 -- what stands at the identity
 abbrev pub part_at : Forest → Ident → Option Part
 part_at f id = if is_case_ident id then option_map a_case (case_at (case_number id) f.cases) else item_or_run (item_of f id) (run_of f id)
+
+-- what the map has of it; specifications have these names
+abbrev pub part_site : (ℕ → List ℕ) → Part → Site
+part_site names (a_case c) = case_site names c
+part_site names (an_item n) = item_site names n
+part_site names (a_run r) = run_site names r

@@ -1,9 +1,11 @@
 -- The way down to an item, box by box.
-use Rattle.std.specs.Prelude.{Bool, Box, List, None, Option, Some, Vec, [], cond, false, if◌then◌else◌, option_and_then, option_map, slice_get, suc, zero, ℕ, ◌∷◌}
+use Rattle.std.specs.Prelude.{Bool, Box, List, None, Option, Some, Vec, [], cond, false, if◌then◌else◌, length, nat_lt, option_and_then, option_map, slice_get, suc, zero, ℕ, ◌+◌, ◌-◌, ◌/◌, ◌∷◌}
+use Rattle.std.specs.Ordering.{is_le}
 use Rattle.std.specs.Vec.{with_item}
 use Rattle.std.specs.declared.alloc.Global.{Global}
 use Rattle.yw_base.specs.Identity.{under}
 use Rattle.yw_state.specs.Identity.{Ident, same}
+use Rattle.yw_state.specs.Map.{lexical}
 use Rattle.yw_tree.specs.declared.Case.{Case}
 use Rattle.yw_tree.specs.declared.NetState.{NetState, out-NetState, roll-NetState}
 use Rattle.yw_tree.specs.declared.Node.{Node, out-Node, roll-Node}
@@ -24,16 +26,36 @@ with_row rows t i w (Some ns) = with_item rows t (with_item ns i w)
 
 -- with w in its place
 abbrev pub with_node : NetState → ℕ → ℕ → Node → NetState
-with_node s t i w = roll-NetState (record (out-NetState s) { items = with_row (out-NetState s).items t i w (slice_get (out-NetState s).items.items t) })
+with_node s t i w =
+    let l = out-NetState s in
+    roll-NetState (record (out-NetState s) { items = with_row l.items t i w (slice_get l.items.items t) })
 
--- ---- the item of a net that leads to an identity: the first whose own is a front of it
+-- ---- the item of a net that leads to an identity, that is, whose own is a front of it. A list ascends, so of each list one item is looked at: the
+-- last that doesn't come after the identity, found by halves
 
 abbrev pub leads : Ident → Node → Bool
 leads id n = under id (out-Node n).id
 
+-- n comes before the identity in the order of identities, or has it
+abbrev pub comes_by : Ident → Option Node → Bool
+comes_by id None = false
+comes_by id (Some n) = is_le (lexical (out-Node n).id id)
+
+-- the place of the last that comes by an identity, of so many items from one place on, in so many steps at most
+abbrev pub last_by : ℕ → Ident → List Node → ℕ → ℕ → ℕ
+last_by zero id ns low size = low
+last_by (suc d) id ns low size =
+    if nat_lt 1 size then last_by d id ns (if comes_by id (slice_get ns (low + size / 2)) then low + size / 2 else low) (size - size / 2) else low
+
+abbrev pub last_place : Ident → List Node → ℕ
+last_place id ns = last_by (length ns) id ns 0 (length ns)
+
+abbrev pub if_leads : Ident → ℕ → Option Node → Option ℕ
+if_leads id k None = None
+if_leads id k (Some n) = if leads id n then Some k else None
+
 abbrev pub place_in : Ident → List Node → Option ℕ
-place_in id [] = None
-place_in id (n ∷ ns) = if leads id n then Some 0 else option_map suc (place_in id ns)
+place_in id ns = if_leads id (last_place id ns) (slice_get ns (last_place id ns))
 
 abbrev pub next_list : ℕ × ℕ → ℕ × ℕ
 next_list p = (suc p.0, p.1)

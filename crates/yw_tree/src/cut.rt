@@ -1,11 +1,10 @@
 //! What goes from a forest, with all under it.
-ghost use Rattle.std.specs.Prelude.{◌≡◌, ℕ, List, ◌≤◌, ◌<◌, length, is_some, IfSome, IsSome, None, false};
+ghost use Rattle.std.specs.Prelude.{◌≡◌, ◌≤◌, ◌<◌, length, is_some, IfSome, IsSome, None, false};
 ghost use Rattle.std.specs.Bool.{OnTrue, OnFalse};
-ghost use Rattle.yw_state.specs.After.{with_sites, without_items};
 ghost use Rattle.yw_state.specs.Identity.{case_ident, case_number, is_case_ident, parent};
-ghost use Rattle.yw_state.specs.State.{State, drop};
+ghost use Rattle.yw_tree.specs.Becomes.{Drops, DropsTask};
 ghost use Rattle.yw_tree.specs.Cases.{case_at};
-ghost use Rattle.yw_tree.specs.Forest.{IsForest, item_of, sites_of};
+ghost use Rattle.yw_tree.specs.Forest.{IsForest};
 ghost use Rattle.yw_tree.specs.Places.{has_run, item_stands, net_at, placed_case, run_at_case, run_at_item, run_of, something_stands};
 ghost use Rattle.yw_tree.specs.declared.NetState.{out-NetState};
 ghost use Rattle.yw_tree.specs.declared.Node.{out-Node};
@@ -21,7 +20,7 @@ use yw_base::Ident;
 fn cut_case(forest: &mut Forest, n: u64) -> bool
     requires { IsForest forest.old }
     ensures stood { result ≡ is_some (case_at n forest.old.cases) }
-    ensures sites { (names : ℕ → List ℕ) → sites_of names forest.new ≡ drop (sites_of names forest.old) (case_ident n) }
+    ensures sites { Drops forest.old forest.new (case_ident n) }
     ensures stays { OnFalse result (forest.new ≡ forest.old) }
     ensures kept { IsForest forest.new }
 {
@@ -59,7 +58,7 @@ fn cut_run_of_case(forest: &mut Forest, id: &[u64]) -> bool
     requires boxed { IsForest forest.old }
     requires long { 1 ≤ length id.now }
     ensures stood { result ≡ is_some (run_at_case forest.old id.now) }
-    ensures sites { run_of forest.old id.now ≡ run_at_case forest.old id.now → OnTrue result ((names : ℕ → List ℕ) → sites_of names forest.new ≡ drop (sites_of names forest.old) id.now) }
+    ensures sites { run_of forest.old id.now ≡ run_at_case forest.old id.now → OnTrue result (Drops forest.old forest.new id.now) }
     ensures kept { run_of forest.old id.now ≡ run_at_case forest.old id.now → IsForest forest.new }
     ensures stays { OnFalse result (forest.new ≡ forest.old) }
 {
@@ -75,7 +74,7 @@ fn cut_run_of_item(forest: &mut Forest, id: &[u64]) -> bool
     requires long { 1 ≤ length id.now }
     requires below { is_case_ident id.now ≡ false }
     ensures stood { result ≡ is_some (run_at_item forest.old id.now) }
-    ensures sites { run_of forest.old id.now ≡ run_at_item forest.old id.now → OnTrue result ((names : ℕ → List ℕ) → sites_of names forest.new ≡ drop (sites_of names forest.old) id.now) }
+    ensures sites { run_of forest.old id.now ≡ run_at_item forest.old id.now → OnTrue result (Drops forest.old forest.new id.now) }
     ensures kept { run_of forest.old id.now ≡ run_at_item forest.old id.now → IsForest forest.new }
     ensures stays { OnFalse result (forest.new ≡ forest.old) }
 {
@@ -91,7 +90,7 @@ fn cut_run(forest: &mut Forest, id: &[u64]) -> bool
     requires long { 1 ≤ length id.now }
     requires below { is_case_ident id.now ≡ false }
     ensures stood { result ≡ is_some (run_of forest.old id.now) }
-    ensures sites { OnTrue result ((names : ℕ → List ℕ) → sites_of names forest.new ≡ drop (sites_of names forest.old) id.now) }
+    ensures sites { OnTrue result (Drops forest.old forest.new id.now) }
     ensures stays { OnFalse result (forest.new ≡ forest.old) }
     ensures kept { IsForest forest.new }
 {
@@ -107,7 +106,7 @@ fn cut_item(forest: &mut Forest, id: &[u64]) -> bool
     requires long { 1 ≤ length id.now }
     requires below { is_case_ident id.now ≡ false }
     ensures stood { result ≡ is_some (item_stands forest.old id.now) }
-    ensures sites { OnTrue result ((names : ℕ → List ℕ) → sites_of names forest.new ≡ drop (sites_of names forest.old) id.now) }
+    ensures sites { OnTrue result (Drops forest.old forest.new id.now) }
     ensures stays { OnFalse result (forest.new ≡ forest.old) }
     ensures kept { IsForest forest.new }
 {
@@ -122,7 +121,7 @@ fn cut_by(forest: &mut Forest, id: &[u64]) -> bool
     requires boxed { IsForest forest.old }
     requires long { 1 ≤ length id.now }
     ensures stood { result ≡ something_stands forest.old id.now }
-    ensures sites { OnTrue result ((names : ℕ → List ℕ) → sites_of names forest.new ≡ drop (sites_of names forest.old) id.now) }
+    ensures sites { OnTrue result (Drops forest.old forest.new id.now) }
     ensures stays { OnFalse result (forest.new ≡ forest.old) }
     ensures kept { IsForest forest.new }
 {
@@ -141,7 +140,7 @@ impl Forest {
     pub fn cut(&mut self, id: &Ident) -> bool
         requires { IsForest self.old }
         ensures stood { result ≡ something_stands self.old id.now }
-        ensures sites { OnTrue result ((names : ℕ → List ℕ) → sites_of names self.new ≡ drop (sites_of names self.old) id.now) }
+        ensures sites { OnTrue result (Drops self.old self.new id.now) }
         ensures stays { OnFalse result (self.new ≡ self.old) }
         ensures kept { IsForest self.new }
     {
@@ -153,7 +152,7 @@ impl Forest {
         requires boxed { IsForest self.old }
         requires stands { IsSome (net_at self.old id.now) }
         requires t_in { IfSome (net_at self.old id.now) (λ net. t < length (out-NetState net).items.items) }
-        ensures sites { (names : ℕ → List ℕ) (s : State) → s.sites ≡ sites_of names self.old → with_sites s (sites_of names self.new) ≡ without_items id.now s t }
+        ensures sites { DropsTask self.old self.new id.now t }
         ensures kept { IsForest self.new }
     {
         if let Some(net) = self.net_mut(id) {

@@ -1,27 +1,53 @@
 //! The way down to an item.
 ghost use Rattle.std.specs.Prelude.{◌≡◌, ℕ, suc, Some, IfSome, IsSome};
 ghost use Rattle.std.specs.Option.{option_copied, option_copied_mut};
+ghost use Rattle.std.specs.Ordering.{is_le};
 ghost use Rattle.std.specs.Borrow.{sem};
+ghost use Rattle.yw_state.specs.Map.{lexical};
+ghost use Rattle.yw_tree.specs.Holding.{held_here, held_in};
 ghost use Rattle.yw_tree.specs.Lending.{LendsInNet, LendsAt, LendsNet, LendsRun, LendsRunNet, LendsInner};
-ghost use Rattle.yw_tree.specs.Ways.{inner_of, item_in, net_in, net_in_run, node_at, place_in, place_of, run_leads};
+ghost use Rattle.yw_tree.specs.Ways.{inner_of, item_in, last_place, net_in, net_in_run, node_at, place_in, place_of, run_leads};
 ghost use Rattle.yw_tree.specs.declared.Node.{out-Node};
 ghost use Rattle.yw_tree.specs.declared.Run.{out-Run};
 
 use crate::{NetState, Node, Run};
 
-/// The place in a list of the first item that leads to an identity.
+/// Whether an item comes before an identity in their order, or has it.
+fn comes_by(node: &Node, id: &[u64]) -> bool
+    ensures { result ≡ is_le (lexical (out-Node node.now).id id.now) }
+{
+    node.id.numbers().cmp(id).is_le()
+}
+
+/// The place of the last of the items of a list that comes by an identity, found by halves, as they ascend.
+fn last_place(list: &Vec<Node>, id: &[u64]) -> usize
+    ensures { result ≡ last_place id.now list.now.items }
+{
+    let mut low = 0;
+    let mut size = list.len();
+    while size > 1 {
+        let half = size / 2;
+        if comes_by(&list[low + half], id) {
+            low += half;
+        }
+        size -= half;
+    }
+    low
+}
+
+/// The place in a list of the item that leads to an identity.
 fn place_in(list: &Vec<Node>, id: &[u64]) -> Option<usize>
     ensures { result ≡ place_in id.now list.now.items }
 {
-    for (i, node) in list.iter().enumerate() {
-        if id.starts_with(node.id.numbers()) {
-            return Some(i);
-        }
+    let i = last_place(list, id);
+    let node = list.get(i)?;
+    if id.starts_with(node.id.numbers()) {
+        return Some(i);
     }
     None
 }
 
-/// The place of the first item that leads to an identity.
+/// The place of the item that leads to an identity.
 pub fn place(net: &NetState, id: &[u64]) -> Option<(usize, usize)>
     ensures { result ≡ place_of id.now net.now }
 {
@@ -126,6 +152,14 @@ pub fn inner_of_run(run: &Option<Box<Run>>) -> Option<&NetState>
     }
 }
 
+/// Whether work below an item is held on the way to an identity, by what is suspended above it too.
+fn held_here(node: &Node, id: &[u64], above: bool) -> bool
+    ensures { result ≡ held_here id.now above node.now }
+{
+    !leads_to_run(node, id) && (above || node.suspended)
+}
+
+/// The net below an item on the way to an identity: its own, or that of its run.
 fn inner<'a>(node: &'a Node, id: &[u64]) -> Option<&'a NetState>
     ensures { option_copied result ≡ inner_of id.now node.now }
 {
@@ -145,6 +179,10 @@ pub trait Descent {
 
     fn item_of<'a>(net: &'a NetState, id: &[u64]) -> Option<&'a Node>
         ensures { option_copied result ≡ item_in room id.now net.now };
+
+    /// Whether work at an identity below the net is held, by what is suspended above the net too.
+    fn held_in(net: &NetState, id: &[u64], above: bool) -> bool
+        ensures { result ≡ held_in room id.now net.now above };
 }
 
 /// No level.
@@ -159,6 +197,10 @@ impl Descent for Bottom {
 
     fn item_of<'a>(_net: &'a NetState, _id: &[u64]) -> Option<&'a Node> {
         None
+    }
+
+    fn held_in(_net: &NetState, _id: &[u64], above: bool) -> bool {
+        above
     }
 }
 
@@ -188,5 +230,17 @@ impl<D: Descent> Descent for Below<D> {
         }
         let inner = inner(node, id)?;
         D::item_of(inner, id)
+    }
+
+    fn held_in(net: &NetState, id: &[u64], above: bool) -> bool {
+        let Some((t, i)) = place(net, id) else {
+            return above;
+        };
+        let node = node_here(net, t, i);
+        let held = held_here(node, id, above);
+        match inner(node, id) {
+            Some(inner) => D::held_in(inner, id, held),
+            None => held,
+        }
     }
 }

@@ -2,9 +2,9 @@
 ghost use Rattle.std.specs.Prelude.{◌≡◌, ℕ, List, ◌≤◌, length, option_map};
 ghost use Rattle.std.specs.Option.{option_copied};
 ghost use Rattle.yw_tree.specs.Cases.{case_at};
-ghost use Rattle.yw_state.specs.Map.{empty};
+ghost use Rattle.yw_state.specs.Map.{empty, get};
 ghost use Rattle.yw_tree.specs.Forest.{IsForest, item_of, levels, sites_of, top_of};
-ghost use Rattle.yw_tree.specs.Spots.{a_case, a_run, part_at, part_of};
+ghost use Rattle.yw_tree.specs.Spots.{a_case, a_run, part_at, part_of, part_site};
 ghost use Rattle.yw_tree.specs.Places.{has_run, net_at, net_of_run, run_at, run_of};
 ghost use Rattle.yw_tree.specs.Ways.{case_inner, item_in, net_in, net_of_item};
 ghost use Rattle.yw_tree.specs.declared.Node.{out-Node};
@@ -37,7 +37,7 @@ fn run_here<'a>(run: &'a Option<Box<Run>>, id: &[u64]) -> Option<&'a Run>
 }
 
 /// The net of a case on the way to an identity: its own, or that of its run.
-fn inner_of_case<'a>(case: &'a Case, id: &[u64]) -> Option<&'a NetState>
+pub fn inner_of_case<'a>(case: &'a Case, id: &[u64]) -> Option<&'a NetState>
     ensures { option_copied result ≡ case_inner id.now case.now }
 {
     if case_leads_to_run(case, id) {
@@ -173,7 +173,9 @@ impl Forest {
 
     /// The case, the item or the run at an identity, or `None` where there is none. It takes no memory.
     pub fn find(&self, id: &Ident) -> Option<Spot<'_>>
-        ensures { option_map part_of result ≡ part_at self.now id.now }
+        ensures found { option_map part_of result ≡ part_at self.now id.now }
+        ensures site { (names : ℕ → List ℕ) → IsForest self.now
+            → get (sites_of names self.now) id.now ≡ option_map (part_site names) (option_map part_of result) }
     {
         find_by(self, id.numbers())
     }

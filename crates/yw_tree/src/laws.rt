@@ -5,23 +5,24 @@ ghost use Rattle.yw_base.specs.Identity.{is_identity};
 ghost use Rattle.yw_state.specs.Identity.{Ident};
 ghost use Rattle.yw_state.specs.Map.{update};
 ghost use Rattle.yw_state.specs.State.{Site, Sites};
-ghost use Rattle.yw_tree.specs.Changes.{ChangesNet};
+ghost use Rattle.yw_tree.specs.Changes.{ChangesItem, ChangesNet};
 ghost use Rattle.yw_tree.specs.Entries.{item_site};
-ghost use Rattle.yw_tree.specs.Forest.{IsForest, item_of, placed, sites_of};
-ghost use Rattle.yw_tree.specs.Places.{Keeps, net_at, placed_net};
+ghost use Rattle.yw_tree.specs.Forest.{IsForest, placed, sites_of};
+ghost use Rattle.yw_tree.specs.Places.{net_at, placed_net};
 ghost use Rattle.yw_tree.specs.declared.Forest.{Forest};
 ghost use Rattle.yw_tree.specs.declared.NetState.{NetState};
 ghost use Rattle.yw_tree.specs.declared.Node.{Node};
 
 /// Where an item keeps its identity, its task, its net and its run, the map changes at its identity alone.
 pub fn item_changes()
-    ensures site { (names : ℕ → List ℕ) (f : Forest) (id : Ident) (old w : Node) (h : Site → Site) → IsForest f → is_identity id ≡ true → item_of f id ≡ Some old → Keeps old w
+    ensures site { (names : ℕ → List ℕ) (f : Forest) (id : Ident) (old w : Node) (h : Site → Site) → ChangesItem f id old w
         → item_site names w ≡ h (item_site names old) → sites_of names (placed f id w) ≡ update (sites_of names f) id h }
-    ensures kept { (f : Forest) (id : Ident) (old w : Node) → IsForest f → is_identity id ≡ true → item_of f id ≡ Some old → Keeps old w → IsForest (placed f id w) }
+    ensures kept { (f : Forest) (id : Ident) (old w : Node) → ChangesItem f id old w → IsForest (placed f id w) }
 {}
 
 /// Where a net changes and no item comes, the forest's map is each that shows the new net (`ChangesNet`).
 pub fn net_changes()
-    ensures { (names : ℕ → List ℕ) (f : Forest) (id : Ident) (s w : NetState) (m : Sites) → IsForest f → is_identity id ≡ true → net_at f id ≡ Some s
-        → ChangesNet names f id s w m → (sites_of names (placed_net f id w) ≡ m) × IsForest (placed_net f id w) }
+    ensures { (names : ℕ → List ℕ) (f : Forest) (id : Ident) (s w : NetState) (m : Sites)
+        → IsForest f → is_identity id ≡ true → net_at f id ≡ Some s → ChangesNet names f id s w m
+        → (sites_of names (placed_net f id w) ≡ m) × IsForest (placed_net f id w) }
 {}

@@ -61,17 +61,18 @@ pub struct Forest {
     pub cases: CaseTable,
 }
 
+mod bare;
+mod begin;
 mod cases;
 mod cut;
 mod descend;
 mod find;
 mod grow;
+mod hold;
 pub mod laws;
 mod nets;
 mod numbers;
 mod parts;
-#[cfg(test)]
-mod tests;
 
 pub use cases::CaseTable;
 pub use find::Spot;

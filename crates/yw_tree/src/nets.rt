@@ -1,17 +1,12 @@
-//! Items of a net that go.
-ghost use Rattle.std.specs.Prelude.{◌≡◌, ℕ, List, ◌+◌, ◌<◌, ◌≤◌, ◌++◌, length, map, is_some, true, None, OnOk};
+//! Items of a net that go and that come, and the nets of cases and items.
+ghost use Rattle.std.specs.Prelude.{◌≡◌, ◌<◌, ◌≤◌, length, is_some, None, OnOk};
 ghost use Rattle.std.specs.Bool.{OnTrue, OnFalse};
 ghost use Rattle.std.specs.Borrow.{sem};
 ghost use Rattle.std.specs.Option.{option_copied_mut};
-ghost use Rattle.yw_base.specs.Identity.{is_identity};
-ghost use Rattle.yw_state.specs.Identity.{case_ident, is_child};
-ghost use Rattle.yw_state.specs.State.{Sites, State, drop, drop_all, items_of};
-ghost use Rattle.yw_sites.specs.Idents.{AreChildren};
-ghost use Rattle.yw_tree.specs.Boxed.{IsBoxedNet, IsNetAt, ids};
-ghost use Rattle.yw_sites.specs.Entries.{Entries};
-ghost use Rattle.yw_tree.specs.Forest.{IsForest, item_of, sites_of, top_of};
+ghost use Rattle.yw_tree.specs.Boxed.{IsBoxedNet};
+ghost use Rattle.yw_tree.specs.Forest.{item_of, top_of};
 ghost use Rattle.yw_tree.specs.Lending.{LendsItemNet, LendsTop};
-ghost use Rattle.yw_tree.specs.Shows.{AddsItem, IsLast, ShowsNet, StandsBeside};
+ghost use Rattle.yw_tree.specs.Shows.{AddsItem, IsLast, LosesItem, LosesTask, NoneMore};
 ghost use Rattle.yw_tree.specs.Ways.{net_of_item, place_of};
 ghost use Rattle.yw_tree.specs.declared.NetState.{out-NetState};
 ghost use Rattle.yw_tree.specs.declared.Node.{out-Node};
@@ -27,8 +22,8 @@ pub fn clear_task(net: &mut NetState, t: usize)
     requires boxed { IsBoxedNet net.old }
     requires t_in { t < length (out-NetState net.old).items.items }
     ensures boxed { IsBoxedNet net.new }
-    ensures children { (i : List ℕ) (js : List (List ℕ)) → AreChildren i (ids net.old ++ js) → AreChildren i (ids net.new ++ js) }
-    ensures shows { (names : ℕ → List ℕ) (s : State) (i : List ℕ) (beside : Entries) → IsNetAt i net.old → StandsBeside i (ids net.old) beside → ShowsNet names s.sites i beside net.old → ShowsNet names (drop_all s.sites (map (λ e. e.0) (items_of s i t))) i beside net.new }
+    ensures children { NoneMore net.old net.new }
+    ensures shows { LosesTask net.old net.new t }
 {
     net.items[t].clear();
 }
@@ -56,8 +51,8 @@ pub fn top_mut(forest: &mut Forest, n: u64) -> Option<&mut NetState>
 pub fn remove_item(net: &mut NetState, id: &[u64]) -> bool
     requires boxed { IsBoxedNet net.old }
     ensures boxed { IsBoxedNet net.new }
-    ensures children { (i : List ℕ) (js : List (List ℕ)) → AreChildren i (ids net.old ++ js) → AreChildren i (ids net.new ++ js) }
-    ensures shows { OnTrue result ((names : ℕ → List ℕ) (m : Sites) (i : List ℕ) (beside : Entries) → length id.now ≡ length i + 1 → IsNetAt i net.old → StandsBeside i (ids net.old) beside → ShowsNet names m i beside net.old → ShowsNet names (drop m id.now) i beside net.new) }
+    ensures children { NoneMore net.old net.new }
+    ensures shows { OnTrue result (LosesItem net.old net.new id.now) }
     ensures stays { OnFalse result (net.new ≡ net.old) }
     ensures stood { result ≡ is_some (place_of id.now net.old) }
 {

@@ -1,4 +1,4 @@
-use Rattle.std.proofs.Common.{◌≡◌, [], None, sym, ap, subst, ◌∙◌}
+use Rattle.std.proofs.Common.{◌≡◌, None, sym, ap, subst, ◌∙◌}
 use Rattle.yw_state.specs.Identity.{case_ident, case_number}
 use Rattle.yw_tree.specs.Cases.{case_at}
 use Rattle.yw_tree.specs.Forest.{IsForest}
@@ -28,7 +28,7 @@ returns-clause-begins c =
     let number : n ≡ case_number case.id = c.case_number-number.ensures ∙ ap case_number c.numbers.ensures.numbers in
     let at : case.id ≡ case_ident n = sym (ap case_ident number ∙ case_ident_is case.id c.requires.alone) in
     let fresh : case_at n f.cases ≡ None = ap (λ k. case_at k f.cases) number ∙ c.requires.fresh in
-    on_ok c.insert.result _ _ c.insert.ensures.ok (λ is names no_item no_run. alone_gained f g n case c.requires.boxed c.requires.well at fresh is names no_item no_run)
+    on_ok c.insert.result _ _ c.insert.ensures.ok (λ is no_item no_run names. alone_gained f g n case c.requires.boxed c.requires.well at fresh is names no_item no_run)
 
 pub returns-clause-kept : goal.returns-clause-kept
 returns-clause-kept c =

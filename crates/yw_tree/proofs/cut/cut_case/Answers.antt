@@ -1,7 +1,6 @@
-use Rattle.std.proofs.Common.{◌≡◌, [], None, false, sym, ap, ◌∙◌}
+use Rattle.std.proofs.Common.{◌≡◌, [], None, sym, ◌∙◌}
 use Rattle.yw_sites.proofs.OnTests.{not_there, on_false}
 use Rattle.yw_tree.specs.Cases.{case_at}
-use Rattle.yw_tree.specs.declared.Forest.{Forest}
 use Rattle.yw_tree.proofs.Lift.{case_cut, none_at}
 use Rattle.yw_tree.proofs.cut.cut_case.Goals as goal
 

@@ -1,4 +1,4 @@
-use Rattle.std.proofs.Common.{◌≡◌, ◌≤◌, ℕ, List, [], ◌∷◌, Some, true, false, length, subst, sym, ap, ◌∙◌}
+use Rattle.std.proofs.Common.{◌≡◌, ℕ, List, [], ◌∷◌, Some, true, false, subst, sym, ap, ◌∙◌}
 use Rattle.yw_sites.proofs.OnTests.{of_false, of_true, on_false, on_true}
 use Rattle.yw_sites.proofs.Prefix.{child_length}
 use Rattle.yw_state.specs.Identity.{parent}

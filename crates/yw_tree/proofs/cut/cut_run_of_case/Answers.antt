@@ -2,12 +2,10 @@ use Rattle.std.proofs.Common.{◌≡◌, ℕ, List, [], None, Some, true, false,
 use Rattle.std.specs.Prelude.{option_and_then}
 use Rattle.yw_sites.proofs.OnTests.{of_false, of_true, on_false, on_true}
 use Rattle.yw_state.specs.Identity.{case_number}
-use Rattle.yw_state.specs.State.{drop}
 use Rattle.yw_state.proofs.Tests.{by_test}
 use Rattle.yw_tree.specs.Cases.{case_at, with_case}
 use Rattle.yw_tree.specs.Forest.{IsForest, sites_of}
-use Rattle.yw_tree.specs.Places.{has_run, placed_case, run_of_case}
-use Rattle.yw_tree.specs.declared.Case.{Case}
+use Rattle.yw_tree.specs.Places.{placed_case, run_of_case}
 use Rattle.yw_tree.specs.declared.Forest.{Forest}
 use Rattle.yw_tree.proofs.RunBack.{hung_there}
 use Rattle.yw_tree.proofs.RunCut.{run_cut_from_case}

@@ -5,7 +5,7 @@ use Rattle.yw_state.specs.Identity.{parent}
 use Rattle.yw_state.proofs.Tests.{by_test}
 use Rattle.yw_tree.specs.Forest.{IsForest, item_of, placed, sites_of}
 use Rattle.yw_tree.specs.Places.{run_of_item}
-use Rattle.yw_tree.specs.declared.Node.{Node, out-Node, roll-Node, roll-out-Node}
+use Rattle.yw_tree.specs.declared.Node.{out-Node, roll-Node, roll-out-Node}
 use Rattle.yw_tree.proofs.Parents.{parent_there}
 use Rattle.yw_tree.proofs.PutBack.{put_back}
 use Rattle.yw_tree.proofs.RunBack.{hung_there}

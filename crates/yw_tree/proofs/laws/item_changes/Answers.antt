@@ -1,10 +1,9 @@
-use Rattle.std.proofs.Common.{[]}
 use Rattle.yw_tree.proofs.ForestLaw.{identity_in_case}
 use Rattle.yw_tree.proofs.OwnChange.{own_changed}
 use Rattle.yw_tree.proofs.laws.item_changes.Goals as goal
 
 pub returns-clause-site : goal.returns-clause-site
-returns-clause-site c = λ names f id old w h b i e k own. (own_changed f id old w b (identity_in_case id i) e k).0 names h own
+returns-clause-site c = λ names f id old w h k own. (own_changed f id old w k.boxed (identity_in_case id k.identity) k.found k.keeps).0 names h own
 
 pub returns-clause-kept : goal.returns-clause-kept
-returns-clause-kept c = λ f id old w b i e k. (own_changed f id old w b (identity_in_case id i) e k).1
+returns-clause-kept c = λ f id old w k. (own_changed f id old w k.boxed (identity_in_case id k.identity) k.found k.keeps).1

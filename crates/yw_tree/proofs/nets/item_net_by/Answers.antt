@@ -1,8 +1,7 @@
-use Rattle.std.proofs.Common.{◌≡◌, Some, Option, sym, ap, ◌∙◌}
+use Rattle.std.proofs.Common.{◌≡◌, Some, sym, ap, ◌∙◌}
 use Rattle.std.specs.Option.{ghost_name_of}
 use Rattle.yw_tree.specs.Forest.{item_of, placed_part}
 use Rattle.yw_tree.specs.Ways.{net_of_item}
-use Rattle.yw_tree.specs.declared.Node.{Node}
 use Rattle.yw_tree.proofs.PutBack.{put_back}
 use Rattle.yw_tree.proofs.Same.{same_loan}
 use Rattle.yw_tree.proofs.nets.item_net_by.Goals as goal

@@ -1,4 +1,4 @@
-use Rattle.std.proofs.Common.{◌≡◌, ◌-◌, take, length, sym, arith}
+use Rattle.std.proofs.Common.{◌≡◌, ◌-◌, take, length, arith}
 use Rattle.std.proofs.lemmas.Grind.{common_steps}
 use Rattle.yw_state.specs.Identity.{parent}
 use Rattle.yw_tree.proofs.Parents.{parent_is}

@@ -1,9 +1,9 @@
-use Rattle.std.proofs.Common.{◌≡◌, ◌≤◌, ℕ, List, [], ◌∷◌, length, None, Some, refl, sym, ap, ◌∙◌, inr, arith}
-use Rattle.std.specs.Prelude.{slice_index_or, option_and_then}
+use Rattle.std.proofs.Common.{◌≡◌, None, Some, refl, sym, ap, ◌∙◌, inr}
+use Rattle.std.specs.Prelude.{option_and_then}
 use Rattle.std.specs.Option.{ghost_name_of}
 use Rattle.yw_state.specs.Identity.{case_number}
 use Rattle.yw_tree.specs.Cases.{case_at, with_case}
-use Rattle.yw_tree.specs.Forest.{item_of, item_of_case, levels, over_case_inner, placed, placed_at}
+use Rattle.yw_tree.specs.Forest.{item_of, item_of_case, levels, over_case_inner, placed_at}
 use Rattle.yw_tree.specs.Ways.{case_inner, item_in, placed_in, with_case_inner}
 use Rattle.yw_tree.specs.declared.Case.{Case}
 use Rattle.yw_tree.specs.declared.Forest.{Forest}
