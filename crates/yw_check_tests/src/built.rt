@@ -1,10 +1,10 @@
 // Documents, and the nets that are built of them, written out.
-use super::documents::{loan, rich, seq};
 use std::alloc::{AllocError, Global};
 use std::fmt::Debug;
 use std::test::Fail;
 use yw_base::{Name, Text, Value};
 use yw_check::check;
+use yw_documents::{loan, rich, seq};
 use yw_read::{ReadFault, read_spec};
 use yw_spec::{Branch, Many, Net, Param, Place, Spec, Task, Var};
 

@@ -9,8 +9,6 @@ mod answers;
 #[cfg(test)]
 mod built;
 #[cfg(test)]
-mod documents;
-#[cfg(test)]
 mod graph;
 #[cfg(test)]
 mod names;

@@ -1,8 +1,8 @@
 // Names, flows and removals.
 use super::answers::{Check, finds, joined};
-use super::documents::{loan, seq};
 use std::alloc::Global;
 use std::test::Fail;
+use yw_documents::{loan, seq};
 use yw_read::ReadFault;
 
 fn fits(alloc: Global, document: &str) -> Result<bool, ReadFault> {

@@ -1,8 +1,8 @@
 // All checks together.
 use super::answers::{is_checked, joined};
-use super::documents::{deep, loan, remind, seq};
 use std::alloc::{AllocError, Global};
 use std::test::Fail;
+use yw_documents::{deep, loan, remind, seq};
 use yw_read::ReadFault;
 
 #[test]

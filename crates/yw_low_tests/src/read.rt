@@ -2,11 +2,12 @@
 mod documents;
 mod faults;
 
-use documents::{each_key, loan, seq};
+use documents::each_key;
 use std::alloc::{AllocError, Global};
 use std::fmt::Debug;
 use std::test::Fail;
 use yw_base::{Sort, Text, TextList, Value};
+use yw_documents::{loan, seq};
 use yw_read::{RawNet, RawSpec, RawTask, RawVar, ReadFault, read_spec};
 
 fn add(out: &mut String, text: &Text) -> Result<(), AllocError> {

@@ -4,8 +4,6 @@
 
 mod join;
 mod split;
-#[cfg(test)]
-mod tests;
 mod token;
 
 pub use join::{Taken, is_any_marked, join_choice, take};

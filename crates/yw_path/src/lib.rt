@@ -7,8 +7,6 @@ mod closure;
 mod direct;
 pub mod law;
 mod places;
-#[cfg(test)]
-mod tests;
 mod upstream;
 mod within;
 

@@ -4,8 +4,6 @@
 mod finding;
 mod input;
 mod line;
-#[cfg(test)]
-mod tests;
 mod verdict;
 
 pub use verdict::{Verdict, judge_input};

@@ -14,6 +14,3 @@ mod values;
 pub use fault::WireFault;
 pub use read::read_command;
 pub use reply::{reply_done, reply_refused, value_line};
-
-#[cfg(test)]
-mod tests;

@@ -1,8 +1,9 @@
 // Faults and their paths.
-use super::documents::{Line, each_key, loan, seq};
+use super::documents::{Line, each_key};
 use super::with_var;
 use std::alloc::{AllocError, Global};
 use std::test::Fail;
+use yw_documents::{loan, seq};
 use yw_read::{ReadFault, read_spec};
 
 /// The text has the fault of its shape at this path.

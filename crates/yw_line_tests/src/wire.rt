@@ -7,10 +7,10 @@ mod rules;
 mod shown;
 mod words;
 
-use crate::{WireFault, read_command};
 use shown::shown;
 use std::alloc::{AllocError, Global};
 use yw_lines::Word;
+use yw_wire::{WireFault, read_command};
 
 /// A line, and what it asks or the name of its fault.
 type Row = (&'static str, &'static str);

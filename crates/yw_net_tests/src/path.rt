@@ -1,9 +1,9 @@
 // What no clause says: that calls succeed, and that the definitions mean what is wanted.
 
-use crate::{Upstream, has_its_places};
 use std::alloc::Global;
 use std::test::Fail;
 use yw_base::{Gate, Items, Name};
+use yw_path::{Upstream, has_its_places};
 use yw_spec::{IndexList, Kind, Net, Place, Task};
 
 fn numbers(alloc: Global, list: &[usize]) -> Result<IndexList, Fail> {

@@ -1,9 +1,9 @@
 // Which lines are read, by the words that are built, and which fault comes first.
 use super::{Row, answers, asks};
-use crate::WireFault;
 use std::alloc::{AllocError, Global};
 use yw_lines::Word;
 use yw_state::Rule;
+use yw_wire::WireFault;
 
 fn lines() -> &'static [Row] {
     &LINES

@@ -1,11 +1,10 @@
 // The lines that are said.
-use crate::steps::put_step;
-use crate::{reply_done, reply_refused, value_line};
 use serde_json::Value as JsonValue;
 use std::alloc::{AllocError, Global};
 use yw_base::{Bytes, Ident, IdentFault, Name, NameFault, NameList, Text, Value};
 use yw_spec::{Place, PlaceList};
 use yw_state::{Event, EventList, Primitive, Refusal, Rule, TreeKind};
+use yw_wire::{reply_done, reply_refused, value_line};
 
 /// A line's number, its rule and place, and the reply without its newline.
 type Refused = (u64, Rule, &'static str, &'static str);
@@ -240,16 +239,23 @@ fn substitute(alloc: Global) -> Result<Event, AllocError> {
     Ok(Event::Substitute { item, worklet })
 }
 
-fn text_of(alloc: Global, event: &Event) -> Result<String, AllocError> {
-    let mut text = String::from_str(alloc, "what stood here")?;
-    put_step(&mut text, event)?;
-    Ok(text)
+/// The reply to a line whose one event is this.
+fn reply_of(alloc: Global, event: Result<Event, AllocError>) -> Result<Bytes, AllocError> {
+    let mut events = EventList::new(alloc);
+    events.push(event?)?;
+    reply_done(alloc, 1, &events, true)
+}
+
+/// What a reply shows of its one event.
+fn shown_in(line: &[u8]) -> Option<&[u8]> {
+    line.strip_prefix(br#"{"n":1,"ok":true,"quiet":true,"steps":[""#)?
+        .strip_suffix(b"\"]}\n")
 }
 
 /// The event is shown so.
 fn shows(alloc: Global, event: Result<Event, AllocError>, want: &str) -> bool {
-    match event {
-        Ok(event) => matches!(text_of(alloc, &event), Ok(text) if text.as_str() == want),
+    match reply_of(alloc, event) {
+        Ok(line) => shown_in(line.as_slice()) == Some(want.as_bytes()),
         Err(AllocError) => false,
     }
 }

@@ -1,11 +1,11 @@
 // What no clause says: that calls succeed, and that the definitions mean what is wanted.
 ghost use Rattle.std.specs.Prelude.{◌≡◌, IfOk, length};
 
-use crate::{Taken, TokenLimit, join_choice, put, split_places, take};
 use std::alloc::Global;
 use std::test::Fail;
 use yw_base::{Gate, Items, Name, Sort, Value};
 use yw_expr::{Bindings, Expr, Scope, parse};
+use yw_mark::{Taken, TokenLimit, join_choice, put, split_places, take};
 use yw_spec::{Branch, BranchList, IndexList, Kind, Net, Task};
 use yw_state::Marks;
 

@@ -1,10 +1,44 @@
 // What no clause says: that a call can succeed, what the lines look like, and that the definitions mean what is wanted.
-mod documents;
-
-use crate::{Verdict, judge_input};
-use documents::{loan, seq, seq_with_condition, without_top};
 use std::alloc::{AllocError, Global};
+use yw_documents::{loan, seq};
 use yw_outside::{Fill, Image, MemDesk, MemSource, NeverDesk, NeverSource};
+use yw_verdict::{Verdict, judge_input};
+
+/// The same with a condition on no path.
+fn seq_with_condition() -> &'static str {
+    SEQ_WITH_CONDITION
+}
+
+const SEQ_WITH_CONDITION: &str = r#"name = "seq"
+top = "main"
+[[net]]
+name = "main"
+input = "i"
+output = "o"
+conditions = ["x"]
+flows = [["i","a"],["a","b"],["b","o"]]
+[[net.task]]
+name = "a"
+[[net.task]]
+name = "b"
+"#;
+
+/// A net that no `top` names.
+fn without_top() -> &'static str {
+    WITHOUT_TOP
+}
+
+const WITHOUT_TOP: &str = r#"name = "seq"
+[[net]]
+name = "main"
+input = "i"
+output = "o"
+flows = [["i","a"],["a","b"],["b","o"]]
+[[net.task]]
+name = "a"
+[[net.task]]
+name = "b"
+"#;
 
 const TOO_LONG: &str = "{\"at\":\"\",\"ok\":false,\"rule\":\"LineTooLong\"}\n";
 

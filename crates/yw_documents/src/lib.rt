@@ -1,8 +1,34 @@
-// Whole specifications.
+//! Worked specifications as TOML texts, for tests. The calls that give them out promise nothing, so that no proof of a test holds their
+//! letters. The loan, the net of depth one and the reminder are our own.
+#![tactic(auto)]
 
-/// Two tasks one after the other.
-pub(super) fn seq() -> &'static str {
-    r#"name = "seq"
+/// Two tasks, one after the other.
+pub fn seq() -> &'static str {
+    SEQ
+}
+
+/// A net with one variable and one task for an officer.
+pub fn deep() -> &'static str {
+    DEEP
+}
+
+/// A net with one task for a clerk.
+pub fn remind() -> &'static str {
+    REMIND
+}
+
+/// A loan that a board votes on: two nets, a split, and a task of several items.
+pub fn loan() -> &'static str {
+    LOAN
+}
+
+/// Two nets, the lower one first, with conditions, removals, values of each sort, branches in another order than flows, and tasks of several
+/// items with and without bounds.
+pub fn rich() -> &'static str {
+    RICH
+}
+
+const SEQ: &str = r#"name = "seq"
 top = "main"
 [[net]]
 name = "main"
@@ -13,12 +39,9 @@ flows = [["i","a"],["a","b"],["b","o"]]
 name = "a"
 [[net.task]]
 name = "b"
-"#
-}
+"#;
 
-/// A net with one variable and one task for an officer.
-pub(super) fn deep() -> &'static str {
-    r#"name = "deep"
+const DEEP: &str = r#"name = "deep"
 top = "main"
 [[net]]
 name = "main"
@@ -29,12 +52,9 @@ flows = [["i","visit"],["visit","o"]]
 [[net.task]]
 name = "visit"
 role = "officer"
-"#
-}
+"#;
 
-/// A net with one task for a clerk.
-pub(super) fn remind() -> &'static str {
-    r#"name = "remind"
+const REMIND: &str = r#"name = "remind"
 top = "main"
 [[net]]
 name = "main"
@@ -44,13 +64,9 @@ flows = [["i","call"],["call","o"]]
 [[net.task]]
 name = "call"
 role = "clerk"
-"#
-}
+"#;
 
-/// A loan: two nets, with a split and a task of several items.
-pub(super) fn loan() -> &'static str {
-    r#"
-name = "loan"
+const LOAN: &str = r#"name = "loan"
 top = "main"
 [[net]]
 name = "main"
@@ -99,14 +115,9 @@ item = "reviewer"
 min = 2
 max = 5
 threshold = 2
-"#
-}
+"#;
 
-/// Two nets, the lower one first, with conditions, removals, values of each sort, branches in another order
-/// than flows, and tasks of several items with and without bounds.
-pub(super) fn rich() -> &'static str {
-    r#"
-name = "rich"
+const RICH: &str = r#"name = "rich"
 top = "main"
 [[net]]
 name = "child"
@@ -151,5 +162,4 @@ name = "e"
 kind = "empty"
 join = "xor"
 remove = ["b->e","a","c","b","a->b"]
-"#
-}
+"#;
