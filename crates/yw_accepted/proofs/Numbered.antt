@@ -25,7 +25,7 @@ pub has_called : {A : Type 0} (name : A → List ℕ) (xs : List A) (k : ℕ) (n
 has_called name xs k n e = let (x, at, is) = map_some name (slice_get xs k) n e in has_it xs k x at
 
 -- what is made of a list has its numbers
-same_length : {A B : Type 0} (R : A → B → Type 0) (xs : List A) (ys : List B) → AllZip R xs ys → length ys ≡ length xs
+pub same_length : {A B : Type 0} (R : A → B → Type 0) (xs : List A) (ys : List B) → AllZip R xs ys → length ys ≡ length xs
 same_length R [] [] zip = refl
 same_length R [] (y ∷ ys) zip = absurd zip
 same_length R (x ∷ xs) [] zip = absurd zip

@@ -1,15 +1,18 @@
 -- A specification in which the checks find nothing is within.
-use Rattle.std.specs.Prelude.{◌≡◌, ℕ, true, not, List, [], ◌∷◌, map, filter, Option, Some, None, get_or, is_some, option_and_then, option_map, slice_get, refl}
+use Rattle.std.specs.Prelude.{◌≡◌, ◌≤◌, ℕ, true, not, List, [], ◌∷◌, map, filter, length, Option, Some, None, get_or, is_some, option_and_then, option_map, slice_get, refl}
 use Rattle.std.specs.List.{All, AllZip, list_all}
-use Rattle.std.proofs.Common.{sym, ◌∙◌, ap, subst}
+use Rattle.std.proofs.Common.{sym, ◌∙◌, ap, subst, arith}
+use Rattle.std.proofs.lemmas.Bool.{and_parts, leb-true}
+use Rattle.std.proofs.lemmas.List.{length-append, length-map}
 use Rattle.std.proofs.lemmas.Option.{slice_get-map}
 use Rattle.yw_accept.proofs.Among.{among_right, usable_among}
-use Rattle.yw_accept.proofs.FactsLemmas.{is_named, nets_lead}
+use Rattle.yw_accept.proofs.FactsLemmas.{is_named, nets_lead, order_all}
 use Rattle.yw_accept.specs.Built.{IsAssign, IsKind, IsNet, IsParam, IsPlaceCalled, IsSpec, IsTask, IsTaskCalled, MayBeItems, flows_from, flows_to, places_of, var_of}
 use Rattle.yw_accept.specs.Facts.{NetIsNamed, NetLeads}
 use Rattle.yw_accept.specs.Graph.{IsOnPath}
 use Rattle.yw_accept.specs.Names.{FlowsFit, NamesFit, is_usable}
 use Rattle.yw_accept.specs.Nodes.{is_task, named_places, net_names, nodes, task_names}
+use Rattle.yw_accept.specs.Tasks.{NetIsSmall, SizesFit}
 use Rattle.yw_accept.specs.Verdict.{IsVerdict}
 use Rattle.yw_base.specs.Spelling.{is_name}
 use Rattle.yw_accepted.proofs.Exits.{is_called}
@@ -40,11 +43,11 @@ use Rattle.yw_spec.specs.declared.task.Task.{Task}
 use Rattle.yw_state.proofs.Tests.{nowhere, some_same}
 use Rattle.yw_state.specs.Allowed.{element_param}
 use Rattle.yw_state.specs.Nets.{child_net}
-use Rattle.yw_within.specs.Within.{IsWithin, NetIsWithin, SplitFits, TaskIsWithin, are_places, has_number, is_named_place}
+use Rattle.yw_within.specs.Within.{IsWithin, NetIsWithin, SplitFits, TaskIsWithin, are_places, has_number, is_named_place, most_tasks}
 use Rattle.yw_accepted.proofs.Branches.{split_right}
 use Rattle.yw_accepted.proofs.Flows.{flows_within, names_all, paths_fit, places_named, some_before, usable_is_name}
 use Rattle.yw_accepted.proofs.Soundness.{is_sound}
-use Rattle.yw_accepted.proofs.Numbered.{all_made, has_called, has_first, has_second, map_has, named_at, place_at, zip_has}
+use Rattle.yw_accepted.proofs.Numbered.{all_made, has_called, has_first, has_second, map_has, named_at, place_at, same_length, zip_has}
 
 -- ---- a task
 
@@ -82,6 +85,14 @@ module _ (raw : RawSpec) (verdict : IsVerdict raw None) (spec : Spec) (is_spec :
   unfolding IsVerdict
   flows_fit = verdict.1.0
 
+  sizes_fit : SizesFit raw None
+  unfolding IsVerdict
+  sizes_fit = verdict.1.1.1.1.1.1.1.1.1.1.1
+
+  nets_small : All (λ (n : RawNet). NetIsSmall n None) raw.net
+  unfolding SizesFit
+  nets_small = order_all NetIsSmall raw.net sizes_fit.1
+
   module _ (rn : RawNet) (k : ℕ) (rat : slice_get raw.net k ≡ Some rn) (net : Net) (at : slice_get spec.nets k ≡ Some net) (built : IsNet raw rn net) where
     apart : NetIsApart rn
     apart = all_at NetIsApart raw.net (accepted_apart raw verdict).nets k rn rat
@@ -102,6 +113,12 @@ module _ (raw : RawSpec) (verdict : IsVerdict raw None) (spec : Spec) (is_spec :
 
     var_names : map (λ (v : Var). v.name) net.vars ≡ map (λ (v : RawVar). v.name) rn.vars
     var_names = ap (map (λ (v : Var). v.name)) built.vars ∙ same_vars rn.vars
+
+    few_tasks : length net.tasks ≤ most_tasks
+    few_tasks =
+        let small = (and_parts _ _ (all_at (λ (n : RawNet). NetIsSmall n None) raw.net nets_small k rn rat).0).0 in
+        let nodes_few : length (nodes rn) ≤ most_tasks = leb-true (length (nodes rn)) most_tasks small in
+        omega (arith, nodes_few, length-append (named_places rn) (task_names rn.task), length-map rn.task (λ (x : RawTask). x.name), same_length (IsTask raw rn) rn.task net.tasks built.tasks)
 
     task_within : (i : ℕ) (t : Task) → slice_get net.tasks i ≡ Some t → TaskIsWithin spec net t
     task_within i t t_at =
@@ -133,6 +150,7 @@ module _ (raw : RawSpec) (verdict : IsVerdict raw None) (spec : Spec) (is_spec :
       vars = named_at (λ (v : Var). v.name) net.vars (subst Apart (sym var_names) apart.vars);
       var_names = names_all (λ (v : Var). v.name) net.vars (subst (All (λ n. is_usable n ≡ true)) (sym var_names) named.vars.usable);
       begins = (sound k net at).begins;
+      few = few_tasks;
       each_task = task_within;
     }
 

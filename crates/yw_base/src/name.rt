@@ -1,5 +1,5 @@
 // Names of persons, roles, nets, tasks and places.
-ghost use Rattle.std.specs.Prelude.{◌≡◌, ◌↔◌, List, ℕ, true, false, IfOk, Err, string_bytes};
+ghost use Rattle.std.specs.Prelude.{◌≡◌, ◌↔◌, List, ℕ, true, false, IfOk, IfSome, Err, None, string_bytes};
 ghost use Rattle.std.specs.List.{list_all};
 ghost use Rattle.yw_base.specs.Spelling.{is_digit, is_word_byte, is_name, most_name_bytes};
 
@@ -76,6 +76,27 @@ impl Name {
             Ok(text) => Ok(Name { text }),
             Err(AllocError) => Err(NameFault::Memory),
         }
+    }
+
+    /// The name that a `String` spells, which is kept. It is `None` exactly where the text isn't written as a name is; then the text is
+    /// dropped. It takes no memory.
+    pub fn from_string(text: String) -> Option<Name>
+        ensures ok { IfSome result (λ name. name ≡ string_bytes text) }
+        ensures shape { (result ≡ None) ↔ (is_name (string_bytes text) ≡ false) }
+    {
+        if !has_name_shape(text.as_bytes()) {
+            return None;
+        }
+        Some(Name { text })
+    }
+
+    /// The same name once more. An `Err` says that no memory was left.
+    pub fn copy(&self) -> Result<Name, AllocError>
+        ensures { IfOk result (λ copy. copy ≡ self.now) }
+    {
+        Ok(Name {
+            text: self.text.clone()?,
+        })
     }
 
     /// The name as a `str`.

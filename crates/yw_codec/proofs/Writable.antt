@@ -7,7 +7,7 @@ use Rattle.yw_codec.specs.Entries.{is_event, is_writable}
 use Rattle.yw_codec.proofs.Events.{with_bytes}
 use Rattle.yw_codec.proofs.Names.{and_left, and_right}
 use Rattle.yw_state.specs.Allowed.{Allowed, allows}
-use Rattle.yw_state.specs.Built.{is_built}
+use Rattle.yw_built.specs.Built.{is_built}
 use Rattle.yw_state.specs.Events.{LeadAll, Leads}
 use Rattle.yw_state.specs.Legal.{IsLegal}
 use Rattle.yw_state.specs.State.{State}

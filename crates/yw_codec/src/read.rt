@@ -2,7 +2,7 @@
 ghost use Rattle.std.specs.Prelude.{◌≡◌, ◌++◌, ◌+◌, ◌∷◌, ◌≤◌, [], List, ℕ, true, IfOk, IfErr, length, slice_index, take, drop};
 ghost use Rattle.std.specs.List.{flat_map, list_all};
 ghost use Rattle.yw_base.specs.Spelling.{is_name};
-ghost use Rattle.yw_state.specs.Built.{is_built};
+ghost use Rattle.yw_built.specs.Built.{is_built};
 ghost use Rattle.yw_state.specs.declared.event.Event.{Event};
 ghost use Rattle.byteorder.specs.Endian.{big_bytes, big_number};
 ghost use Rattle.yw_codec.specs.Entries.{name_bytes, text_bytes, is_text, event_bytes, is_event, IsEntry};

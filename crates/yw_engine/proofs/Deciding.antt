@@ -10,7 +10,7 @@ use Rattle.yw_model.proofs.Alone.{legal_alone}
 use Rattle.yw_model.proofs.Loading.{load_is_asked, load_unbroken, person_asked, person_leads_to, person_unbroken}
 use Rattle.yw_model.specs.Texts.{reader}
 use Rattle.yw_state.specs.Allowed.{are_roles}
-use Rattle.yw_state.specs.Built.{is_built}
+use Rattle.yw_built.specs.Built.{is_built}
 use Rattle.yw_state.specs.Events.{after}
 use Rattle.yw_state.specs.Legal.{IsLegal}
 use Rattle.yw_state.specs.State.{State}

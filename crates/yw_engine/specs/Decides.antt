@@ -7,7 +7,7 @@ use Rattle.yw_library.specs.Holdings.{Holdings, with_library}
 use Rattle.yw_library.specs.declared.fault.LibraryFault.{LibraryFault}
 use Rattle.yw_library.specs.declared.fault.LibraryFault.TheVariants as library_faults
 use Rattle.yw_model.specs.Texts.{reader}
-use Rattle.yw_state.specs.Built.{is_built}
+use Rattle.yw_built.specs.Built.{is_built}
 use Rattle.yw_state.specs.Legal.{IsLegal}
 use Rattle.yw_state.specs.State.{State}
 use Rattle.yw_state.specs.declared.command.Command.{Command}

@@ -2,7 +2,7 @@
 ghost use Rattle.std.specs.Prelude.{◌≡◌, true, IfOk};
 ghost use Rattle.yw_library.specs.Always.{IsTried};
 ghost use Rattle.yw_state.specs.Allowed.{are_roles};
-ghost use Rattle.yw_state.specs.Built.{is_built};
+ghost use Rattle.yw_built.specs.Built.{is_built};
 ghost use Rattle.yw_state.specs.declared.event.Event.TheVariants as events;
 
 use std::alloc::AllocError;

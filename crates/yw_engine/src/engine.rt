@@ -6,7 +6,7 @@ ghost use Rattle.yw_engine.specs.Held.{state_of};
 ghost use Rattle.yw_model.specs.Run.{CanBeAsked};
 ghost use Rattle.yw_model.specs.Texts.{reader};
 ghost use Rattle.yw_state.specs.Broken.{Breaks, placeless};
-ghost use Rattle.yw_state.specs.Built.{is_built};
+ghost use Rattle.yw_built.specs.Built.{is_built};
 ghost use Rattle.yw_state.specs.Events.{Leads};
 ghost use Rattle.yw_state.specs.Legal.{IsLegal};
 ghost use Rattle.yw_state.specs.State.{State, opening};

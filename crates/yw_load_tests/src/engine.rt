@@ -1,7 +1,7 @@
 // What no clause says: that calls succeed with ample memory.
 ghost use Rattle.std.specs.Prelude.{◌≡◌, true, IfOk};
 ghost use Rattle.yw_model.specs.Run.{CanBeAsked};
-ghost use Rattle.yw_state.specs.Built.{is_built};
+ghost use Rattle.yw_built.specs.Built.{is_built};
 
 use std::alloc::{AllocError, Global};
 use yw_base::{Name, NameFault, NameList, Text};

@@ -8,7 +8,7 @@ use Rattle.yw_codec.specs.Entries.{IsEntry}
 use Rattle.yw_codec.proofs.Counts.{same_entry}
 use Rattle.yw_model.specs.Texts.{reader}
 use Rattle.yw_model.proofs.ReadingOnce.{reads_one}
-use Rattle.yw_state.specs.Built.{is_built}
+use Rattle.yw_built.specs.Built.{is_built}
 use Rattle.yw_state.specs.Events.{LeadAll}
 use Rattle.yw_state.specs.State.{State}
 use Rattle.yw_state.proofs.LeadsOne.{leads_one, lead_all_one}

@@ -2,7 +2,7 @@
 ghost use Rattle.std.specs.Prelude.{◌≡◌, ◌≤◌, ◌<◌, ◌+◌, ◌^◌, ◌++◌, ◌∷◌, [], List, ℕ, IsTrue, IfOk, OnOk, IfErr, IfSome, MatchOption, Some, None, length, take, drop, true};
 ghost use Rattle.std.specs.Bool.{MatchBool};
 ghost use Rattle.std.specs.List.{list_all};
-ghost use Rattle.yw_state.specs.Built.{is_built};
+ghost use Rattle.yw_built.specs.Built.{is_built};
 ghost use Rattle.yw_state.specs.State.{State};
 ghost use Rattle.yw_engine.specs.Held as held;
 ghost use Rattle.yw_outside.specs.Causes.{HasCause};

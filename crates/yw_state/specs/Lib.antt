@@ -16,7 +16,6 @@ pub mod Allowed
 pub mod After
 pub mod Exlets
 pub mod Events
-pub mod Built
 pub mod Gone
 pub mod Automatic
 pub mod Given

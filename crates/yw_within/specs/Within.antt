@@ -71,8 +71,12 @@ pub record TaskIsWithin (spec : Spec) (net : Net) (t : Task) : Type 0 where
   pub element : All (λ (p : Param). p.value ≡ None → is_some t.many ≡ true) t.ins
   pub child : (k : ℕ) → child_net t ≡ Some k → has_number spec.nets k ≡ true
 
--- Each place, task and variable of a net is found by its name and has one number. The input and the output are places of it, and its
--- variables begin with values of their sorts.
+-- our own limit on the tasks of a net
+abbrev pub most_tasks : ℕ
+most_tasks = 256
+
+-- Each place, task and variable of a net is found by its name and has one number. The input and the output are places of it, its
+-- variables begin with values of their sorts, and it has no more tasks than the limit.
 pub record NetIsWithin (spec : Spec) (net : Net) : Type 0 where
   pub name : is_name net.name ≡ true
   pub input : has_number net.places net.input ≡ true
@@ -83,6 +87,7 @@ pub record NetIsWithin (spec : Spec) (net : Net) : Type 0 where
   pub vars : (k : ℕ) (v : Var) → slice_get net.vars k ≡ Some v → IsFirstVar net k v
   pub var_names : list_all (λ (v : Var). is_name v.name) net.vars ≡ true
   pub begins : list_all (λ (v : Var). may_hold v.sort v.init) net.vars ≡ true
+  pub few : length net.tasks ≤ most_tasks
   pub each_task : (k : ℕ) (t : Task) → slice_get net.tasks k ≡ Some t → TaskIsWithin spec net t
 
 -- Each net is within, and the top net is one of them.

@@ -2,7 +2,7 @@ use Rattle.std.proofs.Common.{List, IfOk, subst, sym, true, ◌≡◌, rules}
 use Rattle.std.specs.List.{list_all}
 use Rattle.std.proofs.lemmas.Result.{IfOk-weaker}
 use Rattle.yw_engine.specs.Held as engine
-use Rattle.yw_state.specs.Built.{is_built}
+use Rattle.yw_built.specs.Built.{is_built}
 use Rattle.yw_state.specs.State.{State}
 use Rattle.yw_state.specs.declared.event.Event.{Event}
 use Rattle.yw_serve.specs.Opening.{AreApplied}

@@ -2,7 +2,7 @@ use Rattle.std.proofs.Common.{◌≡◌, Bool, true}
 use Rattle.std.specs.List.{list_all}
 use Rattle.std.specs.Vec.Iter.{into_iter_items}
 use Rattle.yw_engine.specs.Held as engine
-use Rattle.yw_state.specs.Built.{is_built}
+use Rattle.yw_built.specs.Built.{is_built}
 use Rattle.yw_state.specs.State.{State}
 use Rattle.yw_serve.specs.Opening.{AreApplied}
 use Rattle.yw_serve.proofs.opening_entries.apply_events.Given as goal

@@ -1,0 +1,2 @@
+//! Which events the server does today. Definitions alone.
+#![tactic(auto)]
