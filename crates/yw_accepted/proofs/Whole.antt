@@ -1,8 +1,8 @@
 -- A specification in which the checks find nothing is within.
-use Rattle.std.specs.Prelude.{◌≡◌, ◌≤◌, ℕ, true, not, List, [], ◌∷◌, map, filter, length, Option, Some, None, get_or, is_some, option_and_then, option_map, slice_get, refl}
+use Rattle.std.specs.Prelude.{◌≡◌, ◌≤◌, ◌&&◌, ℕ, nat_le, true, not, List, [], ◌∷◌, map, filter, length, Option, Some, None, get_or, is_some, option_and_then, option_map, slice_get, refl}
 use Rattle.std.specs.List.{All, AllZip, list_all}
 use Rattle.std.proofs.Common.{sym, ◌∙◌, ap, subst, arith}
-use Rattle.std.proofs.lemmas.Bool.{and_parts, leb-true}
+use Rattle.std.proofs.lemmas.Bool.{leb-true}
 use Rattle.std.proofs.lemmas.List.{length-append, length-map}
 use Rattle.std.proofs.lemmas.Option.{slice_get-map}
 use Rattle.yw_accept.proofs.Among.{among_right, usable_among}
@@ -12,7 +12,7 @@ use Rattle.yw_accept.specs.Facts.{NetIsNamed, NetLeads}
 use Rattle.yw_accept.specs.Graph.{IsOnPath}
 use Rattle.yw_accept.specs.Names.{FlowsFit, NamesFit, is_usable}
 use Rattle.yw_accept.specs.Nodes.{is_task, named_places, net_names, nodes, task_names}
-use Rattle.yw_accept.specs.Tasks.{NetIsSmall, SizesFit}
+use Rattle.yw_accept.specs.Tasks.{NetIsSmall, SizesFit, is_small_net}
 use Rattle.yw_accept.specs.Verdict.{IsVerdict}
 use Rattle.yw_base.specs.Spelling.{is_name}
 use Rattle.yw_accepted.proofs.Exits.{is_called}
@@ -40,7 +40,7 @@ use Rattle.yw_spec.specs.declared.task.Kind.{Kind}
 use Rattle.yw_spec.specs.declared.task.Many.{Many}
 use Rattle.yw_spec.specs.declared.task.Param.{Param}
 use Rattle.yw_spec.specs.declared.task.Task.{Task}
-use Rattle.yw_state.proofs.Tests.{nowhere, some_same}
+use Rattle.yw_state.proofs.Tests.{and_left, nowhere, some_same}
 use Rattle.yw_state.specs.Allowed.{element_param}
 use Rattle.yw_state.specs.Nets.{child_net}
 use Rattle.yw_within.specs.Within.{IsWithin, NetIsWithin, SplitFits, TaskIsWithin, are_places, has_number, is_named_place, most_tasks}
@@ -116,7 +116,9 @@ module _ (raw : RawSpec) (verdict : IsVerdict raw None) (spec : Spec) (is_spec :
 
     few_tasks : length net.tasks ≤ most_tasks
     few_tasks =
-        let small = (and_parts _ _ (all_at (λ (n : RawNet). NetIsSmall n None) raw.net nets_small k rn rat).0).0 in
+        let sizes : is_small_net rn ≡ true = (all_at (λ (n : RawNet). NetIsSmall n None) raw.net nets_small k rn rat).0 in
+        let first_two = and_left (nat_le (length (nodes rn)) most_tasks && nat_le (length rn.flows) 1024) (nat_le (length rn.vars) 64) sizes in
+        let small = and_left (nat_le (length (nodes rn)) most_tasks) (nat_le (length rn.flows) 1024) first_two in
         let nodes_few : length (nodes rn) ≤ most_tasks = leb-true (length (nodes rn)) most_tasks small in
         omega (arith, nodes_few, length-append (named_places rn) (task_names rn.task), length-map rn.task (λ (x : RawTask). x.name), same_length (IsTask raw rn) rn.task net.tasks built.tasks)
 
