@@ -58,7 +58,7 @@ fn has_items(task: &RawTask) -> bool
     }
 }
 
-fn task_items_fit(alloc: Global, net: &Text, task: &RawTask) -> Result<Option<Broken>, AllocError>
+fn check_task(alloc: Global, net: &Text, task: &RawTask) -> Result<Option<Broken>, AllocError>
     ensures { IfOk result (TaskItemsFit net.now task.now) }
 {
     if has_items(task) {
@@ -68,11 +68,11 @@ fn task_items_fit(alloc: Global, net: &Text, task: &RawTask) -> Result<Option<Br
     Ok(Some(broken))
 }
 
-fn net_items_fit(alloc: Global, net: &RawNet) -> Result<Option<Broken>, AllocError>
+fn check_net(alloc: Global, net: &RawNet) -> Result<Option<Broken>, AllocError>
     ensures { IfOk result (NetItemsFit net.now) }
 {
     for task in net.task.as_slice() {
-        match task_items_fit(alloc, &net.name, task)? {
+        match check_task(alloc, &net.name, task)? {
             Some(broken) => return Ok(Some(broken)),
             None => {}
         }
@@ -92,7 +92,7 @@ pub fn items_fit(alloc: Global, raw: &RawSpec) -> Result<Option<Broken>, AllocEr
     ensures { IfOk result (ItemsFit raw.now) }
 {
     for net in raw.net.as_slice() {
-        match net_items_fit(alloc, net)? {
+        match check_net(alloc, net)? {
             Some(broken) => return Ok(Some(broken)),
             None => {}
         }

@@ -46,7 +46,7 @@ fn is_small_task(task: &RawTask) -> bool
     task.ins.len() <= MOST_INS && task.outs.len() <= MOST_OUTS && task.remove.len() <= MOST_REMOVALS
 }
 
-fn task_is_small(alloc: Global, net: &Text, task: &RawTask) -> Result<Option<Broken>, AllocError>
+fn check_task(alloc: Global, net: &Text, task: &RawTask) -> Result<Option<Broken>, AllocError>
     ensures { IfOk result (TaskIsSmall net.now task.now) }
 {
     if is_small_task(task) {
@@ -56,11 +56,11 @@ fn task_is_small(alloc: Global, net: &Text, task: &RawTask) -> Result<Option<Bro
     Ok(Some(broken))
 }
 
-fn tasks_are_small(alloc: Global, net: &RawNet) -> Result<Option<Broken>, AllocError>
+fn check_tasks(alloc: Global, net: &RawNet) -> Result<Option<Broken>, AllocError>
     ensures { IfOk result (TasksAreSmall net.now) }
 {
     for task in net.task.as_slice() {
-        match task_is_small(alloc, &net.name, task)? {
+        match check_task(alloc, &net.name, task)? {
             Some(broken) => return Ok(Some(broken)),
             None => {}
         }
@@ -68,19 +68,19 @@ fn tasks_are_small(alloc: Global, net: &RawNet) -> Result<Option<Broken>, AllocE
     Ok(None)
 }
 
-fn net_is_small(alloc: Global, net: &RawNet) -> Result<Option<Broken>, AllocError>
+fn check_net(alloc: Global, net: &RawNet) -> Result<Option<Broken>, AllocError>
     ensures { IfOk result (NetIsSmall net.now) }
 {
     if !is_small_net(net) {
         let broken = Broken::of_net(alloc, 12, &net.name)?;
         return Ok(Some(broken));
     }
-    let found = tasks_are_small(alloc, net)?;
+    let found = check_tasks(alloc, net)?;
     Ok(found)
 }
 
 /// The 65th net, if there is one.
-fn nets_are_few(alloc: Global, nets: &[RawNet]) -> Result<Option<Broken>, AllocError>
+fn check_count(alloc: Global, nets: &[RawNet]) -> Result<Option<Broken>, AllocError>
     ensures { IfOk result (NetsAreFew nets.now) }
 {
     if nets.len() <= MOST_NETS {
@@ -90,11 +90,11 @@ fn nets_are_few(alloc: Global, nets: &[RawNet]) -> Result<Option<Broken>, AllocE
     Ok(Some(broken))
 }
 
-fn nets_are_small(alloc: Global, nets: &[RawNet]) -> Result<Option<Broken>, AllocError>
+fn check_nets(alloc: Global, nets: &[RawNet]) -> Result<Option<Broken>, AllocError>
     ensures { IfOk result (InOrder NetIsSmall nets.now) }
 {
     for net in nets {
-        match net_is_small(alloc, net)? {
+        match check_net(alloc, net)? {
             Some(broken) => return Ok(Some(broken)),
             None => {}
         }
@@ -113,10 +113,10 @@ fn nets_are_small(alloc: Global, nets: &[RawNet]) -> Result<Option<Broken>, Allo
 pub fn sizes_fit(alloc: Global, raw: &RawSpec) -> Result<Option<Broken>, AllocError>
     ensures { IfOk result (SizesFit raw.now) }
 {
-    match nets_are_few(alloc, raw.net.as_slice())? {
+    match check_count(alloc, raw.net.as_slice())? {
         Some(broken) => Ok(Some(broken)),
         None => {
-            let found = nets_are_small(alloc, raw.net.as_slice())?;
+            let found = check_nets(alloc, raw.net.as_slice())?;
             Ok(found)
         }
     }

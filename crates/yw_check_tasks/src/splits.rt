@@ -162,7 +162,7 @@ fn split_fits<'a>(
     }
 }
 
-fn task_split_fits<'a>(
+fn check_task<'a>(
     alloc: Global,
     net: &RawNet,
     outputs: &Outputs<'a>,
@@ -178,12 +178,12 @@ fn task_split_fits<'a>(
     Ok(Some(broken))
 }
 
-fn net_splits_fit(alloc: Global, net: &RawNet) -> Result<Option<Broken>, AllocError>
+fn check_net(alloc: Global, net: &RawNet) -> Result<Option<Broken>, AllocError>
     ensures { IfOk result (NetSplitsFit net.now) }
 {
     let outputs = outputs_of(alloc, net.flows.as_slice())?;
     for task in net.task.as_slice() {
-        match task_split_fits(alloc, net, &outputs, task)? {
+        match check_task(alloc, net, &outputs, task)? {
             Some(broken) => return Ok(Some(broken)),
             None => {}
         }
@@ -204,7 +204,7 @@ pub fn splits_fit(alloc: Global, raw: &RawSpec) -> Result<Option<Broken>, AllocE
     ensures { IfOk result (SplitsFit raw.now) }
 {
     for net in raw.net.as_slice() {
-        match net_splits_fit(alloc, net)? {
+        match check_net(alloc, net)? {
             Some(broken) => return Ok(Some(broken)),
             None => {}
         }

@@ -1,4 +1,4 @@
-use Rattle.std.proofs.Common.{◌≡◌, ◌++◌, ◌∙◌, ℕ, List, length, take, IsTrue, refl, sym, subst, arith}
+use Rattle.std.proofs.Common.{◌≡◌, ◌∙◌, length, IsTrue, refl, sym, subst, arith}
 use Rattle.yw_outside.specs.declared.image.Image.{Image}
 use Rattle.yw_outside.specs.Image.{file_in, Holds, Writes}
 use Rattle.yw_outside.specs.Moments.{After, IsDurable}

@@ -1,6 +1,6 @@
 use Rattle.yw_check_tasks.specs.Steps.{TaskIsSmall}
 use Rattle.yw_accept.proofs.Loops.{passes, fails}
-use Rattle.yw_check_tasks.proofs.sizes.tasks_are_small.Goals as goal
+use Rattle.yw_check_tasks.proofs.sizes.check_tasks.Goals as goal
 
 pub returns-in-Some : goal.returns-in-Some
 returns-in-Some c =

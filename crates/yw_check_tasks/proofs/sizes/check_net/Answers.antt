@@ -4,7 +4,7 @@ use Rattle.yw_accept.specs.Order.{Demand}
 use Rattle.yw_accept.specs.Tasks.{is_small_net}
 use Rattle.yw_check_tasks.specs.Steps.{TasksAreSmall}
 use Rattle.yw_accept.proofs.Loops.{then_second}
-use Rattle.yw_check_tasks.proofs.sizes.net_is_small.Goals as goal
+use Rattle.yw_check_tasks.proofs.sizes.check_net.Goals as goal
 
 pub returns : goal.returns
 returns c =

@@ -1,6 +1,6 @@
 use Rattle.yw_accept.specs.Tasks.{SplitFits}
 use Rattle.yw_accept.proofs.Loops.{passes, fails}
-use Rattle.yw_check_tasks.proofs.splits.net_splits_fit.Goals as goal
+use Rattle.yw_check_tasks.proofs.splits.check_net.Goals as goal
 
 pub returns-in-Some : goal.returns-in-Some
 returns-in-Some c =

@@ -1,6 +1,6 @@
 use Rattle.yw_check_tasks.specs.Steps.{TaskItemsFit}
 use Rattle.yw_accept.proofs.Loops.{passes, fails}
-use Rattle.yw_check_tasks.proofs.items.net_items_fit.Goals as goal
+use Rattle.yw_check_tasks.proofs.items.check_net.Goals as goal
 
 pub returns-in-Some : goal.returns-in-Some
 returns-in-Some c =
