@@ -17,6 +17,7 @@ pub mod Lists
 pub mod Lose
 pub mod Made
 pub mod NetLaw
+pub mod OneList
 pub mod OwnChange
 pub mod PartNet
 pub mod PutBack
