@@ -57,3 +57,6 @@ pub mod EmptyNet
 pub mod AnyAt
 pub mod Fronts
 pub mod Halves
+pub mod Rooted
+pub mod Stood
+pub mod Drawn
