@@ -13,7 +13,7 @@ use Rattle.yw_state.specs.Map.{lexical}
 use Rattle.yw_state.proofs.Tests.{nowhere, some_same}
 use Rattle.yw_tree.specs.Boxed.{AreRows, AtNet, AtNode, AtRun, Held, IsBoxedNet, IsBoxedNode, IsBoxedRun, head, heads, ids, net_ids, run_ids}
 use Rattle.yw_tree.specs.Entries.{nodes, row_nodes}
-use Rattle.yw_tree.specs.Shows.{AddsItem, IsLast, row_or_none}
+use Rattle.yw_tree.specs.Shows.{AddsItem, IsLast, KeepsOthers, items_in, row_or_none}
 use Rattle.yw_tree.specs.declared.NetState.{NetState, NetState-F, out-NetState, roll-NetState, out-roll-NetState, every_here-NetState}
 use Rattle.yw_tree.specs.declared.Node.{Node, out-Node, roll-out-Node}
 use Rattle.yw_tree.specs.declared.Run.{Run}
@@ -23,6 +23,7 @@ use Rattle.yw_tree.proofs.Induct.{below_every_net}
 use Rattle.yw_tree.proofs.Keys.{ids_are, kids, kids-append}
 use Rattle.yw_tree.proofs.Law.{part_is}
 use Rattle.yw_tree.proofs.Made.{made_net, made_node}
+use Rattle.yw_tree.proofs.OneList.{keeps_others, this_list}
 
 -- an item alone is well boxed
 pub alone_boxed : (n : Node) → (out-Node n).net ≡ None → (out-Node n).run ≡ None → IsBoxedNode n
@@ -124,6 +125,8 @@ module _ (old : NetState) (t : ℕ) (v u : Vec Node Global) (n : Node) (at : sli
 
   pub item_added : AddsItem old added n
   item_added = record {
+    keeps = subst (KeepsOthers old added) (sym task) (keeps_others old t u);
+    last = ap (items_in added) task ∙ this_list old t v u at ∙ is ∙ ap (λ z. z ++ (n ∷ [])) (sym (ap (items_in old) task ∙ ap row_or_none at));
     boxed = added_boxed;
     children = added_children;
     shows = λ names m i beside within fresh shows. gained names m i beside old added before behind n was now (part_is names opened) no_net no_run within fresh shows;

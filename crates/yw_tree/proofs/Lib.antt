@@ -17,6 +17,7 @@ pub mod Lists
 pub mod Lose
 pub mod Made
 pub mod NetLaw
+pub mod OneList
 pub mod OwnChange
 pub mod PartNet
 pub mod PutBack
@@ -56,3 +57,6 @@ pub mod EmptyNet
 pub mod AnyAt
 pub mod Fronts
 pub mod Halves
+pub mod Rooted
+pub mod Stood
+pub mod Drawn

@@ -39,13 +39,15 @@ use Rattle.yw_tree.proofs.PartNet.{net_changes, net_shown}
 use Rattle.yw_tree.proofs.RunLaw.{run_found, run_placed}
 use Rattle.yw_tree.proofs.TaskCut.{its_children, its_net}
 
--- The net s stands at i. What stands beside it, and what the forest means with another net there.
+-- The net s stands at i. What stands beside it, and beside any identities that fit there, as those of another net; and what the forest
+-- means with another net there.
 pub record NetHere (f : Forest) (i : Ident) (s : NetState) (placed : NetState → Forest) : Type 0 where
   pub boxed : IsBoxedNet s
   pub others : List Ident
   pub here : AreChildren i (ids s ++ others)
   pub beside : (ℕ → List ℕ) → Entries
   pub stands : (names : ℕ → List ℕ) → StandsBeside i (ids s) (beside names)
+  pub stands_with : (js : List Ident) → AreChildren i (js ++ others) → (names : ℕ → List ℕ) → StandsBeside i js (beside names)
   pub shows : (names : ℕ → List ℕ) → ShowsNet names (sites_of names f) i (beside names) s
   pub known : (names : ℕ → List ℕ) → Each (λ j. is_some (find lexical j (beside names)) ≡ true) others
   pub lift : (w : NetState) → IsBoxedNet w → AreChildren i (ids w ++ others) → (names : ℕ → List ℕ) (m : Sites) → ShowsNet names m i (beside names) w
@@ -68,6 +70,7 @@ top_here f n s b e =
           here = children;
           beside = λ names. below_run names c.run;
           stands = λ names. run_beside names (case_ident n) c.run (ids c.net) i.1.run children;
+          stands_with = λ js fits names. run_beside names (case_ident n) c.run js i.1.run fits;
           shows = λ names. top_shown names f b n c at c.net i.1.net children;
           known = λ names. run_known names (case_ident n) c.run;
           lift = λ w wb fits names m shows own outside.
@@ -85,6 +88,7 @@ item_net_here f id n s b within e at =
       here = children;
       beside = λ names. below_run names (out-Node n).run;
       stands = λ names. run_beside names id (out-Node n).run (ids s) (below_every_node AtNet AtNode AtRun n g.1).1 children;
+      stands_with = λ js fits names. run_beside names id (out-Node n).run js (below_every_node AtNet AtNode AtRun n g.1).1 fits;
       shows = λ names. shown names f id n b within e s at;
       known = λ names. run_known names id (out-Node n).run;
       lift = λ w wb fits names m shows own outside.
@@ -175,8 +179,8 @@ module _ (f : Forest) (id : Ident) (long : 1 ≤ length id) (r : Run) (s : NetSt
           placing.1,
         )
 
-  nothing_beside : StandsBeside id (ids s) []
-  nothing_beside = record { quiet = λ q x d h. nowhere h; apart = none_beside (λ k. []) id (ids s) }
+  nothing_beside : (js : List Ident) → StandsBeside id js []
+  nothing_beside js = record { quiet = λ q x d h. nowhere h; apart = none_beside (λ k. []) id js }
 
   net_boxed : IsBoxedNet s
   net_boxed = boxed_in (out-Run r).net s (below_every_run AtNet AtNode AtRun r own.1) at
@@ -187,7 +191,8 @@ module _ (f : Forest) (id : Ident) (long : 1 ≤ length id) (r : Run) (s : NetSt
     others = [];
     here = children;
     beside = λ names. [];
-    stands = λ names. nothing_beside;
+    stands = λ names. nothing_beside (ids s);
+    stands_with = λ js fits names. nothing_beside js;
     shows = λ names. run_shows names s net_boxed children;
     known = λ names. tt;
     lift = λ w wb fits names m shows own_site outside.

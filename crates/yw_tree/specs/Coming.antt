@@ -1,10 +1,11 @@
 -- What may come to a forest.
-use Rattle.std.specs.Prelude.{◌≡◌, ◌<◌, true, None, T, if◌then◌else◌, is_some, length, IsSome, IsSomeAnd, IsTrue, ℕ}
+use Rattle.std.specs.List.{list_all}
+use Rattle.std.specs.Prelude.{◌≡◌, ◌<◌, true, List, None, T, if◌then◌else◌, is_some, length, nat_lt, IsSome, IsSomeAnd, IsTrue, ℕ}
 use Rattle.std.specs.Ordering.{is_lt}
 use Rattle.yw_state.specs.Identity.{Ident, case_number, is_case_ident, is_child}
-use Rattle.yw_state.specs.Map.{lexical}
+use Rattle.yw_state.specs.Map.{get, lexical}
 use Rattle.yw_tree.specs.Cases.{case_at}
-use Rattle.yw_tree.specs.Forest.{item_of}
+use Rattle.yw_tree.specs.Forest.{item_of, sites_of}
 use Rattle.yw_tree.specs.Places.{hung_at, net_at}
 use Rattle.yw_tree.specs.Spots.{part_at}
 use Rattle.yw_tree.specs.declared.Forest.{Forest}
@@ -15,6 +16,10 @@ use Rattle.yw_tree.specs.declared.Run.{Run, out-Run}
 -- whatever stands directly under i comes before k, in the order of identities
 abbrev pub ComesAfter : Forest → Ident → Ident → Type 0
 ComesAfter f i k = (j : Ident) → is_child j i ≡ true → IsSome (part_at f j) → T (is_lt (lexical j k))
+
+-- all that stands has numbers below n, as where numbers come from a counter that stands at n
+abbrev pub AreDrawn : Forest → ℕ → Type 0
+AreDrawn f n = (names : ℕ → List ℕ) (j : Ident) → is_some (get (sites_of names f) j) ≡ true → list_all (λ k. nat_lt k n) j ≡ true
 
 abbrev pub HasTask : ℕ → NetState → Type 0
 HasTask t s = t < length (out-NetState s).items.items

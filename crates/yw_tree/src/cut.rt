@@ -1,11 +1,13 @@
 //! What goes from a forest, with all under it.
-ghost use Rattle.std.specs.Prelude.{◌≡◌, ◌≤◌, ◌<◌, length, is_some, IfSome, IsSome, None, false};
+ghost use Rattle.std.specs.Prelude.{◌≡◌, ◌≤◌, ◌<◌, ℕ, List, length, is_some, IfSome, IsSome, None, false};
 ghost use Rattle.std.specs.Bool.{OnTrue, OnFalse};
 ghost use Rattle.yw_state.specs.Identity.{case_ident, case_number, is_case_ident, parent};
+ghost use Rattle.yw_state.specs.Map.{get};
 ghost use Rattle.yw_tree.specs.Becomes.{Drops, DropsTask};
 ghost use Rattle.yw_tree.specs.Cases.{case_at};
-ghost use Rattle.yw_tree.specs.Forest.{IsForest};
+ghost use Rattle.yw_tree.specs.Forest.{IsForest, sites_of};
 ghost use Rattle.yw_tree.specs.Places.{has_run, item_stands, net_at, placed_case, run_at_case, run_at_item, run_of, something_stands};
+ghost use Rattle.yw_tree.specs.Spots.{part_at};
 ghost use Rattle.yw_tree.specs.declared.NetState.{out-NetState};
 ghost use Rattle.yw_tree.specs.declared.Node.{out-Node};
 
@@ -136,11 +138,13 @@ fn cut_by(forest: &mut Forest, id: &[u64]) -> bool
 
 impl Forest {
     /// Takes the case, the item or the run at an identity away, with all under it: in the map, what is dropped under
-    /// that identity. `false` says that none stood there, and then all is as it was. It takes no memory.
+    /// that identity. `false` says that none stood there, and then all is as it was, and nothing stood under it. It takes no
+    /// memory.
     pub fn cut(&mut self, id: &Ident) -> bool
         requires { IsForest self.old }
-        ensures stood { result ≡ something_stands self.old id.now }
-        ensures sites { OnTrue result (Drops self.old self.new id.now) }
+        ensures found { result ≡ is_some (part_at self.old id.now) }
+        ensures stood { (names : ℕ → List ℕ) → result ≡ is_some (get (sites_of names self.old) id.now) }
+        ensures sites { Drops self.old self.new id.now }
         ensures stays { OnFalse result (self.new ≡ self.old) }
         ensures kept { IsForest self.new }
     {

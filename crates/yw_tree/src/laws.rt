@@ -2,10 +2,11 @@
 //! forests.
 ghost use Rattle.std.specs.Prelude.{◌≡◌, ℕ, List, Some, true};
 ghost use Rattle.yw_base.specs.Identity.{is_identity};
-ghost use Rattle.yw_state.specs.Identity.{Ident};
+ghost use Rattle.yw_state.specs.Identity.{Ident, child};
 ghost use Rattle.yw_state.specs.Map.{update};
 ghost use Rattle.yw_state.specs.State.{Site, Sites};
 ghost use Rattle.yw_tree.specs.Changes.{ChangesItem, ChangesNet};
+ghost use Rattle.yw_tree.specs.Coming.{AreDrawn, ComesAfter};
 ghost use Rattle.yw_tree.specs.Entries.{item_site};
 ghost use Rattle.yw_tree.specs.Forest.{IsForest, placed, sites_of};
 ghost use Rattle.yw_tree.specs.Places.{net_at, placed_net};
@@ -25,4 +26,9 @@ pub fn net_changes()
     ensures { (names : ℕ → List ℕ) (f : Forest) (id : Ident) (s w : NetState) (m : Sites)
         → IsForest f → is_identity id ≡ true → net_at f id ≡ Some s → ChangesNet names f id s w m
         → (sites_of names (placed_net f id w) ≡ m) × IsForest (placed_net f id w) }
+{}
+
+/// A number above all that were drawn comes after all that stands directly under an identity: there an item may come with it.
+pub fn drawn_comes_last()
+    ensures { (f : Forest) (id : Ident) (n : ℕ) → IsForest f → is_identity id ≡ true → AreDrawn f n → ComesAfter f id (child id n) }
 {}

@@ -1,12 +1,12 @@
 //! Items of a net that go and that come, and the nets of cases and items.
-ghost use Rattle.std.specs.Prelude.{◌≡◌, ◌<◌, ◌≤◌, length, is_some, None, OnOk};
+ghost use Rattle.std.specs.Prelude.{◌≡◌, ◌<◌, ◌≤◌, length, is_some, IfSome, None, OnOk};
 ghost use Rattle.std.specs.Bool.{OnTrue, OnFalse};
 ghost use Rattle.std.specs.Borrow.{sem};
 ghost use Rattle.std.specs.Option.{option_copied_mut};
 ghost use Rattle.yw_tree.specs.Boxed.{IsBoxedNet};
 ghost use Rattle.yw_tree.specs.Forest.{item_of, top_of};
 ghost use Rattle.yw_tree.specs.Lending.{LendsItemNet, LendsTop};
-ghost use Rattle.yw_tree.specs.Shows.{AddsItem, IsLast, LosesItem, LosesTask, NoneMore};
+ghost use Rattle.yw_tree.specs.Shows.{AddsItem, EmptiesList, IsLast, KeepsOwn, LosesItem, LosesTask, NoneMore, TakesOut};
 ghost use Rattle.yw_tree.specs.Ways.{net_of_item, place_of};
 ghost use Rattle.yw_tree.specs.declared.NetState.{out-NetState};
 ghost use Rattle.yw_tree.specs.declared.Node.{out-Node};
@@ -17,13 +17,14 @@ use crate::{Forest, NetState, Node};
 use std::alloc::AllocError;
 use yw_base::Ident;
 
-/// Takes all items of a task away, with all under them.
+/// Takes all items of a task away, with all under them. The net's own part and the items of other tasks stay.
 pub fn clear_task(net: &mut NetState, t: usize)
     requires boxed { IsBoxedNet net.old }
     requires t_in { t < length (out-NetState net.old).items.items }
     ensures boxed { IsBoxedNet net.new }
     ensures children { NoneMore net.old net.new }
     ensures shows { LosesTask net.old net.new t }
+    ensures empties { EmptiesList net.old net.new t }
 {
     net.items[t].clear();
 }
@@ -47,7 +48,8 @@ pub fn top_mut(forest: &mut Forest, n: u64) -> Option<&mut NetState>
     Some(&mut case.net)
 }
 
-/// Takes the item of a net that leads to an identity away, with all under it. `false` says that none does.
+/// Takes the item of a net that leads to an identity away, with all under it. `false` says that none does. The net's own part and
+/// all other items stay.
 pub fn remove_item(net: &mut NetState, id: &[u64]) -> bool
     requires boxed { IsBoxedNet net.old }
     ensures boxed { IsBoxedNet net.new }
@@ -55,6 +57,8 @@ pub fn remove_item(net: &mut NetState, id: &[u64]) -> bool
     ensures shows { OnTrue result (LosesItem net.old net.new id.now) }
     ensures stays { OnFalse result (net.new ≡ net.old) }
     ensures stood { result ≡ is_some (place_of id.now net.old) }
+    ensures keeps { KeepsOwn net.old net.new }
+    ensures takes { IfSome (place_of id.now net.old) (TakesOut net.old net.new) }
 {
     match place(net, id) {
         Some((t, i)) => {
