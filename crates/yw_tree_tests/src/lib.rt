@@ -8,3 +8,5 @@ mod depths;
 mod kinds;
 #[cfg(test)]
 mod shapes;
+#[cfg(test)]
+mod urgent;
