@@ -86,6 +86,7 @@ fn push_events(out: &mut Vec<u8>, events: &[Event]) -> Result<(), AllocError>
     requires { list_all is_writable events.now ≡ true }
     ensures bytes { OnOk result (out.new.items ≡ out.old.items ++ flat_map event_bytes events.now) }
     ensures events { OnOk result (list_all is_event events.now ≡ true) }
+    ensures built { OnOk result (list_all is_built events.now ≡ true) }
 {
     for event in events {
         push_event(out, event)?;
@@ -94,6 +95,7 @@ fn push_events(out: &mut Vec<u8>, events: &[Event]) -> Result<(), AllocError>
 }
 
 // The entry without its length.
+#[tactic(auto, unfolding(crate::specs::Entries::entry_bytes))]
 fn push_entry(out: &mut Vec<u8>, events: &[Event]) -> Result<(), AllocError>
     requires some { 1 ≤ length events.now }
     requires few { length events.now ≤ 4097 }

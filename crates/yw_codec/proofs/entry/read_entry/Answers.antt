@@ -13,7 +13,7 @@ pub returns-in_err-events-clause-bad : goal.returns-in_err-events-clause-bad
 returns-in_err-events-clause-bad c =
     let p = err_from_is_err_and c.from_residual-in_err-events.result c.from_residual-in_err-events.ensures.1 in
     rw (p.1, p.2) (λ bad events entry rest is split.
-    let parts = entry_parts c.args.bytes.now c.in_ok-field.field.now c.take.new.self entry rest events c.in_ok-field.ensures.ok c.in_ok-field.ensures.long is split in
+    let parts = entry_parts c.args.bytes.now c.in_ok-field.field.now c.take.new.self entry rest events (sym c.new-reader.ensures ∙ c.in_ok-field.ensures.ok) c.in_ok-field.ensures.long is split in
     c.in_err-events.ensures.bad bad events rest
     (subst (λ (n : ℕ). Stands (are_counted is_kept n) (flat_map event_bytes) c.take.new.self events rest) (sym parts.0 ∙ sym c.read_u16-count.ensures) parts.1))
 
@@ -24,7 +24,7 @@ returns-clause-ok c =
     let rest = c.read_events.new.reader in
     let events = c.in_ok-events.events in
     let count = c.read_u16-count.result in
-    let front = c.in_ok-field.ensures.ok in
+    let front = sym c.new-reader.ensures ∙ c.in_ok-field.ensures.ok in
     let read = c.in_ok-events.ensures.ok in
     let least : 1 ≤ count = omega arith in
     let most : count ≤ 4097 = omega arith in
