@@ -10,7 +10,9 @@ use yw_state::Event;
 /// The kind of an event, and the bytes of one of it.
 type Known = (&'static str, &'static [u8]);
 
-const LAUNCH: &[u8] = b"\x04\0\0\0\0\0\0\0\x07\x01s\0\0\0\x05\x00\x01\x01\xff\xff\xff\xff\xff\xff\xff\xfe\x02\0\0\0\x02ab\x03\0\0\0\x01\0\0\0\0\0\0\0\x03\x04\0\0\0\0";
+const LAUNCH: &[u8] =
+    b"\x04\0\0\0\0\0\0\0\x07\x01s\0\0\0\x05\x00\x01\x01\xff\xff\xff\xff\xff\xff\xff\xfe\x02\0\0\0\x02ab\x03\0\0\0\x01\0\0\0\0\0\0\0\x03\x04\0\0\0\0";
+
 const ADD: &[u8] = b"\x09\x01\0\0\0\0\0\0\0\x07\x01t\x02\0\0\0\x01p\0\0\0\0\0\0\0\x09";
 
 const KNOWN: [Known; 19] = [
