@@ -1,6 +1,6 @@
 pub mod Counts
-pub mod Events
 pub mod Frames
+pub mod Kept
 pub mod Names
 pub mod Texts
 pub mod Writable

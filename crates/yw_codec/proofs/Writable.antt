@@ -1,11 +1,10 @@
--- Events that are built have bytes: those that are read, and those that are allowed.
+-- Events that are built and allowed can be written.
 use Rattle.std.proofs.Common.{◌≡◌, ◌&&◌, ◌≤◌, ℕ, Bool, true, List, [], ◌∷◌, length, nat_lt, nat_le, refl, ap, arith}
 use Rattle.std.specs.List.{list_all}
 use Rattle.std.proofs.lemmas.Bool.{leb-true, lt-ltb}
 use Rattle.yw_base.specs.Spelling.{are_distinct}
-use Rattle.yw_codec.specs.Entries.{is_event, is_writable}
-use Rattle.yw_codec.proofs.Events.{with_bytes}
-use Rattle.yw_codec.proofs.Names.{and_left, and_right}
+use Rattle.yw_codec.specs.Entries.{is_writable}
+use Rattle.yw_codec.specs.FieldLaws.{and_left, and_right, both_true}
 use Rattle.yw_state.specs.Allowed.{Allowed, allows}
 use Rattle.yw_built.specs.Built.{is_built}
 use Rattle.yw_state.specs.Events.{LeadAll, Leads}
@@ -15,21 +14,6 @@ use Rattle.yw_state.specs.Texts.{Reader, Said}
 use Rattle.yw_state.specs.declared.command.Command.{Command}
 use Rattle.yw_state.specs.declared.event.Event.{Event}
 use Rattle.yw_state.specs.declared.event.Event.TheVariants as events
-
-both_true : (p q : Bool) → p ≡ true → q ≡ true → (p && q) ≡ true
-both_true p q e f = cc
-
--- ---- read
-
--- an event that has bytes is built
-pub event_built : (e : Event) → is_event e ≡ true → is_built e ≡ true
-event_built e is = with_bytes (λ (e : Event). is_built e ≡ true) (λ name roles. refl) (λ name text. refl) e is
-
-pub events_built : (es : List Event) → list_all is_event es ≡ true → list_all is_built es ≡ true
-events_built [] all = refl
-events_built (e ∷ es) all =
-    both_true (is_built e) (list_all is_built es) (event_built e (and_left (is_event e) (list_all is_event es) all))
-    (events_built es (and_right (is_event e) (list_all is_event es) all))
 
 -- ---- written
 

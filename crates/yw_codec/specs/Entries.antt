@@ -2,46 +2,22 @@
 -- is a field that spells it, as `byteorder` reads it.
 use Rattle.std.specs.Prelude.{◌≡◌, ◌≤◌, ◌&&◌, ℕ, List, [], ◌∷◌, ◌++◌, length, Bool, true, false, nat_lt}
 use Rattle.std.specs.List.{flat_map, list_all}
-use Rattle.std.specs.Str.{is_utf8}
 use Rattle.byteorder.specs.Endian.{big_number, big_bytes}
-use Rattle.yw_base.specs.Spelling.{is_name}
+use Rattle.yw_built.specs.Built.{is_built}
+use Rattle.yw_codec.specs.Events.{event_bytes, is_event}
 use Rattle.yw_state.specs.declared.event.Event.{Event}
-use Rattle.yw_state.specs.declared.event.Event.TheVariants.{Person, Load}
+use Rattle.yw_state.specs.declared.event.Event.TheVariants as events
 
 -- a field of so many bytes that spells this number
 pub record IsField (size value : ℕ) (field : List ℕ) : Type 0 where
   pub long : length field ≡ size
   pub spells : big_number size field ≡ value
 
--- a length and the name
-abbrev pub name_bytes : List ℕ → List ℕ
-name_bytes name = length name ∷ name
+-- what an entry may have today: an event that is in its range, and such as the server does
+abbrev pub is_kept : Event → Bool
+is_kept event = is_event event && is_built event
 
--- 2^32, the first length that is too large
-abbrev pub text_end : ℕ
-text_end = 4294967296
-
--- UTF-8, whose length fits four bytes
-abbrev pub is_text : List ℕ → Bool
-is_text text = is_utf8 text && nat_lt (length text) text_end
-
--- a length of four bytes and the text
-abbrev pub text_bytes : List ℕ → List ℕ
-text_bytes text = big_bytes 4 (length text) ++ text
-
--- a tag and the fields; the other events have no bytes yet
-abbrev pub event_bytes : Event → List ℕ
-event_bytes (Person name roles) = 1 ∷ (name_bytes name ++ (length roles ∷ flat_map name_bytes roles))
-event_bytes (Load name text) = 2 ∷ (name_bytes name ++ text_bytes text)
-event_bytes event = []
-
--- it has bytes, each name and text is one, and the number of roles fits its byte
-abbrev pub is_event : Event → Bool
-is_event (Person name roles) = is_name name && list_all is_name roles && nat_lt (length roles) 256
-is_event (Load name text) = is_name name && is_text text
-is_event event = false
-
--- a count of two bytes and so many events, of which there are 1 to 4,097
+-- A count of two bytes and so many events, of which there are 1 to 4,097. Each is in its range, and such as the server does today.
 pub record IsEntry (events : List Event) (bytes : List ℕ) : Type 0 where
   pub field : List ℕ
   pub split : bytes ≡ field ++ flat_map event_bytes events
@@ -49,12 +25,22 @@ pub record IsEntry (events : List Event) (bytes : List ℕ) : Type 0 where
   pub some : 1 ≤ length events
   pub few : length events ≤ 4097
   pub each : list_all is_event events ≡ true
+  pub built : list_all is_built events ≡ true
 
--- An event that can be written has bytes, and at most 64 roles. Whether a text's length fits four bytes is seen when it is written.
+-- It has bytes, and at most 64 roles. The rest of what an event's fields may be is so of each such value, but for lengths: whether
+-- those fit four bytes is seen when they are written.
+abbrev pub has_form : Event → Bool
+has_form (events.Person name roles) = nat_lt (length roles) 65
+has_form (events.AddRule place at side when conclusion number) = false
+has_form (events.Pass at check) = false
+has_form (events.Except at check node number) = false
+has_form (events.Raise at kind node number) = false
+has_form (events.Prim run primitive) = false
+has_form event = true
+
+-- an event that an entry may have: one that the server does today
 abbrev pub is_writable : Event → Bool
-is_writable (Person name roles) = nat_lt (length roles) 65
-is_writable (Load name text) = true
-is_writable event = false
+is_writable event = is_built event && has_form event
 
 -- the bytes of an entry: a count, and the events
 unfoldable pub entry_bytes : List Event → List ℕ

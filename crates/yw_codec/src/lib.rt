@@ -1,8 +1,15 @@
 //! Entries of events as bytes, both ways.
 #![tactic(auto)]
 
-mod read;
-mod write;
+mod entry;
+mod event;
+mod field;
+mod name;
+mod number;
+mod place;
+mod reader;
+mod value;
 
-pub use read::{CodecFault, read_entry};
-pub use write::{write_entry, write_entry_into};
+pub use entry::{read_entry, write_entry, write_entry_into};
+pub use event::{push_event, read_event};
+pub use reader::CodecFault;

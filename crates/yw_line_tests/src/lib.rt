@@ -5,4 +5,6 @@
 #[cfg(test)]
 mod codec;
 #[cfg(test)]
+mod events;
+#[cfg(test)]
 mod wire;

@@ -1,7 +1,0 @@
-use Rattle.std.proofs.Common.{◌≡◌, ◌++◌, take, true}
-use Rattle.std.specs.List.{flat_map, list_all}
-use Rattle.yw_codec.specs.Entries.{event_bytes, is_event}
-use Rattle.yw_codec.proofs.write.push_events.Given as goal
-
-abbrev pub invariant-loop-event : goal.invariant-loop-event
-invariant-loop-event l = (l.out.items ≡ l.fn.out.items ++ flat_map event_bytes (take l.event-index l.events)) × (list_all is_event (take l.event-index l.events) ≡ true)
