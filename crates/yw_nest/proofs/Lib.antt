@@ -1,0 +1,10 @@
+pub mod Maps
+pub mod Outer
+pub mod Results
+pub mod Zipped
+pub mod CaseBegins
+pub mod CaseEnds
+pub mod ItemEnds
+pub mod Known
+pub mod SubBegins
+pub mod SubEnds

@@ -1,0 +1,4 @@
+pub mod Does
+pub mod Cases
+pub mod Values
+pub mod Items
