@@ -107,6 +107,7 @@ module _ {D : Type 0} (g : Ghosts D) where
         record {
           lines = first.answers.lines ++ s.lines;
           next = s.next;
+          one = s.one;
           later = s.later;
           split = s.split ∙ ap (λ (ls : List (List ℕ)). ls ++ (s.lines ++ (s.next ++ s.later))) first.answers.split ∙ append_assoc (whole_lines taken) first.answers.lines (s.lines ++ (s.next ++ s.later))
               ∙ ap (λ (ls : List (List ℕ)). whole_lines taken ++ ls) (sym (append_assoc first.answers.lines s.lines (s.next ++ s.later)));
@@ -134,6 +135,7 @@ module _ {D : Type 0} (g : Ghosts D) where
       record {
         lines = s.lines;
         next = s.next;
+        one = s.one;
         later = s.later ++ extra;
         split = ap whole_lines e ∙ whole_lines-append taken bytes ∙ ap (λ (ls : List (List ℕ)). ls ++ extra) s.split ∙ append_assoc done (s.lines ++ (s.next ++ s.later)) extra
             ∙ ap (λ (ls : List (List ℕ)). done ++ ls) (append_assoc s.lines (s.next ++ s.later) extra ∙ ap (λ (ls : List (List ℕ)). s.lines ++ ls) (append_assoc s.next s.later extra));
@@ -157,6 +159,7 @@ module _ {D : Type 0} (g : Ghosts D) where
   stops_before c a done all more d r e = record {
     lines = [];
     next = [];
+    one = omega arith;
     later = more;
     split = e;
     steps = [];
@@ -194,6 +197,7 @@ module _ {D : Type 0} (g : Ghosts D) where
   stops_in c stop a done all line old new r e step after answers moments why = record {
     lines = [];
     next = line ∷ [];
+    one = omega arith;
     later = [];
     split = e;
     steps = [];

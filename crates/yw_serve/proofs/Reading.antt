@@ -90,6 +90,7 @@ module _ {D : Type 0} (g : Ghosts D) (c : Content) (s : State) (start : D) where
         answered = subst (λ (bs : List ℕ). SomeAnswered g c s session.server.journal.limit stop (whole_lines bs) (lines taken (has_ended rest piece)) start new) e (record {
           extra = z.lines;
           next = z.next;
+          one = z.one;
           later = z.later;
           split = z.split ∙ sym (append_assoc (whole_lines seen) z.lines (z.next ++ z.later));
           steps = steps;

@@ -1,6 +1,6 @@
 -- What the words `check` do: the verdict on a text, as a status.
-use Rattle.std.specs.Prelude.{◌≡◌, ℕ, List, Option}
-use Rattle.yw_verdict.specs.Ends.{Ends, Says, Takes}
+use Rattle.std.specs.Prelude.{◌≡◌, ◌⊎◌, ℕ, List, Option}
+use Rattle.yw_verdict.specs.Ends.{Ends, Says, Takes, verdict_of}
 use Rattle.yw_verdict.specs.Found.{IsFound}
 use Rattle.yw_verdict.specs.declared.finding.Finding.{Finding}
 use Rattle.yw_verdict.specs.declared.verdict.Verdict.{Verdict}
@@ -24,6 +24,10 @@ pub record Checks {D : Type 0} (g : Ghosts D)
   pub ends : Ends g verdict bytes old new
   pub only : (finding : Finding) → IsFound bytes finding → Says g verdict finding old new
   pub takes : Takes verdict bytes left
+
+-- the status is that of what is found, or no memory was left, or the text couldn't be read or its line said
+abbrev pub Judges : Finding → Status → Type 0
+Judges finding status = (status ≡ status_of (verdict_of finding)) ⊎ (status ≡ Memory) ⊎ (status ≡ Read) ⊎ (status ≡ Write)
 
 -- the statuses that the words `check` may end with
 abbrev pub IsOfCheck : Status → Type 0

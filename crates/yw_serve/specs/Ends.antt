@@ -44,6 +44,7 @@ pub record SomeAnswered {D : Type 0} (g : Ghosts D)
   pub extra : List (List ℕ)
   -- the line at work, or none where nothing was found out of it
   pub next : List (List ℕ)
+  pub one : length next ≤ 1
   pub later : List (List ℕ)
   pub split : all ≡ (sure ++ extra) ++ (next ++ later)
   pub steps : List Step

@@ -11,6 +11,12 @@ use Rattle.yw_serve.specs.declared.server.Stop.TheVariants as stops
 use Rattle.yw_serve.specs.declared.top.Status.{Status}
 use Rattle.yw_serve.specs.declared.top.Status.TheVariants.{Ok as Whole, Findings, Usage, Disk, Memory, Read, Write, Damaged, Full, InputLimit}
 
+-- No count of faults rose: no read failed, no call of the files and no say.
+pub record NoneRose {D : Type 0} (g : Ghosts D) (before now : ℕ) (old new : D) : Type 0 where
+  pub read : Rose before now → ⊥
+  pub disk : Rose (g.disk_faults old) (g.disk_faults new) → ⊥
+  pub say : Rose (g.say_faults old) (g.say_faults new) → ⊥
+
 -- A call of the files failed, and no say.
 pub record FilesFailed {D : Type 0} (g : Ghosts D) (old new : D) : Type 0 where
   pub disk : Rose (g.disk_faults old) (g.disk_faults new)

@@ -109,13 +109,6 @@ pub record IsDamagedAt (file : List ℕ) (f : File) (place : ℕ) : Type 0 where
   pub which : f ≡ A
   pub here : IsCut meaning file place ⊎ HasNoMeaning meaning file place
 
--- The files of an image of the start.
-pub record IsOfStart (may_leave : Image → Type 0) (k : Image) : Type 0 where
-  pub start : Image
-  pub left : may_leave start
-  pub a : k.a ≡ start.a
-  pub b : k.b ≡ start.b
-
 -- what file A has when it is begun: generation 1, number 0 and no record
 abbrev pub begun : Content
 begun = made 1 0 []
@@ -125,11 +118,6 @@ pub record HoldsBegun (i k : Image) : Type 0 where
   pub none : NoneIsLive i
   pub holds : HoldNow files.opening opening k ⊎ HoldNow begun opening k
   pub b : k.b ≡ i.b
-
--- What a crash leaves at any moment of the opening.
-pub record LeftByOpening (may_leave : Image → Type 0) (i k : Image) : Type 0 where
-  pub files : IsOfStart may_leave k ⊎ HoldsBegun i k
-  pub said : k.said ≡ i.said
 
 -- What a crash leaves of the opening after the syncs: each byte of both files as it was, or file A is being begun.
 pub record LeftAfterSyncs (i k : Image) : Type 0 where
@@ -141,14 +129,17 @@ pub record IsUnsynced {D : Type 0} (g : Ghosts D) (old new : D) : Type 0 where
   pub same : g.state new ≡ g.state old
   pub moments : LeavesOnly g old new (g.may_leave old)
 
--- First the files are synced, as they were. Up to then a crash leaves what it might have left before, and from then on the files as they
--- were, or file A being begun.
-pub record OpensBy {D : Type 0} (g : Ghosts D) (old new : D) : Type 0 where
+-- First the files are synced, as they were. Up to then a crash leaves what it might have left before, and from then on what has P.
+pub record SyncsFirst {D : Type 0} (g : Ghosts D) (P : Image → Type 0) (old new : D) : Type 0 where
   pub synced : D
   pub same : g.state synced ≡ g.state old
   pub settled : IsSettled (g.state synced) (g.may_leave synced)
   pub before : LeavesOnly g old synced (g.may_leave old)
-  pub after : LeavesOnly g synced new (LeftAfterSyncs (g.state old))
+  pub after : LeavesOnly g synced new P
+
+-- from the syncs on a crash leaves the files as they were, or file A being begun
+abbrev pub OpensBy : {D : Type 0} → Ghosts D → D → D → Type 0
+OpensBy g old new = SyncsFirst g (LeftAfterSyncs (g.state old)) old new
 
 -- The content that was found goes on, and not one byte of file A has changed; or no file was live, and file A is begun.
 abbrev pub GoesOnOrBegins : Content → Content → Image → Image → Type 0

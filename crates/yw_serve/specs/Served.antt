@@ -99,6 +99,16 @@ OpeningEnds g Read old new = ⊥
 OpeningEnds g Full old new = ⊥
 OpeningEnds g InputLimit old new = ⊥
 
+-- Under the words `run` the files weren't opened, and the source is what it was, or they were, and the lines are answered.
+abbrev pub Ended : {D : Type 0} → Ghosts D → Status → ℕ → ℕ → List ℕ → Option (List ℕ) → ℕ → Type 0 → D → D → Type 0
+Ended g status full_at limit bytes left piece Untouched old new =
+    (OpeningEnds g status old new × Untouched)
+    ⊎ RunsFrom g (λ c s opened. RunEnds g status c s full_at limit bytes left piece opened new) old
+
+-- the statuses with which a run ends where nothing failed: all is answered, or no memory was left, or an entry had no room
+abbrev pub IsUnfailed : Status → Type 0
+IsUnfailed status = (status ≡ Ok) ⊎ (status ≡ Memory) ⊎ (status ≡ Full)
+
 -- the statuses that words of the form `run` may end with
 abbrev pub IsOfRun : Status → Type 0
 IsOfRun Ok = Unit {0}

@@ -147,6 +147,7 @@ pub record StopsWithin {D : Type 0} (g : Ghosts D)
   pub lines : List (List ℕ)
   -- the line at work, or none where nothing was found out of it
   pub next : List (List ℕ)
+  pub one : length next ≤ 1
   pub later : List (List ℕ)
   pub split : all ≡ done ++ (lines ++ (next ++ later))
   pub steps : List Step

@@ -1,5 +1,5 @@
 -- The forms that the program's words have.
-use Rattle.std.specs.Prelude.{◌≡◌, ◌⊎◌, ◌≤◌, ◌^◌, ℕ, List, [], ◌∷◌, map, length, codes, slice_index, String, string_bytes}
+use Rattle.std.specs.Prelude.{◌≡◌, ◌⊎◌, ◌≤◌, ◌^◌, ℕ, List, [], ◌∷◌, map, length, codes, slice_index, Bool, IsTrue, Option, Some, String, string_bytes}
 use Rattle.std.specs.Str.Parse.{IsNumeral, digits_value}
 use Rattle.std.specs.declared.alloc.Global.{Global}
 
@@ -30,3 +30,11 @@ IsRun words limit =
 -- `check`, and nothing after it
 abbrev pub IsCheck : List (String Global) → Type 0
 IsCheck words = map string_bytes words ≡ codes "check" ∷ []
+
+-- where the desk tells what it holds and the words are `run`, for the limit that they give and the bytes that the source has
+abbrev pub OnRun : Bool → List (String Global) → Option (List ℕ) → (ℕ → List ℕ → Type 0) → Type 0
+OnRun tells words input P = IsTrue tells → (limit : ℕ) (bytes : List ℕ) → IsRun words limit → input ≡ Some bytes → P limit bytes
+
+-- where the words are `check`, for the bytes that the source has
+abbrev pub OnCheck : List (String Global) → Option (List ℕ) → (List ℕ → Type 0) → Type 0
+OnCheck words input P = (bytes : List ℕ) → IsCheck words → input ≡ Some bytes → P bytes

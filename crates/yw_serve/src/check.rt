@@ -2,9 +2,9 @@
 ghost use Rattle.std.specs.Prelude.{◌≡◌, ◌⊎◌, List, ℕ, Some, IsTrue};
 ghost use Rattle.yw_outside.specs.Causes.{Rose};
 ghost use Rattle.yw_verdict.specs.declared.finding.Finding.{Finding};
-ghost use Rattle.yw_verdict.specs.Ends.{KeepsFiles, verdict_of};
+ghost use Rattle.yw_verdict.specs.Ends.{KeepsFiles};
 ghost use Rattle.yw_verdict.specs.Found.{IsFound};
-ghost use Rattle.yw_serve.specs.Checked.{Checks, IsOfCheck, status_of};
+ghost use Rattle.yw_serve.specs.Checked.{Checks, IsOfCheck, Judges, status_of};
 ghost use Rattle.yw_serve.specs.Faults.{StatusFaults};
 
 use crate::top::Status;
@@ -29,7 +29,7 @@ pub fn serve_check<S: Source, D: Desk>(alloc: Global, source: &mut S, desk: &mut
     ensures checks { IsTrue (D.tells desk.old) → (bytes : List ℕ) → S.left source.old ≡ Some bytes
         → Checks D.Desk result bytes (S.left source.new) desk.old desk.new }
     ensures judges { (bytes : List ℕ) (finding : Finding) → S.left source.old ≡ Some bytes → IsFound bytes finding
-        → (result ≡ status_of (verdict_of finding)) ⊎ (result ≡ Status.Memory) ⊎ (result ≡ Status.Read) ⊎ (result ≡ Status.Write) }
+        → Judges finding result }
     ensures files { KeepsFiles D.Desk desk.old desk.new }
     ensures told { IsOfCheck result }
     ensures faults { StatusFaults D.Desk result (S.faults source.old) (S.faults source.new) desk.old desk.new }

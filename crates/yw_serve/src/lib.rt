@@ -5,6 +5,7 @@
 mod answer;
 mod check;
 mod header;
+mod laws;
 mod notice;
 mod opening;
 mod opening_entries;
@@ -17,4 +18,5 @@ mod top;
 mod window;
 mod words;
 
+pub use laws::{damaged_once, entry_once, held_once, held_or_damaged};
 pub use top::{INPUT_LIMIT, Status, serve};

@@ -2,9 +2,8 @@
 ghost use Rattle.std.specs.Prelude.{◌≡◌, ◌≢◌, ◌≤◌, ◌<◌, ◌^◌, ◌↔◌, ◌⊎◌, ℕ, List, length, true, Some, IsErr, IsTrue, MatchResult, string_bytes};
 ghost use Rattle.std.specs.declared.option.Option.{Option};
 ghost use Rattle.yw_serve.specs.Ends.{EndsAs, EndsShort};
-ghost use Rattle.yw_serve.specs.Opening.{LeftByOpening, opened_state};
+ghost use Rattle.yw_serve.specs.Opening.{opened_state};
 ghost use Rattle.yw_outside.specs.Causes.{Rose};
-ghost use Rattle.yw_outside.specs.declared.image.Image.{Image};
 ghost use Rattle.yw_journal.specs.Files.{Content};
 ghost use Rattle.yw_journal.specs.Journal.{IsCurrent};
 ghost use Rattle.yw_lines.specs.Lines.{lines};
@@ -13,14 +12,14 @@ ghost use Rattle.yw_state.specs.State.{State};
 ghost use Rattle.yw_state.specs.Well.{IsWell};
 ghost use Rattle.yw_serve.specs.Damage.{HoldNow};
 ghost use Rattle.yw_serve.specs.Desks.{Stands, KeepsCounts};
-ghost use Rattle.yw_serve.specs.Faults.{EndingFaults, NoticeFaults, StatusFaults, StopFaults};
-ghost use Rattle.yw_serve.specs.Headline.{Serves, HoldsPrefix};
+ghost use Rattle.yw_serve.specs.Faults.{EndingFaults, NoneRose, NoticeFaults, StatusFaults, StopFaults};
+ghost use Rattle.yw_serve.specs.Headline.{HoldsPrefix, LeavesFromSyncs, Serves};
 ghost use Rattle.yw_serve.specs.Notices.{damage_line, full_line};
-ghost use Rattle.yw_serve.specs.Served.{RunEnds, RunsFrom, OpeningEnds, IsTold, IsOfRun};
-ghost use Rattle.yw_serve.specs.Words.{IsCheck, IsRun};
-ghost use Rattle.yw_serve.specs.Checked.{Checks, IsOfCheck, status_of};
+ghost use Rattle.yw_serve.specs.Served.{Ended, IsOfRun, IsTold, IsUnfailed, RunEnds};
+ghost use Rattle.yw_serve.specs.Words.{IsCheck, IsRun, OnCheck, OnRun};
+ghost use Rattle.yw_serve.specs.Checked.{Checks, IsOfCheck, Judges};
 ghost use Rattle.yw_verdict.specs.declared.finding.Finding.{Finding};
-ghost use Rattle.yw_verdict.specs.Ends.{KeepsFiles, verdict_of};
+ghost use Rattle.yw_verdict.specs.Ends.{KeepsFiles};
 ghost use Rattle.yw_verdict.specs.Found.{IsFound};
 
 use crate::check::serve_check;
@@ -170,8 +169,8 @@ fn serve_files<S: Source, D: Desk>(
     requires limit { limit ≤ 2 ^ 30 }
 
     ensures ends { IsTrue (D.tells desk.old) → (bytes : List ℕ) → S.left source.old ≡ Some bytes
-        → (OpeningEnds D.Desk result desk.old desk.new × (source.new ≡ source.old))
-        ⊎ RunsFrom D.Desk (λ c s opened. RunEnds D.Desk result c s limit INPUT_LIMIT bytes (S.left source.new) (S.piece source.new) opened desk.new) desk.old }
+        → Ended D.Desk result limit INPUT_LIMIT bytes (S.left source.new) (S.piece source.new)
+        (source.new ≡ source.old) desk.old desk.new }
     ensures told { IsOfRun result }
     ensures counts { KeepsCounts D.Desk desk.old desk.new }
     ensures faults { StatusFaults D.Desk result (S.faults source.old) (S.faults source.new) desk.old desk.new }
@@ -209,48 +208,53 @@ pub fn serve<S: Source, D: Desk>(
     source: &mut S,
     desk: &mut D,
 ) -> Status
-    // What each status says of the input, the files and the output, at every moment since the call began. Where the files aren't opened,
-    // the source isn't called.
-    ensures ends { IsTrue (D.tells desk.old) → (limit : ℕ) (bytes : List ℕ) → IsRun words.now limit → S.left source.old ≡ Some bytes
-        → (OpeningEnds D.Desk result desk.old desk.new × (source.new ≡ source.old))
-        ⊎ RunsFrom D.Desk (λ c s opened. RunEnds D.Desk result c s limit INPUT_LIMIT bytes (S.left source.new) (S.piece source.new) opened desk.new) desk.old }
+    // Read `served` and `crash` first; the other clauses say more of each status.
 
-    // Each answer has its cause, and no failed call is passed over: of reads, calls of the files and says none has failed but that which is
-    // answered.
+    // Where all is answered, the files hold the state that the lines lead to from the one that they held, now and after a crash,
+    // and all replies are said.
+    ensures served { OnRun (D.tells desk.old) words.now (S.left source.old) (λ limit bytes.
+        result ≡ Status.Ok → Serves D.Desk (lines bytes true) desk.old desk.new) }
+
+    // Where the files held a state, a crash at any moment from the opening's syncs on leaves the state to which a prefix of the
+    // lines leads, with all that was answered; and up to the syncs what it might have left before the call.
+    ensures crash { OnRun (D.tells desk.old) words.now (S.left source.old) (λ limit bytes.
+        (c : Content) (s : State) → HoldNow c s (D.state desk.old) → LeavesFromSyncs D.Desk result
+        (HoldsPrefix limit s (lines bytes true) (D.state desk.old).said) desk.old desk.new) }
+
+    // What each status says of the input, the files and the output, at every moment since the call began. Where the files
+    // aren't opened, the source isn't called.
+    ensures ends { OnRun (D.tells desk.old) words.now (S.left source.old) (λ limit bytes.
+        Ended D.Desk result limit INPUT_LIMIT bytes (S.left source.new) (S.piece source.new)
+        (source.new ≡ source.old) desk.old desk.new) }
+
+    // Each answer has its cause, and no failed call is passed over: of reads, calls of the files and says none has failed but
+    // that which is answered.
     ensures faults { StatusFaults D.Desk result (S.faults source.old) (S.faults source.new) desk.old desk.new }
     ensures of_run { (limit : ℕ) → IsRun words.now limit → IsOfRun result }
     ensures of_check { IsCheck words.now → IsOfCheck result }
-    ensures usage { (result ≡ Status.Usage) ↔ (((limit : ℕ) → ¬ (IsRun words.now limit)) × ¬ (IsCheck words.now)) }
-    ensures usage_calls_nothing { result ≡ Status.Usage → (source.new ≡ source.old) × (desk.new ≡ desk.old) }
+    ensures usage { (result ≡ Status.Usage)
+        ↔ (((limit : ℕ) → ¬ (IsRun words.now limit)) × ¬ (IsCheck words.now)) }
+    ensures usage_calls_nothing { result ≡ Status.Usage
+        → (source.new ≡ source.old) × (desk.new ≡ desk.old) }
 
-    // Where the files hold a state, nothing failed and the input is within its limit, all is answered, or a record had
-    // no room, or no memory was left.
-    ensures complete { IsTrue (D.tells desk.old) → (limit : ℕ) (bytes : List ℕ) (c : Content) (s : State) → IsRun words.now limit → S.left source.old ≡ Some bytes
-        → HoldNow c s (D.state desk.old) → length bytes ≤ INPUT_LIMIT
-        → ¬ (Rose (S.faults source.old) (S.faults source.new)) → ¬ (Rose (D.disk_faults desk.old) (D.disk_faults desk.new)) → ¬ (Rose (D.say_faults desk.old) (D.say_faults desk.new))
-        → (result ≡ Status.Ok) ⊎ (result ≡ Status.Memory) ⊎ (result ≡ Status.Full) }
+    // Where the files hold a state, nothing failed and the input is within its limit, all is answered, or an entry had no room,
+    // or no memory was left.
+    ensures complete { OnRun (D.tells desk.old) words.now (S.left source.old) (λ limit bytes.
+        (c : Content) (s : State) → HoldNow c s (D.state desk.old) → length bytes ≤ INPUT_LIMIT
+        → NoneRose D.Desk (S.faults source.old) (S.faults source.new) desk.old desk.new → IsUnfailed result) }
 
     // The desk tells as it did, so that the next run goes on from here, and no count of its faults has fallen.
     ensures run_counts { (limit : ℕ) → IsRun words.now limit → KeepsCounts D.Desk desk.old desk.new }
 
-    // Where all is answered, the files hold the state that the lines lead to from the one that they held, now and after a crash, and all
-    // replies are said.
-    ensures served { IsTrue (D.tells desk.old) → result ≡ Status.Ok → (limit : ℕ) (bytes : List ℕ) → IsRun words.now limit → S.left source.old ≡ Some bytes
-        → Serves D.Desk (lines bytes true) desk.old desk.new }
-
-    // Where the files held a state, a crash at any moment since the call began leaves what the opening left, or the state that a prefix of
-    // the lines leads to from it, with all that was answered.
-    ensures crash { IsTrue (D.tells desk.old) → (limit : ℕ) (bytes : List ℕ) (c : Content) (s : State) → IsRun words.now limit → S.left source.old ≡ Some bytes
-        → HoldNow c s (D.state desk.old) → (k : Image) → D.left_since desk.new (D.moment desk.old) k
-        → LeftByOpening (D.may_leave desk.old) (D.state desk.old) k ⊎ HoldsPrefix s (lines bytes true) (D.state desk.old).said k }
-
     // A text that is checked has the verdict that is said, and no other; also where the desk doesn't tell what was said.
-    ensures checks { IsTrue (D.tells desk.old) → (bytes : List ℕ) → IsCheck words.now → S.left source.old ≡ Some bytes
-        → Checks D.Desk result bytes (S.left source.new) desk.old desk.new }
-    ensures judges { (bytes : List ℕ) (finding : Finding) → IsCheck words.now → S.left source.old ≡ Some bytes → IsFound bytes finding
-        → (result ≡ status_of (verdict_of finding)) ⊎ (result ≡ Status.Memory) ⊎ (result ≡ Status.Read) ⊎ (result ≡ Status.Write) }
+    ensures checks { IsTrue (D.tells desk.old) → OnCheck words.now (S.left source.old) (λ bytes.
+        Checks D.Desk result bytes (S.left source.new) desk.old desk.new) }
+    ensures judges { OnCheck words.now (S.left source.old) (λ bytes.
+        (finding : Finding) → IsFound bytes finding → Judges finding result) }
     ensures check_keeps_files { IsCheck words.now → KeepsFiles D.Desk desk.old desk.new }
-    ensures check_complete { IsCheck words.now → ¬ (Rose (S.faults source.old) (S.faults source.new)) → ¬ (Rose (D.say_faults desk.old) (D.say_faults desk.new))
+    ensures check_complete { IsCheck words.now
+        → ¬ (Rose (S.faults source.old) (S.faults source.new))
+        → ¬ (Rose (D.say_faults desk.old) (D.say_faults desk.new))
         → (result ≡ Status.Ok) ⊎ (result ≡ Status.Findings) ⊎ (result ≡ Status.Memory) }
 {
     if let Some(limit) = file_limit(words) {

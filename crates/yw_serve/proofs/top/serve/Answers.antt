@@ -1,12 +1,14 @@
-use Rattle.std.proofs.Common.{◌≡◌, ◌⊎◌, ℕ, true, false, inl, inr, refl, subst}
+use Rattle.std.proofs.Common.{◌≡◌, ℕ, true, false, inl, inr, refl, subst}
 use Rattle.yw_outside.specs.Causes.{Rose}
+use Rattle.yw_lines.specs.Lines.{lines}
 use Rattle.yw_serve.proofs.HeadlineLemmas.{crash_left, served}
 use Rattle.yw_serve.proofs.OpenLaws.{held_or_damaged}
 use Rattle.yw_serve.proofs.ServedLemmas.{completed, completed_opening}
 use Rattle.yw_serve.proofs.WordsLemmas.{not_both, one_limit}
 use Rattle.yw_serve.specs.Faults.{StatusFaults}
 use Rattle.yw_serve.specs.declared.top.Status.TheVariants as statuses
-use Rattle.yw_serve.specs.Served.{IsOfRun, OpeningEnds, RunEnds, RunsFrom}
+use Rattle.yw_serve.specs.Headline.{HoldsPrefix, LeavesFromSyncs}
+use Rattle.yw_serve.specs.Served.{Ended, IsOfRun}
 use Rattle.yw_serve.specs.declared.top.Status.{Status}
 use Rattle.yw_serve.specs.declared.top.TheConstants.{INPUT_LIMIT}
 use Rattle.yw_serve.proofs.top.serve.Goals as goal
@@ -17,8 +19,7 @@ returns-in-Some-clause-ends g c = λ tells limit bytes run left.
     let new = c.serve_files.new.desk in
     let still = g.S.Source.left c.serve_files.new.source in
     let piece = g.S.Source.piece c.serve_files.new.source in
-    let Ends : ℕ → Type 0 = λ n. (OpeningEnds D c.serve_files.result c.args.desk.now new × (c.serve_files.new.source ≡ c.args.source.now))
-    ⊎ RunsFrom D (λ k s opened. RunEnds D c.serve_files.result k s n INPUT_LIMIT bytes still piece opened new) c.args.desk.now in
+    let Ends : ℕ → Type 0 = λ n. Ended D c.serve_files.result n INPUT_LIMIT bytes still piece (c.serve_files.new.source ≡ c.args.source.now) c.args.desk.now new in
     subst Ends (one_limit c.args.words.now c.in-Some.limit limit c.in-Some.ensures.some run) (c.serve_files.ensures.ends tells bytes left)
 
 pub returns-in-Some-clause-usage : goal.returns-in-Some-clause-usage
@@ -26,7 +27,7 @@ returns-in-Some-clause-usage g c =
     (λ e. absurd (subst (λ (r : Status). IsOfRun r) e c.serve_files.ensures.told), λ none. absurd (none.0 c.in-Some.limit c.in-Some.ensures.some))
 
 pub returns-in-Some-clause-complete : goal.returns-in-Some-clause-complete
-returns-in-Some-clause-complete g c = λ tells limit bytes content s run left hold small no_read no_disk no_say.
+returns-in-Some-clause-complete g c = λ tells limit bytes run left content s hold small none.
     let D = g.D.Desk in
     let old = c.args.desk.now in
     let new = c.serve_files.new.desk in
@@ -42,13 +43,13 @@ returns-in-Some-clause-complete g c = λ tells limit bytes content s run left ho
     let read = λ (is : status ≡ statuses.Read). (faults statuses.Read is).0 in
     let write = λ (is : status ≡ statuses.Write). (faults statuses.Write is).1.say in
     elim (e.ends tells bytes left) [
-      | inl opening ↦ completed_opening D status old new Disk Say opening.0 (λ f place. held_or_damaged (D.state old) content s f place hold) disk write no_disk no_say
+      | inl opening ↦ completed_opening D status old new Disk Say opening.0 (λ f place. held_or_damaged (D.state old) content s f place hold) disk write none.disk none.say
       | inr from ↦ completed D from.c from.s c.in-Some.limit INPUT_LIMIT bytes still piece from.opened status new
-          Disk (Rose (g.S.Source.faults c.args.source.now) (g.S.Source.faults c.serve_files.new.source)) Say from.ends small disk read write no_disk no_read no_say
+          Disk (Rose (g.S.Source.faults c.args.source.now) (g.S.Source.faults c.serve_files.new.source)) Say from.ends small disk read write none.disk none.read none.say
     ]
 
 pub returns-in-Some-clause-served : goal.returns-in-Some-clause-served
-returns-in-Some-clause-served g c = λ tells ok limit bytes run left.
+returns-in-Some-clause-served g c = λ tells limit bytes run left ok.
     let D = g.D.Desk in
     let new = c.serve_files.new.desk in
     let still = g.S.Source.left c.serve_files.new.source in
@@ -56,13 +57,15 @@ returns-in-Some-clause-served g c = λ tells ok limit bytes run left.
     served D c.serve_files.result c.args.desk.now new c.in-Some.limit INPUT_LIMIT bytes still piece (c.serve_files.new.source ≡ c.args.source.now) ok (c.serve_files.ensures.ends tells bytes left)
 
 pub returns-in-Some-clause-crash : goal.returns-in-Some-clause-crash
-returns-in-Some-clause-crash g c = λ tells limit bytes content s run left hold.
+returns-in-Some-clause-crash g c = λ tells limit bytes run left content s hold.
     let D = g.D.Desk in
+    let old = c.args.desk.now in
     let new = c.serve_files.new.desk in
     let still = g.S.Source.left c.serve_files.new.source in
     let piece = g.S.Source.piece c.serve_files.new.source in
-    let leaves = crash_left D g.met.D.Desk.said_by_now content s c.args.desk.now hold (g.met.D.Desk.as_it_reads c.args.desk.now tells) bytes c.serve_files.result new c.in-Some.limit INPUT_LIMIT still piece (c.serve_files.new.source ≡ c.args.source.now) (c.serve_files.ensures.ends tells bytes left) in
-    leaves.each
+    let Leaves : ℕ → Type 0 = λ n. LeavesFromSyncs D c.serve_files.result (HoldsPrefix n s (lines bytes true) (D.state old).said) old new in
+    subst Leaves (one_limit c.args.words.now c.in-Some.limit limit c.in-Some.ensures.some run)
+    (crash_left D g.met.D.Desk.said_by_now content s old hold bytes c.in-Some.limit c.serve_files.result new INPUT_LIMIT still piece (c.serve_files.new.source ≡ c.args.source.now) (c.serve_files.ensures.ends tells bytes left))
 
 pub returns-in-Some-clause-of_check : goal.returns-in-Some-clause-of_check
 returns-in-Some-clause-of_check g c = λ check. absurd (not_both c.args.words.now c.in-Some.limit c.in-Some.ensures.some check)
@@ -71,7 +74,7 @@ pub returns-in-Some-clause-checks : goal.returns-in-Some-clause-checks
 returns-in-Some-clause-checks g c = λ tells bytes check left. absurd (not_both c.args.words.now c.in-Some.limit c.in-Some.ensures.some check)
 
 pub returns-then-is_check-clause-judges : goal.returns-then-is_check-clause-judges
-returns-then-is_check-clause-judges g c = λ bytes finding check left found. c.serve_check.ensures.judges bytes finding left found
+returns-then-is_check-clause-judges g c = λ bytes check left finding found. c.serve_check.ensures.judges bytes finding left found
 
 pub returns-clause-ends : goal.returns-clause-ends
 returns-clause-ends g c = λ tells limit bytes run left. absurd (c.in_default.ensures.none refl limit run)
@@ -83,4 +86,7 @@ pub returns-clause-usage : goal.returns-clause-usage
 returns-clause-usage g c = (λ e. (c.in_default.ensures.none refl, λ check. let yes : false ≡ true = c.if-is_check.ensures.1 check in cc), λ none. refl)
 
 pub returns-clause-complete : goal.returns-clause-complete
-returns-clause-complete g c = λ tells limit bytes content s run left hold small no_read no_disk no_say. absurd (c.in_default.ensures.none refl limit run)
+returns-clause-complete g c = λ tells limit bytes run left content s hold small none. absurd (c.in_default.ensures.none refl limit run)
+
+pub returns-clause-crash : goal.returns-clause-crash
+returns-clause-crash g c = λ tells limit bytes run left content s hold. absurd (c.in_default.ensures.none refl limit run)
