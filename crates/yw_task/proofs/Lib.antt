@@ -5,3 +5,8 @@ pub mod AskLaw
 pub mod EnterAsk
 pub mod Maps
 pub mod CompleteLaw
+pub mod TokenCounts
+pub mod MadeLaw
+pub mod TurnLaw
+pub mod RegionLaw
+pub mod ExitLaw

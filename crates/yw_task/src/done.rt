@@ -29,7 +29,7 @@ fn name_of(alloc: Global, net: &Net, k: usize) -> Result<Text, AllocError>
 }
 
 /// Copies of these values come behind the others.
-fn push_copies(alloc: Global, row: &mut Row, values: &[Value]) -> Result<(), AllocError>
+pub fn push_copies(alloc: Global, row: &mut Row, values: &[Value]) -> Result<(), AllocError>
     ensures { OnOk result (row.new ≡ row.old ++ values.now) }
 {
     for value in values {

@@ -5,11 +5,17 @@
 
 mod ask;
 mod done;
+mod exits;
 mod fault;
 mod item;
+mod made;
+mod region;
+mod tokens;
 mod waits;
 
 pub use ask::{ask_complete, ask_enter, ask_start};
 pub use done::complete;
+pub use exits::exit;
 pub use fault::StepFault;
 pub use item::start;
+pub use region::empty_region;

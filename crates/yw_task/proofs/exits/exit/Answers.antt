@@ -1,0 +1,19 @@
+use Rattle.std.proofs.Common.{List, ap, subst, ℕ, ◌∙◌, ◌≡◌}
+use Rattle.yw_state.specs.Passing.{kept_values}
+use Rattle.yw_task.proofs.ExitLaw.{exits}
+use Rattle.yw_task.proofs.exits.exit.Goals as goal
+use Rattle.yw_task.specs.Leaves.{Leaves}
+use Rattle.yw_task.specs.Making.{rows_made}
+use Rattle.yw_tree.specs.Shows.{items_in}
+use Rattle.yw_tree.specs.declared.NetState.{out-NetState}
+
+pub returns-clause-ok : goal.returns-clause-ok
+returns-clause-ok c =
+    let old = c.args.state.now in
+    let new = c.leave.new.state in
+    let task = c.task_at-task.result.now in
+    let vals = c.in_ok-vals.vals in
+    let places = c.in_ok-places.places in
+    let kept : vals ≡ kept_values task (rows_made (items_in old c.args.t)) (out-NetState old).vals = c.in_ok-vals.ensures ∙ ap (λ ns. kept_values task (rows_made ns) (out-NetState old).vals) c.items_in.ensures in
+    let left = subst (λ (cs : List ℕ). Leaves task c.args.t vals cs old new) c.as_slice.ensures c.leave.ensures.leaves in
+    exits c.args.net.now c.args.t old new task vals places c.task_at-task.ensures kept c.in_ok-places.ensures left
