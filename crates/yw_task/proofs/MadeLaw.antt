@@ -100,6 +100,10 @@ all_assigned row vals (a ∷ set) = all_assigned row (assigned row vals a) set
 pub kept_is : (t : Task) (rows : List Row) (vals : Row) → fold (assigned (set_row t rows vals)) vals t.set ≡ kept_values t rows vals
 kept_is t rows vals = all_assigned (set_row t rows vals) vals t.set
 
+-- where nothing is assigned, all values stay
+pub none_kept : (t : Task) (rows : List Row) (vals : Row) → t.set ≡ [] → vals ≡ kept_values t rows vals
+none_kept t rows vals none = ap (fold (assigned (set_row t rows vals)) vals) (sym none) ∙ kept_is t rows vals
+
 -- ---- of the items, as the definitions list them
 
 made_step : (n : Node) (b : Bool) (es : List (Ident × ItemPart)) (ns : List Node) → map (λ (e : Ident × ItemPart). e.1.made) es ≡ map (λ (x : Node). (out-Node x).made) ns

@@ -8,14 +8,17 @@ use Rattle.yw_state.specs.After.{empty_region, post_at_output, with_sites}
 use Rattle.yw_state.specs.Allowed.{Allowed, place_numbers}
 use Rattle.yw_state.specs.Events.{after}
 use Rattle.yw_state.specs.Identity.{Ident}
+use Rattle.yw_state.specs.Passing.{kept_values, split_places}
 use Rattle.yw_state.specs.State.{State}
 use Rattle.yw_state.specs.Texts.{Said}
 use Rattle.yw_state.specs.declared.event.Event.TheVariants as events
+use Rattle.yw_task.specs.Making.{rows_made}
 use Rattle.yw_task.specs.Standing.{NetStands}
 use Rattle.yw_tree.specs.Forest.{IsForest, sites_of}
 use Rattle.yw_tree.specs.Places.{placed_net}
+use Rattle.yw_tree.specs.Shows.{items_in}
 use Rattle.yw_tree.specs.declared.Forest.{Forest}
-use Rattle.yw_tree.specs.declared.NetState.{NetState}
+use Rattle.yw_tree.specs.declared.NetState.{NetState, out-NetState}
 use Rattle.yw_within.specs.Within.{NetIsWithin}
 
 -- The state t is s with the map of the forest in which the net at i is new, and that forest is well boxed.
@@ -28,6 +31,12 @@ abbrev pub EmptiesRegion : Net → ℕ → NetState → NetState → Type 0
 EmptiesRegion net t old new =
     (names : ℕ → List ℕ) (f : Forest) (s : State) (i : Ident) (task : Task) → NetStands names f s i net old → slice_get net.tasks t ≡ Some task
     → HasNet names f s (empty_region s i task) i new
+
+-- these are the places of the split of the task with this number, decided over the net's values once the assignments are made
+abbrev pub SplitsTo : Net → ℕ → NetState → List ℕ → Type 0
+SplitsTo net t old numbers =
+    (task : Task) → slice_get net.tasks t ≡ Some task
+    → numbers ≡ split_places task (kept_values task (rows_made (items_in old t)) (out-NetState old).vals)
 
 -- The exit, which puts a token on each of these places, leads to the state that has the map of the forest with the net new, but for the check
 -- of the case after it: that is due then if a token came to the output of the case's own net.

@@ -1,7 +1,7 @@
 // A task exits.
 ghost use Rattle.std.specs.Prelude.{◌≡◌, ◌<◌, IfOk, OnErr, fold, length};
 ghost use Rattle.yw_state.specs.After.{one_more};
-ghost use Rattle.yw_task.specs.Leaving.{Exits};
+ghost use Rattle.yw_task.specs.Leaving.{Exits, SplitsTo};
 ghost use Rattle.yw_task.specs.Leaves.{Leaves};
 ghost use Rattle.yw_task.specs.Making.{AreFew};
 ghost use Rattle.yw_tree.specs.Boxed.{IsBoxedNet};
@@ -62,6 +62,7 @@ pub fn exit(
     requires task { t < length net.now.tasks }
     ensures boxed { IsBoxedNet state.new }
     ensures ok { IfOk result (λ numbers. Exits net.now t state.old state.new numbers) }
+    ensures split { IfOk result (SplitsTo net.now t state.old) }
     ensures err { OnErr result (state.new ≡ state.old) }
 {
     let task = task_at(net, t);

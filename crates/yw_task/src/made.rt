@@ -213,6 +213,15 @@ fn assign_each(alloc: Global, vals: &mut Row, set: &[Assign], over: &Row) -> Res
     Ok(())
 }
 
+/// Copies of these values.
+fn copies(alloc: Global, values: &Row) -> Result<Row, AllocError>
+    ensures { IfOk result (λ row. row ≡ values.now) }
+{
+    let mut row = Items::new(alloc);
+    push_copies(alloc, &mut row, values.as_slice())?;
+    Ok(row)
+}
+
 /// The net's values once the assignments of a task are made, which has these items: each over what the items made and the net's values as
 /// they are. One that is undefined leaves its variable. An `Err` says that no memory was left.
 pub fn kept_values(
@@ -223,9 +232,11 @@ pub fn kept_values(
 ) -> Result<Row, AllocError>
     ensures { IfOk result (λ kept. kept ≡ kept_values task.now (rows_made nodes.now) vals.now) }
 {
+    let mut kept = copies(alloc, vals)?;
+    if task.set.is_empty() {
+        return Ok(kept);
+    }
     let over = set_row(alloc, task, nodes, vals)?;
-    let mut kept = Items::new(alloc);
-    push_copies(alloc, &mut kept, vals.as_slice())?;
     assign_each(alloc, &mut kept, task.set.as_slice(), &over)?;
     Ok(kept)
 }

@@ -1,6 +1,6 @@
 use Rattle.std.proofs.Common.{List, ap, subst, ℕ, ◌∙◌, ◌≡◌}
 use Rattle.yw_state.specs.Passing.{kept_values}
-use Rattle.yw_task.proofs.ExitLaw.{exits}
+use Rattle.yw_task.proofs.ExitLaw.{exits, splits}
 use Rattle.yw_task.proofs.exits.exit.Goals as goal
 use Rattle.yw_task.specs.Leaves.{Leaves}
 use Rattle.yw_task.specs.Making.{rows_made}
@@ -17,3 +17,11 @@ returns-clause-ok c =
     let kept : vals ≡ kept_values task (rows_made (items_in old c.args.t)) (out-NetState old).vals = c.in_ok-vals.ensures ∙ ap (λ ns. kept_values task (rows_made ns) (out-NetState old).vals) c.items_in.ensures in
     let left = subst (λ (cs : List ℕ). Leaves task c.args.t vals cs old new) c.as_slice.ensures c.leave.ensures.leaves in
     exits c.args.net.now c.args.t old new task vals places c.task_at-task.ensures kept c.in_ok-places.ensures left
+
+pub returns-clause-split : goal.returns-clause-split
+returns-clause-split c =
+    let old = c.args.state.now in
+    let task = c.task_at-task.result.now in
+    let vals = c.in_ok-vals.vals in
+    let kept : vals ≡ kept_values task (rows_made (items_in old c.args.t)) (out-NetState old).vals = c.in_ok-vals.ensures ∙ ap (λ ns. kept_values task (rows_made ns) (out-NetState old).vals) c.items_in.ensures in
+    splits c.args.net.now c.args.t old task vals c.in_ok-places.places c.task_at-task.ensures kept c.in_ok-places.ensures
