@@ -5,3 +5,11 @@ pub mod AskLaw
 pub mod EnterAsk
 pub mod Maps
 pub mod CompleteLaw
+pub mod AllOf
+pub mod ItemPut
+pub mod OwnPart
+pub mod ItemsCome
+pub mod Arriving
+pub mod EnterTable
+pub mod Placing
+pub mod EnterLaw

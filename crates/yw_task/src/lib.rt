@@ -4,12 +4,16 @@
 #![tactic(auto)]
 
 mod ask;
+mod coming;
 mod done;
+mod entering;
 mod fault;
+mod giving;
 mod item;
 mod waits;
 
 pub use ask::{ask_complete, ask_enter, ask_start};
 pub use done::complete;
+pub use entering::enter;
 pub use fault::StepFault;
 pub use item::start;
