@@ -39,7 +39,7 @@ get_or-slice [] k = refl
 get_or-slice (x ∷ xs) zero = refl
 get_or-slice (x ∷ xs) (suc k) = get_or-slice xs k
 
-length_parts : (ns : List Node) → length (row_parts ns) ≡ length ns
+pub length_parts : (ns : List Node) → length (row_parts ns) ≡ length ns
 length_parts [] = refl
 length_parts (n ∷ ns) = ap (λ k. suc k) (length_parts ns)
 

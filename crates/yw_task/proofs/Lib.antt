@@ -10,3 +10,11 @@ pub mod MadeLaw
 pub mod TurnLaw
 pub mod RegionLaw
 pub mod ExitLaw
+pub mod AllOf
+pub mod ItemPut
+pub mod OwnPart
+pub mod ItemsCome
+pub mod Arriving
+pub mod EnterTable
+pub mod Placing
+pub mod EnterLaw

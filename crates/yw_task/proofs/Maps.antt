@@ -2,10 +2,10 @@
 use Rattle.std.proofs.Common.{None, Option, Some, ap, refl, subst, sym, ◌∙◌, ◌≡◌}
 use Rattle.std.specs.Ordering.{eq_by_cmp}
 use Rattle.std.specs.Prelude.{option_map}
-use Rattle.yw_state.proofs.MapLemmas.{by_name, get-update_other, get-update_same, same_map, tied, tied_self}
+use Rattle.yw_state.proofs.MapLemmas.{by_name, get-insert_other, get-insert_same, get-update_other, get-update_same, same_map, tied, tied_self}
 use Rattle.yw_state.proofs.Tests.{by_test, never}
 use Rattle.yw_state.specs.Identity.{Ident}
-use Rattle.yw_state.specs.Map.{get, lexical, update}
+use Rattle.yw_state.specs.Map.{get, insert, lexical, update}
 use Rattle.yw_state.specs.State.{Site, Sites}
 
 at_each : (j : Ident) (P : Ident → Type 0) → P j → ((q : Ident) → ¬ (q ≡ j) → P q) → (q : Ident) → P q
@@ -29,3 +29,14 @@ updated_twice m j f g = same_map by_name _ _ (at_each j (λ q. get (update (upda
     get-update_other by_name (update m j f) j g q other
     ∙ get-update_other by_name m j f q other
     ∙ sym (get-update_other by_name m j (λ x. g (f x)) q other)))
+
+-- a value that is put and then changed
+pub updated_put : (m : Sites) (j : Ident) (y : Site) (f : Site → Site) → update (insert m j y) j f ≡ insert m j (f y)
+updated_put m j y f = same_map by_name _ _ (at_each j (λ q. get (update (insert m j y) j f) q ≡ get (insert m j (f y)) q)
+    (get-update_same by_name (insert m j y) j f
+    ∙ ap (option_map f) (get-insert_same by_name m j y)
+    ∙ sym (get-insert_same by_name m j (f y)))
+    (λ q other.
+    get-update_other by_name (insert m j y) j f q other
+    ∙ get-insert_other by_name m j y q other
+    ∙ sym (get-insert_other by_name m j (f y) q other)))

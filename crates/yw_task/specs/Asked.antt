@@ -75,10 +75,6 @@ is_active state t = nat_lt 0 (length (row_or_none (slice_get (out-NetState state
 abbrev pub AreActive : NetState → ℕ → List Bool → Type 0
 AreActive state count actives = (t : ℕ) → t < count → is_active state t ≡ get_or actives t false
 
--- a net has at most so many tasks
-abbrev pub most_tasks : ℕ
-most_tasks = 256
-
 -- The answer is whether a token may still come to an empty input place of the task, where these tasks are active.
 pub record FillsAs (net : Net) (state : NetState) (task : Task) (answer : Bool) : Type 0 where
   pub actives : List Bool

@@ -5,3 +5,7 @@ pub mod Making
 pub mod Turning
 pub mod Leaving
 pub mod Leaves
+pub mod Giving
+pub mod Due
+pub mod Items
+pub mod Enters

@@ -1,8 +1,9 @@
 // Which rule a command breaks first, of those that an item shows.
-ghost use Rattle.std.specs.Prelude.{◌≡◌, ◌<◌, ◌≤◌, Some, length, slice_get};
+ghost use Rattle.std.specs.Prelude.{◌≡◌, ◌<◌, ◌≤◌, None, Some, false, length, slice_get};
 ghost use Rattle.yw_path.specs.Upstream.{IsUpstreamOf};
 ghost use Rattle.yw_state.specs.Words.{is_executing, is_ready};
-ghost use Rattle.yw_task.specs.Asked.{AsksComplete, AsksEnter, AsksStart, complete_fault, is_others, most_tasks, or_busy, start_fault};
+ghost use Rattle.yw_task.specs.Asked.{AsksComplete, AsksEnter, AsksStart, complete_fault, is_active, is_others, or_busy, start_fault};
+ghost use Rattle.yw_within.specs.Within.{most_tasks};
 
 use crate::waits::{is_active, or_waits};
 use yw_base::Name;
@@ -103,7 +104,9 @@ pub fn ask_enter(net: &Net, state: &NetState, up: &Upstream, t: usize) -> Option
     requires task { t < length net.now.tasks }
     requires few { length net.now.tasks ≤ most_tasks }
     requires upstream { IsUpstreamOf net.now up.now }
-    ensures { AsksEnter net.now state.now t result }
+    ensures first { AsksEnter net.now state.now t result }
+    // A task that may be entered isn't active.
+    ensures idle { result ≡ None → is_active state.now t ≡ false }
 {
     if is_active(state, t) {
         return Some(Rule::Active);

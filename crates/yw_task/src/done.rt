@@ -89,7 +89,7 @@ fn mapping_fault(
 }
 
 /// A rule without a place.
-fn placeless(alloc: Global, rule: Rule) -> Refusal
+pub fn placeless(alloc: Global, rule: Rule) -> Refusal
     ensures { result ≡ placeless rule }
 {
     Refusal {

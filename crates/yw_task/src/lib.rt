@@ -1,12 +1,15 @@
-//! The life of a task on one net: what commands on it break, and its items are started and completed. No forest is in sight here: a
-//! call takes an item or a net, and says what the map of the forest is, wherever that stands. The README of the crate says which clause
-//! proves what, and what is still to come.
+//! The life of a task on one net: what commands on it break; it is entered, its items are started and completed, and it exits. No
+//! forest is in sight here: a call takes an item or a net, and says what the map of the forest is, wherever that stands. The README of the
+//! crate says which clause proves what, and what is still to come.
 #![tactic(auto)]
 
 mod ask;
+mod coming;
 mod done;
+mod entering;
 mod exits;
 mod fault;
+mod giving;
 mod item;
 mod made;
 mod region;
@@ -15,6 +18,7 @@ mod waits;
 
 pub use ask::{ask_complete, ask_enter, ask_start};
 pub use done::complete;
+pub use entering::enter;
 pub use exits::exit;
 pub use fault::StepFault;
 pub use item::start;

@@ -2,7 +2,8 @@
 ghost use Rattle.std.specs.Prelude.{◌≡◌, ◌≤◌, ◌↔◌, IsTrue, length};
 ghost use Rattle.yw_path.specs.Upstream.{IsUpstreamOf};
 ghost use Rattle.yw_path.specs.Waiting.{MayFill};
-ghost use Rattle.yw_task.specs.Asked.{AreActive, FillsAs, OrWaitsAs, is_active, most_tasks};
+ghost use Rattle.yw_task.specs.Asked.{AreActive, FillsAs, OrWaitsAs, is_active};
+ghost use Rattle.yw_within.specs.Within.{most_tasks};
 
 use yw_mark::is_marked;
 use yw_path::Upstream;
