@@ -8,3 +8,5 @@ pub mod ItemEnds
 pub mod Known
 pub mod SubBegins
 pub mod SubEnds
+pub mod NetFound
+pub mod FromState

@@ -5,6 +5,7 @@
 mod begin;
 mod end;
 mod item;
+pub mod laws;
 mod nets;
 mod sub;
 mod vals;
