@@ -5,3 +5,4 @@ pub mod Giving
 pub mod Due
 pub mod Items
 pub mod Enters
+pub mod Adds
