@@ -18,3 +18,5 @@ pub mod Arriving
 pub mod EnterTable
 pub mod Placing
 pub mod EnterLaw
+pub mod AddTable
+pub mod AddLaw

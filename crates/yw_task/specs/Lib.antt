@@ -9,3 +9,4 @@ pub mod Giving
 pub mod Due
 pub mod Items
 pub mod Enters
+pub mod Adds

@@ -1,8 +1,9 @@
-//! The life of a task on one net: what commands on it break; it is entered, its items are started and completed, and it exits. No
-//! forest is in sight here: a call takes an item or a net, and says what the map of the forest is, wherever that stands. The README of the
-//! crate says which clause proves what, and what is still to come.
+//! The life of a task on one net: what commands on it break; it is entered, its items are added, started and completed, and it exits.
+//! No forest is in sight here: a call takes an item or a net, and says what the map of the forest is, wherever that stands. The README of
+//! the crate says which clause proves what.
 #![tactic(auto)]
 
+mod adding;
 mod ask;
 mod coming;
 mod done;
@@ -16,6 +17,7 @@ mod region;
 mod tokens;
 mod waits;
 
+pub use adding::add;
 pub use ask::{ask_complete, ask_enter, ask_start};
 pub use done::complete;
 pub use entering::enter;

@@ -1,0 +1,236 @@
+// An item is added to a task.
+ghost use Rattle.std.specs.Prelude.{◌≡◌, ◌<◌, ◌≤◌, [], ◌∷◌, IfOk, None, OnOk, Some, length};
+ghost use Rattle.std.specs.List.{list_all};
+ghost use Rattle.std.specs.Option.{option_copied};
+ghost use Rattle.yw_base.specs.Identity.{most_numbers, number_end};
+ghost use Rattle.yw_base.specs.Values.{is_short, is_small};
+ghost use Rattle.yw_state.specs.Allowed.{element_param};
+ghost use Rattle.yw_state.specs.Given.{as_sort, element_value};
+ghost use Rattle.yw_state.specs.Passing.{given_values};
+ghost use Rattle.yw_task.specs.Adds.{AddBreaks, Adds, GivesRow, is_empty_list, is_full, is_texts, meant, room_rule, value_fault};
+ghost use Rattle.yw_task.specs.Completes.{AnswersFirst};
+ghost use Rattle.yw_task.specs.Enters.{OnRefusal};
+ghost use Rattle.yw_task.specs.Giving.{undefined_param};
+ghost use Rattle.yw_task.specs.Items.{AreBefore, row_of};
+ghost use Rattle.yw_tree.specs.Boxed.{IsBoxedNet};
+ghost use Rattle.yw_tree.specs.declared.NetState.{out-NetState};
+
+use crate::ask::task_at;
+use crate::coming::add_items;
+use crate::done::placeless;
+use crate::fault::StepFault;
+use crate::giving::{given_row, undefined_param};
+use crate::waits::is_active;
+use std::alloc::{AllocError, Global};
+use yw_base::{Ident, Items, Row, Sort, Text, Value};
+use yw_spec::{Net, Param, Task};
+use yw_state::{Checks, Refusal, Rule};
+use yw_tree::NetState;
+
+/// The most bytes of a text, and the most elements of a list: our own limits on values.
+const MOST_TEXT_BYTES: usize = 4096;
+
+const MOST_ELEMENTS: usize = 1000;
+
+/// The first number that is too large, 2^48.
+const NUMBER_END: u64 = 0x1_0000_0000_0000;
+
+fn is_short(text: &Text) -> bool
+    ensures { result ≡ is_short text.now }
+{
+    text.as_str().len() <= MOST_TEXT_BYTES
+}
+
+fn are_short(texts: &[Text]) -> bool
+    ensures { result ≡ list_all is_short texts.now }
+{
+    texts.iter().all(|text| is_short(text))
+}
+
+/// It is within the limits of values.
+fn is_small(value: &Value) -> bool
+    ensures { result ≡ is_small value.now }
+{
+    match value {
+        Value::Bool(_) | Value::Int(_) => true,
+        Value::Text(text) => is_short(text),
+        Value::Ints(ints) => ints.len() <= MOST_ELEMENTS,
+        Value::Texts(texts) => { texts.len() <= MOST_ELEMENTS && are_short(texts.as_slice()) }
+    }
+}
+
+fn is_texts(sort: Sort) -> bool
+    ensures { result ≡ is_texts sort }
+{
+    match sort {
+        Sort::Texts => true,
+        Sort::Bool | Sort::Int | Sort::Text | Sort::Ints => false,
+    }
+}
+
+/// It is the empty list, which comes as one of numbers.
+fn is_empty_list(value: &Value) -> bool
+    ensures { result ≡ is_empty_list value.now }
+{
+    match value {
+        Value::Ints(ints) => ints.is_empty(),
+        _ => false,
+    }
+}
+
+/// What a value means where one of this sort is wanted.
+fn meant(alloc: Global, sort: Sort, value: Value) -> Value
+    ensures { result ≡ meant sort value }
+{
+    if is_texts(sort) && is_empty_list(&value) {
+        return Value::Texts(Items::new(alloc));
+    }
+    value
+}
+
+/// The value as one of this sort, if it is one and within the limits.
+fn as_sort(alloc: Global, sort: Sort, value: Value) -> Option<Value>
+    ensures { result ≡ as_sort sort (Some value) }
+{
+    let value = meant(alloc, sort, value);
+    if value.has_sort(sort) && is_small(&value) {
+        Some(value)
+    } else {
+        None
+    }
+}
+
+/// The parameter that is given an element.
+fn element_param(task: &Task) -> Option<&Param>
+    ensures { option_copied result ≡ element_param task.now }
+{
+    match &task.many {
+        Some(many) => task.ins.get(many.item),
+        None => None,
+    }
+}
+
+/// The element for which a value stands.
+fn element_of(alloc: Global, task: &Task, value: Value) -> Option<Value>
+    ensures { result ≡ element_value task.now (Some value) }
+{
+    match element_param(task) {
+        Some(param) => as_sort(alloc, param.sort, value),
+        None => None,
+    }
+}
+
+/// How many items of the task stand in the net.
+fn item_count(state: &NetState, t: usize) -> usize
+    ensures { result ≡ length (row_of state.now t) }
+{
+    match state.items.get(t) {
+        Some(list) => list.len(),
+        None => 0,
+    }
+}
+
+/// So many items are as many as the task may have, or more.
+fn is_full(task: &Task, count: usize) -> bool
+    ensures { result ≡ is_full task.now count }
+{
+    match &task.many {
+        Some(many) => many.max as usize <= count,
+        None => false,
+    }
+}
+
+/// `Stage` where the task isn't active, `MaxReached` where it has as many items as it may have.
+fn room_rule(state: &NetState, task: &Task, t: usize) -> Option<Rule>
+    ensures { result ≡ room_rule state.now task.now t }
+{
+    if !is_active(state, t) {
+        return Some(Rule::Stage);
+    }
+    is_full(task, item_count(state, t)).then_some(Rule::MaxReached)
+}
+
+/// What an item is given for an element, where no parameter has an undefined expression.
+fn element_row(alloc: Global, task: &Task, vals: &Row, element: &Value) -> Result<Row, AllocError>
+    requires { undefined_param task.now vals.now ≡ None }
+    ensures { IfOk result (λ row. given_values task.now vals.now (Some element.now) ≡ Some row) }
+{
+    match given_row(alloc, task, vals, Some(element.lend()))? {
+        Some(row) => Ok(row),
+        None => unreachable!(),
+    }
+}
+
+/// What an item that is numbered `n` is given for a value. `Refused` has the first rule that is broken: `BadData` where the value is no element,
+/// `Mapping` where a parameter has an undefined expression, at its name, and `Numbers`.
+fn row_to_add(
+    alloc: Global,
+    task: &Task,
+    vals: &Row,
+    value: Value,
+    n: u64,
+) -> Result<Row, StepFault>
+    ensures gives { IfOk result (GivesRow task.now vals.now value) }
+    ensures number { OnOk result (n < number_end) }
+    ensures breaks { AnswersFirst (λ found. found ≡ value_fault task.now vals.now value n) result }
+{
+    let Some(element) = element_of(alloc, task, value) else {
+        return Err(StepFault::Refused(Refusal {
+            rule: Rule::BadData,
+            at: Text::copy_of(alloc, "value")?,
+        }));
+    };
+    if let Some(at) = undefined_param(alloc, task, vals)? {
+        return Err(StepFault::Refused(Refusal {
+            rule: Rule::Mapping,
+            at,
+        }));
+    }
+    if n >= NUMBER_END {
+        return Err(StepFault::Refused(placeless(alloc, Rule::Numbers)));
+    }
+    Ok(element_row(alloc, task, vals, &element)?)
+}
+
+/// A list of one row.
+fn alone(alloc: Global, given: Row) -> Result<Vec<Row>, AllocError>
+    ensures { IfOk result (λ rows. rows.items ≡ given ∷ []) }
+{
+    Ok(vec![in alloc; given]?)
+}
+
+/// A person adds an item to a task, by the task's number in the net at `at`; that the task is dynamic is judged before. The item is ready and
+/// numbered `n`, is given the element for which the value stands, and these checks are due at it. The items of the task have numbers below `n`.
+///
+/// `Refused` has the first rule that this breaks, of those that are looked at here: `Stage` where the task isn't active; `MaxReached` where it
+/// has as many items as it may have; `BadData`, at `value`, where the value isn't of the sort of an element, or past the limits of values;
+/// `Mapping` where another parameter has an undefined expression, at the name of the first such one; `Numbers` where no number is left. Then
+/// the net is as it was. Where no memory is left the net isn't used again.
+pub fn add(
+    alloc: Global,
+    net: &Net,
+    state: &mut NetState,
+    at: &Ident,
+    t: usize,
+    value: Value,
+    n: u64,
+    due: Checks,
+) -> Result<(), StepFault>
+    requires task { t < length net.now.tasks }
+    requires boxed { IsBoxedNet state.old }
+    requires task_in { t < length (out-NetState state.old).items.items }
+    requires room { length at.now < most_numbers }
+    requires some { 1 ≤ n }
+    requires before { AreBefore at.now n (row_of state.old t) }
+    ensures ok { OnOk result (Adds net.now state.old at.now t value n due state.new) }
+    ensures breaks { AnswersFirst (AddBreaks net.now state.old t value n) result }
+    ensures err { OnRefusal result (state.new ≡ state.old) }
+{
+    let task = task_at(net, t);
+    if let Some(rule) = room_rule(state, task, t) {
+        return Err(StepFault::Refused(placeless(alloc, rule)));
+    }
+    let given = row_to_add(alloc, task, &state.vals, value, n)?;
+    add_items(alloc, state, at, t, n, alone(alloc, given)?, due)?;
+    Ok(())
+}
