@@ -39,7 +39,7 @@ fn may_be_child(raw: &RawSpec, index: &Index, task: &RawTask) -> bool
     }
 }
 
-fn child_fits(
+fn check_child(
     alloc: Global,
     raw: &RawSpec,
     index: &Index,
@@ -56,7 +56,7 @@ fn child_fits(
     Ok(Some(broken))
 }
 
-fn net_children_fit(
+fn check_net(
     alloc: Global,
     raw: &RawSpec,
     index: &Index,
@@ -66,7 +66,7 @@ fn net_children_fit(
     ensures { IfOk result (NetChildrenFit raw.now net.now) }
 {
     for task in net.task.as_slice() {
-        match child_fits(alloc, raw, index, net, task)? {
+        match check_child(alloc, raw, index, net, task)? {
             None => {}
             Some(broken) => return Ok(Some(broken)),
         }
@@ -75,13 +75,13 @@ fn net_children_fit(
 }
 
 /// The first task whose kind and net don't go together.
-fn tasks_fit(alloc: Global, raw: &RawSpec) -> Result<Option<Broken>, AllocError>
+fn check_tasks(alloc: Global, raw: &RawSpec) -> Result<Option<Broken>, AllocError>
     ensures { IfOk result (InOrder (NetChildrenFit raw.now) raw.now.net) }
 {
     let names = names_of(alloc, raw.net.as_slice())?;
     let index = index_of(alloc, &names)?;
     for net in raw.net.as_slice() {
-        match net_children_fit(alloc, raw, &index, net)? {
+        match check_net(alloc, raw, &index, net)? {
             None => {}
             Some(broken) => return Ok(Some(broken)),
         }
@@ -126,7 +126,7 @@ fn first_unused(top: usize, uses: &[usize], marks: &Marks) -> Option<usize>
 }
 
 /// The first net other than the top that isn't named by one task or isn't reached from the top.
-fn nets_fit(alloc: Global, raw: &RawSpec, graph: &NetGraph) -> Result<Option<Broken>, AllocError>
+fn check_nets(alloc: Global, raw: &RawSpec, graph: &NetGraph) -> Result<Option<Broken>, AllocError>
     requires named { IsNamed raw.now }
     requires graph { IsNetGraph raw.now graph.now }
     ensures { IfOk result (InOrder (NetIsUsedOnce raw.now) raw.now.net) }
@@ -152,11 +152,11 @@ pub fn children_fit(alloc: Global, raw: &RawSpec) -> Result<Option<Broken>, Allo
     requires { NamesFit raw.now None }
     ensures { IfOk result (ChildrenFit raw.now) }
 {
-    match tasks_fit(alloc, raw)? {
+    match check_tasks(alloc, raw)? {
         Some(broken) => Ok(Some(broken)),
         None => {
             let graph = net_graph(alloc, raw)?;
-            let found = nets_fit(alloc, raw, &graph)?;
+            let found = check_nets(alloc, raw, &graph)?;
             Ok(found)
         }
     }

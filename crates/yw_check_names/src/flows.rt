@@ -74,7 +74,7 @@ fn try_flows(
 }
 
 /// The flows of a net.
-fn flows_of_net_fit(alloc: Global, net: &RawNet) -> Result<Option<Broken>, AllocError>
+fn check_net(alloc: Global, net: &RawNet) -> Result<Option<Broken>, AllocError>
     requires { NetIsNamed net.now }
     ensures { IfOk result (InTurn (FlowFits net.now) [] net.now.flows) }
 {
@@ -85,12 +85,12 @@ fn flows_of_net_fit(alloc: Global, net: &RawNet) -> Result<Option<Broken>, Alloc
 }
 
 /// The flows of nets.
-fn flows_in_nets_fit(alloc: Global, nets: &[RawNet]) -> Result<Option<Broken>, AllocError>
+fn check_nets(alloc: Global, nets: &[RawNet]) -> Result<Option<Broken>, AllocError>
     requires { All NetIsNamed nets.now }
     ensures { IfOk result (InOrder (λ net. InTurn (FlowFits net) [] net.flows) nets.now) }
 {
     for net in nets {
-        if let Some(broken) = flows_of_net_fit(alloc, net)? {
+        if let Some(broken) = check_net(alloc, net)? {
             return Ok(Some(broken));
         }
     }
@@ -111,6 +111,6 @@ pub fn flows_fit(alloc: Global, raw: &RawSpec) -> Result<Option<Broken>, AllocEr
     requires names { NamesFit raw.now None }
     ensures { IfOk result (FlowsFit raw.now) }
 {
-    let found = flows_in_nets_fit(alloc, raw.net.as_slice())?;
+    let found = check_nets(alloc, raw.net.as_slice())?;
     Ok(found)
 }

@@ -17,7 +17,7 @@ use yw_base::Text;
 use yw_read::{RawNet, RawSpec, RawTask};
 
 /// A task's role, if it has one, has to be usable.
-fn role_fits(alloc: Global, net: &RawNet, task: &RawTask) -> Result<Option<Broken>, AllocError>
+fn check_role(alloc: Global, net: &RawNet, task: &RawTask) -> Result<Option<Broken>, AllocError>
     ensures { IfOk result (InOrder (IsUsable (in_net 1 net.now.name)) (option_to_list task.now.role)) }
 {
     match &task.role {
@@ -36,7 +36,7 @@ fn role_fits(alloc: Global, net: &RawNet, task: &RawTask) -> Result<Option<Broke
 fn names_in_task(alloc: Global, net: &RawNet, task: &RawTask) -> Result<Option<Broken>, AllocError>
     ensures { IfOk result (NamesInTask net.now task.now) }
 {
-    if let Some(broken) = role_fits(alloc, net, task)? {
+    if let Some(broken) = check_role(alloc, net, task)? {
         return Ok(Some(broken));
     }
     if let Some(broken) = distinct_names(alloc, &net.name, &task.ins)? {
@@ -140,7 +140,7 @@ fn try_nets(
 }
 
 /// The nets' names, each beside those before it, and the names in the nets.
-fn nets_fit(alloc: Global, nets: &[RawNet]) -> Result<Option<Broken>, AllocError>
+fn check_nets(alloc: Global, nets: &[RawNet]) -> Result<Option<Broken>, AllocError>
     ensures { IfOk result (InTurn NetNames [] nets.now) }
 {
     let mut seen = BTreeSet::new(alloc);
@@ -149,7 +149,7 @@ fn nets_fit(alloc: Global, nets: &[RawNet]) -> Result<Option<Broken>, AllocError
 }
 
 /// The specification's name has to be usable.
-fn name_fits(alloc: Global, raw: &RawSpec) -> Result<Option<Broken>, AllocError>
+fn check_name(alloc: Global, raw: &RawSpec) -> Result<Option<Broken>, AllocError>
     ensures { IfOk result (IsUsable (of_spec 1) raw.now.name) }
 {
     if is_usable(alloc, &raw.name)? {
@@ -173,7 +173,7 @@ fn is_net(raw: &RawSpec, name: &Text) -> bool
 }
 
 /// The top has to be a net.
-fn top_fits(alloc: Global, raw: &RawSpec) -> Result<Option<Broken>, AllocError>
+fn check_top(alloc: Global, raw: &RawSpec) -> Result<Option<Broken>, AllocError>
     ensures { IfOk result (Demand (is_net raw.now raw.now.top ≡ true) (of_spec 1 raw.now.top)) }
 {
     if is_net(raw, &raw.top) {
@@ -197,12 +197,12 @@ fn top_fits(alloc: Global, raw: &RawSpec) -> Result<Option<Broken>, AllocError>
 pub fn names_fit(alloc: Global, raw: &RawSpec) -> Result<Option<Broken>, AllocError>
     ensures { IfOk result (NamesFit raw.now) }
 {
-    if let Some(broken) = name_fits(alloc, raw)? {
+    if let Some(broken) = check_name(alloc, raw)? {
         return Ok(Some(broken));
     }
-    if let Some(broken) = top_fits(alloc, raw)? {
+    if let Some(broken) = check_top(alloc, raw)? {
         return Ok(Some(broken));
     }
-    let found = nets_fit(alloc, raw.net.as_slice())?;
+    let found = check_nets(alloc, raw.net.as_slice())?;
     Ok(found)
 }

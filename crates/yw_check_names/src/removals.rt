@@ -61,7 +61,7 @@ fn has_all(set: &NameSet, names: &[Text]) -> bool
 }
 
 /// What a task removes.
-fn removal_fits(
+fn check_removal(
     alloc: Global,
     net: &RawNet,
     emptied: &NameSet,
@@ -78,7 +78,7 @@ fn removal_fits(
 }
 
 /// What tasks of a net remove.
-fn removals_of_tasks_fit(
+fn check_tasks(
     alloc: Global,
     net: &RawNet,
     emptied: &NameSet,
@@ -88,7 +88,7 @@ fn removals_of_tasks_fit(
     ensures { IfOk result (InOrder (RemovalFits net.now) tasks.now) }
 {
     for task in tasks {
-        if let Some(broken) = removal_fits(alloc, net, emptied, task)? {
+        if let Some(broken) = check_removal(alloc, net, emptied, task)? {
             return Ok(Some(broken));
         }
     }
@@ -96,20 +96,20 @@ fn removals_of_tasks_fit(
 }
 
 /// What the tasks of a net remove.
-fn removals_of_net_fit(alloc: Global, net: &RawNet) -> Result<Option<Broken>, AllocError>
+fn check_net(alloc: Global, net: &RawNet) -> Result<Option<Broken>, AllocError>
     ensures { IfOk result (InOrder (RemovalFits net.now) net.now.task) }
 {
     let emptied = emptied_in(alloc, net)?;
-    let found = removals_of_tasks_fit(alloc, net, &emptied, net.task.as_slice())?;
+    let found = check_tasks(alloc, net, &emptied, net.task.as_slice())?;
     Ok(found)
 }
 
 /// What the tasks of nets remove.
-fn removals_in_nets_fit(alloc: Global, nets: &[RawNet]) -> Result<Option<Broken>, AllocError>
+fn check_nets(alloc: Global, nets: &[RawNet]) -> Result<Option<Broken>, AllocError>
     ensures { IfOk result (InOrder (λ net. InOrder (RemovalFits net) net.task) nets.now) }
 {
     for net in nets {
-        if let Some(broken) = removals_of_net_fit(alloc, net)? {
+        if let Some(broken) = check_net(alloc, net)? {
             return Ok(Some(broken));
         }
     }
@@ -128,6 +128,6 @@ fn removals_in_nets_fit(alloc: Global, nets: &[RawNet]) -> Result<Option<Broken>
 pub fn removals_fit(alloc: Global, raw: &RawSpec) -> Result<Option<Broken>, AllocError>
     ensures { IfOk result (RemovalsFit raw.now) }
 {
-    let found = removals_in_nets_fit(alloc, raw.net.as_slice())?;
+    let found = check_nets(alloc, raw.net.as_slice())?;
     Ok(found)
 }

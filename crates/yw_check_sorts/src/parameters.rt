@@ -241,7 +241,7 @@ fn task_fits(
     Ok(fit)
 }
 
-fn task_parameters_agree(
+fn check_task(
     alloc: Global,
     raw: &RawSpec,
     nets: &Index,
@@ -264,7 +264,7 @@ fn task_parameters_agree(
     Ok(Some(broken))
 }
 
-fn net_parameters_agree(
+fn check_net(
     alloc: Global,
     raw: &RawSpec,
     nets: &Index,
@@ -278,7 +278,7 @@ fn net_parameters_agree(
     let vars = index_of(alloc, net.vars.as_slice())?;
     let layer = vars_layer(alloc, net.vars.as_slice())?;
     for task in net.task.as_slice() {
-        match task_parameters_agree(alloc, raw, nets, net, &vars, &layer, task)? {
+        match check_task(alloc, raw, nets, net, &vars, &layer, task)? {
             Some(broken) => return Ok(Some(broken)),
             None => {}
         }
@@ -286,13 +286,13 @@ fn net_parameters_agree(
     Ok(None)
 }
 
-fn nets_parameters_agree(alloc: Global, raw: &RawSpec) -> Result<Option<Broken>, AllocError>
+fn check_nets(alloc: Global, raw: &RawSpec) -> Result<Option<Broken>, AllocError>
     requires { IsNamed raw.now }
     ensures { IfOk result (InOrder (NetParametersAgree raw.now) raw.now.net) }
 {
     let nets = index_of(alloc, raw.net.as_slice())?;
     for net in raw.net.as_slice() {
-        match net_parameters_agree(alloc, raw, &nets, net)? {
+        match check_net(alloc, raw, &nets, net)? {
             Some(broken) => return Ok(Some(broken)),
             None => {}
         }
@@ -319,6 +319,6 @@ pub fn parameters_agree(alloc: Global, raw: &RawSpec) -> Result<Option<Broken>, 
     requires names { NamesFit raw.now None }
     ensures { IfOk result (ParametersAgree raw.now) }
 {
-    let found = nets_parameters_agree(alloc, raw)?;
+    let found = check_nets(alloc, raw)?;
     Ok(found)
 }

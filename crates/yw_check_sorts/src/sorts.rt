@@ -124,7 +124,7 @@ fn expressions_fit(
     Ok(fit)
 }
 
-fn task_sorts_fit(
+fn check_task(
     alloc: Global,
     net: &RawNet,
     vars: &Bindings,
@@ -141,13 +141,13 @@ fn task_sorts_fit(
     Ok(Some(broken))
 }
 
-fn net_sorts_fit(alloc: Global, net: &RawNet) -> Result<Option<Broken>, AllocError>
+fn check_net(alloc: Global, net: &RawNet) -> Result<Option<Broken>, AllocError>
     requires { NetIsNamed net.now }
     ensures { IfOk result (NetSortsFit net.now) }
 {
     let vars = vars_layer(alloc, net.vars.as_slice())?;
     for task in net.task.as_slice() {
-        match task_sorts_fit(alloc, net, &vars, task)? {
+        match check_task(alloc, net, &vars, task)? {
             Some(broken) => return Ok(Some(broken)),
             None => {}
         }
@@ -155,12 +155,12 @@ fn net_sorts_fit(alloc: Global, net: &RawNet) -> Result<Option<Broken>, AllocErr
     Ok(None)
 }
 
-fn nets_sorts_fit(alloc: Global, nets: &[RawNet]) -> Result<Option<Broken>, AllocError>
+fn check_nets(alloc: Global, nets: &[RawNet]) -> Result<Option<Broken>, AllocError>
     requires { All NetIsNamed nets.now }
     ensures { IfOk result (InOrder NetSortsFit nets.now) }
 {
     for net in nets {
-        match net_sorts_fit(alloc, net)? {
+        match check_net(alloc, net)? {
             Some(broken) => return Ok(Some(broken)),
             None => {}
         }
@@ -185,6 +185,6 @@ pub fn sorts_fit(alloc: Global, raw: &RawSpec) -> Result<Option<Broken>, AllocEr
     requires names { NamesFit raw.now None }
     ensures { IfOk result (SortsFit raw.now) }
 {
-    let found = nets_sorts_fit(alloc, raw.net.as_slice())?;
+    let found = check_nets(alloc, raw.net.as_slice())?;
     Ok(found)
 }

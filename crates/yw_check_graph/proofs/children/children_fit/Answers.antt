@@ -16,8 +16,8 @@ net_graph-requires-clause-children c =
     let P : Option Broken → Type 0 = λ found. InOrder (NetChildrenFit c.args.raw.now) c.args.raw.now.net found in
     children_among c.args.raw.now (subst P c.in-None.is (c.in_ok-broken.ensures))
 
-pub nets_fit-requires-clause-named : goal.nets_fit-requires-clause-named
-nets_fit-requires-clause-named c = is_named c.args.raw.now c.requires
+pub check_nets-requires-clause-named : goal.check_nets-requires-clause-named
+check_nets-requires-clause-named c = is_named c.args.raw.now c.requires
 
 pub returns-in-Some : goal.returns-in-Some
 unfolding ChildrenFit

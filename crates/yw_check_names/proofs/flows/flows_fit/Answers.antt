@@ -4,7 +4,7 @@ use Rattle.yw_accept.specs.Facts.{NetIsNamed}
 use Rattle.yw_accept.proofs.FactsLemmas.{is_named}
 use Rattle.yw_check_names.proofs.flows.flows_fit.Goals as goal
 
-pub flows_in_nets_fit-requires : goal.flows_in_nets_fit-requires
-flows_in_nets_fit-requires c =
+pub check_nets-requires : goal.check_nets-requires
+check_nets-requires c =
     let P : List RawNet → Type 0 = λ nets. All NetIsNamed nets in
     subst P (sym c.as_slice.ensures) (is_named c.args.raw.now c.requires.names).nets

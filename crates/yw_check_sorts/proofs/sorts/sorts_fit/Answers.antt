@@ -3,5 +3,5 @@ use Rattle.yw_accept.specs.Facts.{NetIsNamed}
 use Rattle.yw_accept.proofs.FactsLemmas.{is_named}
 use Rattle.yw_check_sorts.proofs.sorts.sorts_fit.Goals as goal
 
-pub nets_sorts_fit-requires : goal.nets_sorts_fit-requires
-nets_sorts_fit-requires c = subst (All NetIsNamed) (sym c.as_slice.ensures) (is_named c.args.raw.now c.requires.names).nets
+pub check_nets-requires : goal.check_nets-requires
+check_nets-requires c = subst (All NetIsNamed) (sym c.as_slice.ensures) (is_named c.args.raw.now c.requires.names).nets

@@ -2,10 +2,10 @@ use Rattle.yw_accept.specs.Facts.{TaskIsNamed}
 use Rattle.yw_check_sorts.specs.Fitting.{TaskSortsFit}
 use Rattle.yw_accept.proofs.Lists.{at_element}
 use Rattle.yw_accept.proofs.Loops.{passes, fails}
-use Rattle.yw_check_sorts.proofs.sorts.net_sorts_fit.Goals as goal
+use Rattle.yw_check_sorts.proofs.sorts.check_net.Goals as goal
 
-pub task_sorts_fit-requires-clause-named : goal.task_sorts_fit-requires-clause-named
-task_sorts_fit-requires-clause-named c =
+pub check_task-requires-clause-named : goal.check_task-requires-clause-named
+check_task-requires-clause-named c =
     at_element TaskIsNamed c.args.net.now.task c.as_slice-task-items.result.now c.as_slice-task-items.ensures c.loop-task.task-index c.task-item.result c.loop-task-test.true c.task-item.is c.requires.tasks
 
 pub returns-in-Some : goal.returns-in-Some

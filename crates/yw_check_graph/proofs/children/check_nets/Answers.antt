@@ -8,7 +8,7 @@ use Rattle.yw_accept.specs.Nodes.{net_names}
 use Rattle.yw_check_graph.specs.Graph.{name_at}
 use Rattle.yw_check_graph.specs.Nets.{IsFirstWithout, IsUsed}
 use Rattle.yw_check_graph.proofs.NetLemmas.{used_none, used_some}
-use Rattle.yw_check_graph.proofs.children.nets_fit.Goals as goal
+use Rattle.yw_check_graph.proofs.children.check_nets.Goals as goal
 
 pub returns-in-None : goal.returns-in-None
 returns-in-None c =
