@@ -1,6 +1,6 @@
-//! The life of a task on one net: what commands on it break, a task is entered, and its items are added, started and completed. No forest is in sight here: a
-//! call takes an item or a net, and says what the map of the forest is, wherever that stands. The README of the crate says which clause
-//! proves what, and what is still to come.
+//! The life of a task on one net: what commands on it break, a task is entered, and its items are added, started and completed. No forest
+//! is in sight here: a call takes an item or a net, and says what the map of the forest is, wherever that stands. The README of the crate
+//! says which clause proves what, and what is still to come.
 #![tactic(auto)]
 
 mod adding;
