@@ -8,7 +8,7 @@ ghost use Rattle.yw_state.specs.declared.command.Command.TheVariants as commands
 use crate::Decided;
 use std::alloc::{AllocError, Global};
 use yw_base::{Name, NameList, Text};
-use yw_library::{Library, LibraryFault, copy_of_name, copy_of_names};
+use yw_library::{Library, LibraryFault, copy_of_names};
 use yw_state::{Command, Event, EventList};
 
 /// An event without a case: nothing comes of itself after it.
@@ -35,7 +35,7 @@ fn decide_person(
     ensures { Decides library.old (commands.Person name roles) result library.new }
 {
     let event = Event::Person {
-        name: copy_of_name(alloc, &name)?,
+        name: name.copy()?,
         roles: copy_of_names(alloc, roles.as_slice())?,
     };
     let decided = alone(alloc, event)?;

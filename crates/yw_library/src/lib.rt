@@ -9,7 +9,7 @@ mod items;
 mod library;
 mod numbers;
 
-pub use copies::{copy_of_name, copy_of_names};
+pub use copies::copy_of_names;
 pub use fault::LibraryFault;
 pub use items::{Person, PersonList};
 pub use library::Library;

@@ -17,7 +17,6 @@ ghost use Rattle.yw_library.specs.Holdings.{AddsSpec, IsFresh, IsKept, SaysItsTe
 ghost use Rattle.yw_library.specs.Numbers.{IsNumberOf, NoneNamed};
 
 use crate::accepted::{accepted, placeless};
-use crate::copies::copy_of_name;
 use crate::numbers::Numbers;
 use crate::{LibraryFault, Person, PersonList};
 use std::alloc::{AllocError, Global};
@@ -198,7 +197,7 @@ impl Library {
         ensures err { OnErr result (self.new ≡ self.old) }
     {
         let spec = self.fresh(text)?;
-        let name = copy_of_name(self.alloc, &spec.name)?;
+        let name = spec.name.copy()?;
         self.keep_fresh(text, spec)?;
         Ok(name)
     }

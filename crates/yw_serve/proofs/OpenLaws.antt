@@ -9,6 +9,7 @@ use Rattle.yw_journal.specs.Files.{Content, Meaning, HasContent, HoldState, None
 use Rattle.yw_journal.specs.Files as files
 use Rattle.yw_journal.specs.FileLaws.{content_live, content_sound, head_size, size_reads}
 use Rattle.yw_journal.specs.Records.{IsFrame, AreOpen}
+use Rattle.yw_journal.proofs.Contents.{same_frame}
 use Rattle.yw_state.specs.State.{State, opening}
 use Rattle.yw_serve.specs.Damage.{EntryLeads, HoldNow, IsDamagedNow, IsDamagedWithin, damage_or, heads_damage, later_damage, meaning}
 use Rattle.yw_serve.specs.Opening.{AnswersDamage, AnswersState, IsClosedHere, IsCutHere, IsOpened, opened_state}
@@ -17,17 +18,6 @@ use Rattle.yw_serve.specs.declared.opening.OpenFault.TheVariants.{Damaged}
 use Rattle.yw_serve.specs.declared.opening.Opened.{Opened}
 use Rattle.yw_serve.proofs.OpenEntries.{leads_once}
 use Rattle.yw_serve.proofs.OpenHeads.{heads_alone, heads_sound, live_long, not_live}
-
--- two records at one front are one
-same_frame : (f g r q x y : List ℕ) → IsFrame f r → IsFrame g q → f ++ x ≡ g ++ y → (r ≡ q) × (x ≡ y)
-same_frame f g r q x y a b e =
-    let whole : a.field ++ (r ++ x) ≡ b.field ++ (q ++ y) = sym (ap (λ (l : List ℕ). l ++ x) a.split ∙ append_assoc a.field r x) ∙ e ∙ ap (λ (l : List ℕ). l ++ y) b.split ∙ append_assoc b.field q y in
-    let field : a.field ≡ b.field = sym (take_at a.field (r ++ x) 4 a.four) ∙ ap (take 4) whole ∙ take_at b.field (q ++ y) 4 b.four in
-    let size : length r ≡ length q = sym a.value ∙ ap (from_be_bytes w32) field ∙ b.value in
-    let rest : r ++ x ≡ q ++ y = sym (drop_at a.field (r ++ x) 4 a.four) ∙ ap (drop 4) whole ∙ drop_at b.field (q ++ y) 4 b.four in (
-      sym (take_at r x (length r) refl) ∙ ap (take (length r)) rest ∙ take_at q y (length r) (sym size),
-      sym (drop_at r x (length r) refl) ∙ ap (drop (length r)) rest ∙ drop_at q y (length r) (sym size),
-    )
 
 -- In this state no record at the front of these bytes has a meaning.
 abbrev StopsAt : State → List ℕ → Type 0
@@ -92,7 +82,7 @@ reads_one s t u (x ∷ xs) (y ∷ ys) a b p q e are bare m n stop halt =
     (ap (λ (l : List ℕ). 1 ∷ l) (sym (append_assoc are.0 are.1 p)) ∙ sym (ap (λ (l : List ℕ). l ++ p) are.2) ∙ e ∙ ap (λ (l : List ℕ). l ++ q) bare.2 ∙ ap (λ (l : List ℕ). 1 ∷ l) (append_assoc bare.0 bare.1 q)) in
     let same = same_frame are.0 bare.0 x y (are.1 ++ p) (bare.1 ++ q) are.3 bare.3 whole in
     let mid : n.0 ≡ m.0 = leads_once s x n.0 m.0 (subst (λ (l : List ℕ). EntryLeads s l n.0) (sym same.0) n.1) m.1 in
-    let r = reads_one m.0 t u xs ys are.1 bare.1 p q same.1 are.4 bare.4 m.2 (subst (λ (v : State). LeadsTo meaning v ys u) mid n.2) stop halt in
+    let r = reads_one m.0 t u xs ys are.1 bare.1 p q same.2 are.4 bare.4 m.2 (subst (λ (v : State). LeadsTo meaning v ys u) mid n.2) stop halt in
     record { records = ap (λ (l : List ℕ). l ∷ xs) same.0 ∙ ap (λ (l : List (List ℕ)). y ∷ l) r.records; end = r.end; tail = r.tail }
 
 -- What a held state and a damage say of what stands behind the header of file A.

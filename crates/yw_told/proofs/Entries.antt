@@ -7,7 +7,7 @@ use Rattle.yw_lines.specs.EventTexts.{step_text}
 use Rattle.yw_spec.specs.declared.spec.Place.{Place}
 use Rattle.yw_spec.specs.declared.spec.Spec.{Spec}
 use Rattle.yw_state.proofs.LeadsOne.{leads_one}
-use Rattle.yw_state.proofs.Tests.{never, some_same}
+use Rattle.yw_state.proofs.Tests.{some_same}
 use Rattle.yw_state.specs.Allowed.{allows}
 use Rattle.yw_state.specs.Automatic.{ComeAll, Comes, after_each, case_of, is_automatic}
 use Rattle.yw_state.specs.Events.{Leads, after}
@@ -26,17 +26,12 @@ use Rattle.yw_told.proofs.Lines.{line_tells}
 use Rattle.yw_told.proofs.Reading.{event_in}
 use Rattle.yw_told.proofs.Steps.{enter_told, step_tells}
 use Rattle.yw_told.specs.Told.{LinesTellEntries}
+use Rattle.yw_turns.proofs.Entries.{no_text_of}
 use Rattle.yw_within.proofs.Finding.{well_holds_within}
 use Rattle.yw_within.specs.Within.{ReadsWithin}
 
 same_ok : {A E : Type 0} (x y : A) → ◌≡◌ {A = Result A E} (Ok x) (Ok y) → x ≡ y
 same_ok x y e = cc
-
--- what comes of itself has no text
-no_text_of : (s : State) (e : Event) → IsTrue (is_automatic s e) → text_of e ≡ no_text
-no_text_of s (events.Load name text) auto = never auto
-no_text_of s (events.AddRule p at side when conclusion number) auto = never auto
-no_text_of s e auto = refl
 
 comes_leads : (reader : Reader) (s : State) (n : ℕ) (e : Event) → Comes s n e → Leads reader s e (after s e nothing)
 comes_leads reader s n e come =

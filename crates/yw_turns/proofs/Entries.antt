@@ -20,7 +20,7 @@ use Rattle.yw_turns.specs.Turns.{HasEntry, RunsOut}
 -- ---- entries lead to their states
 
 -- what comes of itself has no text
-no_text_of : (s : State) (e : Event) → IsTrue (is_automatic s e) → text_of e ≡ no_text
+pub no_text_of : (s : State) (e : Event) → IsTrue (is_automatic s e) → text_of e ≡ no_text
 no_text_of s (events.Load name text) auto = never auto
 no_text_of s (events.AddRule p at side when conclusion number) auto = never auto
 no_text_of s e auto = refl

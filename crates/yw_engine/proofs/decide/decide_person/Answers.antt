@@ -9,6 +9,6 @@ returns c =
     let copies = c.in_ok-copy_of_names.field-0 in
     let alone = c.in_ok-decided.ensures in
     person_decided c.args.library.now c.person.new.self c.in_ok-decided.decided alone.quiet name c.args.roles c.requires
-    (alone.events ∙ ap (λ (n : List ℕ). events.Person n copies ∷ []) c.in_ok-copy_of_name.ensures
+    (alone.events ∙ ap (λ (n : List ℕ). events.Person n copies ∷ []) c.in_ok-copy.ensures
     ∙ ap (λ (roles : List (List ℕ)). events.Person name roles ∷ []) (c.in_ok-copy_of_names.ensures ∙ c.as_slice.ensures))
     c.in_ok-person.ensures.ok
