@@ -20,6 +20,10 @@ pub record KeepsCounts {D : Type 0} (g : Ghosts D) (old new : D) : Type 0 where
   pub disk : g.disk_faults old ≤ g.disk_faults new
   pub say : g.say_faults old ≤ g.say_faults new
 
+-- where the desk tells, and nothing was pending, nothing is
+abbrev pub StaysSettled : {D : Type 0} → Ghosts D → D → D → Type 0
+StaysSettled g old new = IsTrue (g.tells old) → IsSettled (g.state old) (g.may_leave old) → IsSettled (g.state new) (g.may_leave new)
+
 -- The journal has its file and its limit, and the desk tells as it did.
 pub record KeepsJournal {D : Type 0} (g : Ghosts D) (before now : Journal) (old new : D) : Type 0 where
   pub file : now.file ≡ before.file

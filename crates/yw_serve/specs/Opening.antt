@@ -1,5 +1,6 @@
 -- What the opening of the files finds and leaves.
-use Rattle.std.specs.Prelude.{◌≡◌, ◌≢◌, ◌⊎◌, ℕ, ◌+◌, ◌≤◌, List, [], ◌∷◌, ◌++◌, length, take, drop, Bool, true, false, Option, None, MatchOption, Result, Ok, Err, MatchResult}
+use Rattle.std.specs.Prelude.{◌≡◌, ◌≢◌, ◌⊎◌, ℕ, ◌+◌, ◌≤◌, List, [], ◌∷◌, ◌++◌, length, take, drop, Bool, true, false, Option, None, MatchOption, Result, Ok, Err, IfErr, IsTrue, MatchResult}
+use Rattle.std.specs.Bool.{MatchBool}
 use Rattle.std.specs.Int.{w32, from_be_bytes}
 use Rattle.yw_outside.specs.Causes.{Rose}
 use Rattle.yw_outside.specs.Moments.{IsSettled}
@@ -16,7 +17,7 @@ use Rattle.yw_model.specs.Texts.{reader}
 use Rattle.yw_state.specs.Events.{Leads, LeadAll}
 use Rattle.yw_state.specs.State.{State, opening}
 use Rattle.yw_state.specs.declared.event.Event.{Event}
-use Rattle.yw_serve.specs.Damage.{HoldNow, heads_damage, meaning}
+use Rattle.yw_serve.specs.Damage.{EntryLeads, HoldNow, IsDamagedNow, heads_damage, meaning}
 use Rattle.yw_serve.specs.declared.header.Head.{Head}
 use Rattle.yw_serve.specs.declared.opening.OpenFault.{OpenFault}
 use Rattle.yw_serve.specs.declared.opening.OpenFault.TheVariants.{Disk, Damaged, Memory}
@@ -42,6 +43,14 @@ abbrev pub HasFaultCause : (File → ℕ → Type 0) → ℕ → ℕ → OpenFau
 HasFaultCause found before now Disk = Rose before now
 HasFaultCause found before now (Damaged f place) = found f place × (now ≡ before)
 HasFaultCause found before now Memory = now ≡ before
+
+-- an Err has its cause, by the counts of these desks' faults
+abbrev pub FailsBy : {D T : Type 0} → Ghosts D → Result T OpenFault → (File → ℕ → Type 0) → D → D → Type 0
+FailsBy g result found old new = IfErr result (HasFaultCause found (g.disk_faults old) (g.disk_faults new))
+
+-- this holds of each damage that is answered
+abbrev pub OnDamage : {T : Type 0} → Result T OpenFault → (File → ℕ → Type 0) → Type 0
+OnDamage result P = (f : File) (place : ℕ) → result ≡ Err (Damaged f place) → P f place
 
 -- how the count of the files' faults stands after an opening: it rose under Disk, and is what it was else
 abbrev pub OpenFaults : {D T : Type 0} → Ghosts D → Result T OpenFault → D → D → Type 0
@@ -93,6 +102,14 @@ IsApplied s e false t = (u : State) → Leads reader s e u → ⊥
 abbrev pub AreApplied : State → List Event → Bool → State → Type 0
 AreApplied s es true t = LeadAll reader s es t
 AreApplied s es false t = (u : State) → LeadAll reader s es u → ⊥
+
+-- The entry with these bytes leads to this state, or to none.
+abbrev pub EntryIsApplied : State → List ℕ → Bool → State → Type 0
+EntryIsApplied s bytes applied t = MatchBool applied (EntryLeads s bytes t) ((u : State) → EntryLeads s bytes u → ⊥)
+
+-- the bytes of the record behind the gate at an offset of a file
+abbrev pub record_at : List ℕ → ℕ → ℕ → List ℕ
+record_at file at size = take size (drop (at + 5) file)
 
 -- After the header, up to this gate, stand records that lead to this state.
 pub record IsReached (file : List ℕ) (at : ℕ) (records : List (List ℕ)) (s : State) : Type 0 where
@@ -163,3 +180,15 @@ AnswersState s result = MatchResult result (λ opened. opened_state opened ≡ s
 -- No state is opened, and a damage that is named is this one.
 abbrev pub AnswersDamage : File → ℕ → Result Opened OpenFault → Type 0
 AnswersDamage f place result = MatchResult result (λ opened. ⊥) (λ fault. (g : File) (other : ℕ) → fault ≡ Damaged g other → (g ≡ f) × (other ≡ place))
+
+-- what is opened is so of what the desk holds, where it tells that
+abbrev pub IsOpenedAt : {D : Type 0} → Ghosts D → Opened → D → D → Type 0
+IsOpenedAt g opened old new = IsTrue (g.tells old) → IsOpened opened (g.state old) (g.state new)
+
+-- a state that the files hold is the one that is opened
+abbrev pub HeldIsAnswered : Image → Result Opened OpenFault → Type 0
+HeldIsAnswered i result = (c : Content) (s : State) → HoldNow c s i → AnswersState s result
+
+-- a damage of the files is the one that is named
+abbrev pub DamageIsAnswered : Image → Result Opened OpenFault → Type 0
+DamageIsAnswered i result = (f : File) (place : ℕ) → IsDamagedNow i f place → AnswersDamage f place result

@@ -31,6 +31,10 @@ abbrev pub Does : Plan → List ℕ → Step → Type 0
 Does (Refuse reply) buffer step = (step.taken ≡ []) × (step.reply ≡ reply)
 Does (Accept reply) buffer step = TakesEntry buffer reply step
 
+-- it is so of each step that the plan does
+abbrev pub ForStep : Plan → List ℕ → (Step → Type 0) → Type 0
+ForStep plan buffer P = (step : Step) → Does plan buffer step → P step
+
 -- the plan refuses so
 abbrev pub Refuses : ℕ → Refusal → Plan → Type 0
 Refuses n refusal (Refuse reply) = reply ≡ refused n refusal

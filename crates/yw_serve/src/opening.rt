@@ -1,14 +1,13 @@
 // The opening of the files, before any line is read.
-ghost use Rattle.std.specs.Prelude.{◌≡◌, ◌≤◌, ◌<◌, ◌+◌, ◌^◌, ◌⊎◌, [], ℕ, IsTrue, IfOk, OnOk, IfErr, IfSome, IsSome, if◌then◌else◌, Err, None, Some, length, slice_index};
-ghost use Rattle.yw_journal.specs.Files.{Content, count_of, greatest};
+ghost use Rattle.std.specs.Prelude.{◌≡◌, ◌≤◌, ◌<◌, ◌+◌, ◌^◌, ◌⊎◌, [], ℕ, IsTrue, IfOk, OnOk, IfSome, IsSome, if◌then◌else◌, Err, None, Some, length, slice_index};
+ghost use Rattle.yw_journal.specs.Files.{count_of, greatest};
 ghost use Rattle.yw_outside.specs.declared.image.Image.{Image};
 ghost use Rattle.yw_outside.specs.Causes.{HasCause, Rose};
 ghost use Rattle.yw_outside.specs.Moments.{IsSettled};
 ghost use Rattle.yw_outside.specs.Since.{LeavesOnly};
-ghost use Rattle.yw_state.specs.State.{State};
-ghost use Rattle.yw_serve.specs.Damage.{heads_damage, HoldNow, IsDamagedNow};
+ghost use Rattle.yw_serve.specs.Damage.{heads_damage, IsDamagedNow};
 ghost use Rattle.yw_serve.specs.Desks.{Stands, KeepsCounts};
-ghost use Rattle.yw_serve.specs.Opening.{AnswersDamage, AnswersState, HasFaultCause, IsChosen, IsHeadRead, IsOpened, IsUnsynced, LeftAfterSyncs, OnlyLooked, OpenFaults, OpensBy};
+ghost use Rattle.yw_serve.specs.Opening.{DamageIsAnswered, FailsBy, HeldIsAnswered, IsChosen, IsHeadRead, IsOpenedAt, IsUnsynced, LeftAfterSyncs, OnDamage, OnlyLooked, OpenFaults, OpensBy};
 
 use crate::header::{Head, header_fault, read_head, u64_in};
 use crate::opening_entries::read_entries;
@@ -107,7 +106,8 @@ fn choose<D: Desk>(desk: &mut D) -> Result<Option<Head>, OpenFault>
     ensures counted { IfOk result (λ found. IfSome found (λ head. count_of head.bytes ≤ greatest)) }
     ensures looked { OnlyLooked D.Desk desk.old desk.new }
     ensures none_failed { OnOk result (D.disk_faults desk.new ≡ D.disk_faults desk.old) }
-    ensures fault { IfErr result (HasFaultCause (λ f place. IsTrue (D.tells desk.old) → heads_damage (D.state desk.old) ≡ Some (f, place)) (D.disk_faults desk.old) (D.disk_faults desk.new)) }
+    ensures fault { FailsBy D.Desk result (λ f place. IsTrue (D.tells desk.old)
+        → heads_damage (D.state desk.old) ≡ Some (f, place)) desk.old desk.new }
 {
     let a = read_head(desk, File::A)?;
     let b = read_head(desk, File::B)?;
@@ -132,13 +132,14 @@ fn resume<D: Desk>(
     requires chosen { IsTrue (D.tells desk.old) → IsChosen (D.state desk.old) (Some head.now) }
     requires settled { IsTrue (D.tells desk.old) → IsSettled (D.state desk.old) (D.may_leave desk.old) }
 
-    ensures opened { IfOk result (λ opened. IsTrue (D.tells desk.old) → IsOpened opened (D.state desk.old) (D.state desk.new)) }
+    ensures opened { IfOk result (λ opened. IsOpenedAt D.Desk opened desk.old desk.new) }
     ensures stands { IfOk result (λ opened. Stands D.Desk opened.journal desk.new) }
     ensures limited { IfOk result (λ opened. opened.journal.limit ≡ limit) }
     ensures file { IfOk result (λ opened. opened.journal.file ≡ File.A) }
     ensures looked { OnlyLooked D.Desk desk.old desk.new }
     ensures none_failed { OnOk result (D.disk_faults desk.new ≡ D.disk_faults desk.old) }
-    ensures fault { IfErr result (HasFaultCause (λ f place. IsTrue (D.tells desk.old) → IsDamagedNow (D.state desk.old) f place) (D.disk_faults desk.old) (D.disk_faults desk.new)) }
+    ensures fault { FailsBy D.Desk result (λ f place. IsTrue (D.tells desk.old)
+        → IsDamagedNow (D.state desk.old) f place) desk.old desk.new }
 {
     let mut engine = Engine::new(alloc);
     let tail = read_entries(alloc, piece, desk, head.len, &mut engine)?;
@@ -159,7 +160,7 @@ fn begin<D: Desk>(alloc: Global, limit: u64, desk: &mut D) -> Result<Opened, Ope
     requires chosen { IsTrue (D.tells desk.old) → IsChosen (D.state desk.old) None }
     requires settled { IsTrue (D.tells desk.old) → IsSettled (D.state desk.old) (D.may_leave desk.old) }
 
-    ensures opened { IfOk result (λ opened. IsTrue (D.tells desk.old) → IsOpened opened (D.state desk.old) (D.state desk.new)) }
+    ensures opened { IfOk result (λ opened. IsOpenedAt D.Desk opened desk.old desk.new) }
     ensures stands { IfOk result (λ opened. Stands D.Desk opened.journal desk.new) }
     ensures limited { IfOk result (λ opened. opened.journal.limit ≡ limit) }
     ensures file { IfOk result (λ opened. opened.journal.file ≡ File.A) }
@@ -167,7 +168,7 @@ fn begin<D: Desk>(alloc: Global, limit: u64, desk: &mut D) -> Result<Opened, Ope
     ensures counts { KeepsCounts D.Desk desk.old desk.new }
     ensures say_faults { D.say_faults desk.new ≡ D.say_faults desk.old }
     ensures none_failed { OnOk result (D.disk_faults desk.new ≡ D.disk_faults desk.old) }
-    ensures fault { IfErr result (HasFaultCause (λ f place. ⊥) (D.disk_faults desk.old) (D.disk_faults desk.new)) }
+    ensures fault { FailsBy D.Desk result (λ f place. ⊥) desk.old desk.new }
 {
     match Journal::make(desk, File::A, 1, 0, &[0; 9], limit) {
         Ok(journal) => Ok(Opened {
@@ -197,7 +198,7 @@ pub fn open<D: Desk>(
     requires limit { limit ≤ 2 ^ 62 }
 
     // At Ok the files held this state and hold it, and the journal stands for them.
-    ensures opened { IfOk result (λ opened. IsTrue (D.tells desk.old) → IsOpened opened (D.state desk.old) (D.state desk.new)) }
+    ensures opened { IfOk result (λ opened. IsOpenedAt D.Desk opened desk.old desk.new) }
     ensures stands { IfOk result (λ opened. Stands D.Desk opened.journal desk.new) }
     ensures limited { IfOk result (λ opened. opened.journal.limit ≡ limit) }
     ensures file { IfOk result (λ opened. opened.journal.file ≡ File.A) }
@@ -212,13 +213,13 @@ pub fn open<D: Desk>(
 
     // Each other answer has its cause.
     ensures faults { OpenFaults D.Desk result desk.old desk.new }
-    ensures damaged { IsTrue (D.tells desk.old) → (f : File) (place : ℕ) → result ≡ Err (OpenFault.Damaged f place) → IsDamagedNow (D.state desk.old) f place }
-    ensures unchanged { (f : File) (place : ℕ) → result ≡ Err (OpenFault.Damaged f place) → D.state desk.new ≡ D.state desk.old }
-    ensures settled { (f : File) (place : ℕ) → result ≡ Err (OpenFault.Damaged f place) → IsSettled (D.state desk.new) (D.may_leave desk.new) }
+    ensures damaged { IsTrue (D.tells desk.old) → OnDamage result (IsDamagedNow (D.state desk.old)) }
+    ensures unchanged { OnDamage result (λ f place. D.state desk.new ≡ D.state desk.old) }
+    ensures settled { OnDamage result (λ f place. IsSettled (D.state desk.new) (D.may_leave desk.new)) }
 
     // A state that is held is the one answered, and a damage is the one answered; they exclude each other.
-    ensures held { IsTrue (D.tells desk.old) → (c : Content) (s : State) → HoldNow c s (D.state desk.old) → AnswersState s result }
-    ensures first { IsTrue (D.tells desk.old) → (f : File) (place : ℕ) → IsDamagedNow (D.state desk.old) f place → AnswersDamage f place result }
+    ensures held { IsTrue (D.tells desk.old) → HeldIsAnswered (D.state desk.old) result }
+    ensures first { IsTrue (D.tells desk.old) → DamageIsAnswered (D.state desk.old) result }
 {
     sync_both(desk)?;
     match choose(desk)? {

@@ -1,13 +1,10 @@
 // The entries of file A, one gate after another.
 ghost use Rattle.std.specs.Prelude.{◌≡◌, ◌≤◌, ◌<◌, ◌+◌, ◌^◌, ◌++◌, ◌∷◌, [], List, ℕ, IsTrue, IfOk, OnOk, IfErr, IfSome, MatchOption, Some, None, length, take, drop, true};
-ghost use Rattle.std.specs.Bool.{MatchBool};
 ghost use Rattle.std.specs.List.{list_all};
 ghost use Rattle.yw_built.specs.Built.{is_built};
-ghost use Rattle.yw_state.specs.State.{State};
 ghost use Rattle.yw_engine.specs.Held as held;
 ghost use Rattle.yw_outside.specs.Causes.{HasCause};
-ghost use Rattle.yw_serve.specs.Damage.{EntryLeads};
-ghost use Rattle.yw_serve.specs.Opening.{AreApplied, HasFaultCause, IsApplied, IsClosedHere, IsDamagedAt, IsReached, OnlyLooked, StandsHere};
+ghost use Rattle.yw_serve.specs.Opening.{AreApplied, EntryIsApplied, FailsBy, HasFaultCause, IsApplied, IsClosedHere, IsDamagedAt, IsReached, OnlyLooked, StandsHere, record_at};
 ghost use Rattle.yw_serve.specs.Window.{Shows};
 
 use crate::opening::OpenFault;
@@ -89,10 +86,10 @@ fn short_gate_at<D: Desk>(desk: &mut D, len: u64, at: u64) -> Result<GateByte, F
 fn record_at<D: Desk>(alloc: Global, desk: &mut D, at: u64, size: u32) -> Result<Vec<u8>, OpenFault>
     requires within { IsTrue (D.tells desk.old) → at + 5 + size ≤ length (D.state desk.old).a }
     requires fits { at + 5 < 2 ^ 64 }
-    ensures bytes { IfOk result (λ record_. IsTrue (D.tells desk.old) → record_.items ≡ take size (drop (at + 5) (D.state desk.old).a)) }
+    ensures bytes { IfOk result (λ bytes. IsTrue (D.tells desk.old) → bytes.items ≡ record_at (D.state desk.old).a at size) }
     ensures looked { OnlyLooked D.Desk desk.old desk.new }
     ensures none_failed { OnOk result (D.disk_faults desk.new ≡ D.disk_faults desk.old) }
-    ensures fault { IfErr result (HasFaultCause (λ f place. ⊥) (D.disk_faults desk.old) (D.disk_faults desk.new)) }
+    ensures fault { FailsBy D.Desk result (λ f place. ⊥) desk.old desk.new }
 {
     let mut bytes = vec![in alloc; 0u8; size as usize]?;
     desk.read(File::A, at + 5, &mut bytes)?;
@@ -127,8 +124,7 @@ fn apply_events(engine: &mut Engine, events: Vec<Event>) -> Result<bool, AllocEr
 
 /// Whether these are an entry's bytes, each event of which is allowed in its turn. The engine is then that after it.
 fn apply_entry(alloc: Global, engine: &mut Engine, bytes: &[u8]) -> Result<bool, AllocError>
-    ensures { IfOk result (λ allowed. MatchBool allowed (EntryLeads (held.state_of engine.old) bytes.now (held.state_of engine.new))
-        ((t : State) → EntryLeads (held.state_of engine.old) bytes.now t → ⊥)) }
+    ensures { IfOk result (λ allowed. EntryIsApplied (held.state_of engine.old) bytes.now allowed (held.state_of engine.new)) }
 {
     match read_entry(alloc, bytes) {
         Ok((events, size)) => {
@@ -160,14 +156,13 @@ fn apply_record<D: Desk>(
     requires within { at + 5 + size ≤ len }
     requires fits { window.old.count ≤ length piece.old }
     requires shows { IsTrue (D.tells desk.old) → Shows (D.state desk.old).a piece.old window.old }
-    ensures applied { IsTrue (D.tells desk.old) → IfOk result (λ allowed. MatchBool allowed
-        (EntryLeads (held.state_of engine.old) (take size (drop (at + 5) (D.state desk.old).a)) (held.state_of engine.new))
-        ((t : State) → EntryLeads (held.state_of engine.old) (take size (drop (at + 5) (D.state desk.old).a)) t → ⊥)) }
+    ensures applied { IsTrue (D.tells desk.old) → IfOk result (λ allowed.
+        EntryIsApplied (held.state_of engine.old) (record_at (D.state desk.old).a at size) allowed (held.state_of engine.new)) }
     ensures fits { window.new.count ≤ length piece.new }
     ensures shows { IsTrue (D.tells desk.old) → OnOk result (Shows (D.state desk.old).a piece.new window.new) }
     ensures looked { OnlyLooked D.Desk desk.old desk.new }
     ensures none_failed { OnOk result (D.disk_faults desk.new ≡ D.disk_faults desk.old) }
-    ensures fault { IfErr result (HasFaultCause (λ f place. ⊥) (D.disk_faults desk.old) (D.disk_faults desk.new)) }
+    ensures fault { FailsBy D.Desk result (λ f place. ⊥) desk.old desk.new }
 {
     let count = size as usize;
     if count > piece.len() {

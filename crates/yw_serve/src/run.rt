@@ -1,6 +1,5 @@
 // The loop over the input.
 ghost use Rattle.std.specs.Prelude.{◌≡◌, ◌+◌, ◌<◌, ◌≤◌, ◌^◌, List, [], ℕ, take, length, Some, IfOk, IsTrue, MatchResult, MatchOption, IsNone, vec_len};
-ghost use Rattle.std.specs.Io.KnownBytes.{Consumes, Keeps, IsAtEnd};
 ghost use Rattle.yw_outside.specs.Causes.{HasCause};
 ghost use Rattle.yw_journal.specs.Files.{Content};
 ghost use Rattle.yw_journal.specs.Journal.{IsCurrent};
@@ -10,7 +9,7 @@ ghost use Rattle.yw_state.specs.Well.{IsWell};
 ghost use Rattle.yw_serve.specs.Desks.{KeepsCounts, KeepsJournal, Stands};
 ghost use Rattle.yw_serve.specs.Ends.{EndsAs};
 ghost use Rattle.yw_serve.specs.Faults.{EndingFaults, TurnFaults};
-ghost use Rattle.yw_serve.specs.Reading.{HasRead};
+ghost use Rattle.yw_serve.specs.Reading.{HasRead, ReadsPiece};
 ghost use Rattle.yw_serve.specs.Session.{state_of};
 
 use crate::answer::{feed, finish};
@@ -39,8 +38,7 @@ fn read_piece<S: Source>(source: &mut S, piece: &mut [u8], most: usize) -> Resul
     requires some { 0 < most }
     requires room { 0 < length piece.old }
     ensures count { IfOk result (λ n. (n ≤ most) × (n ≤ length piece.new)) }
-    ensures bytes { MatchResult result (λ n. Consumes (S.left source.old) (S.left source.new) (take n piece.new) × (n ≡ 0 → IsAtEnd (S.left source.new)))
-        (λ _. Keeps (S.left source.old) (S.left source.new)) }
+    ensures bytes { ReadsPiece (S.left source.old) (S.left source.new) piece.new result }
     ensures piece { IfOk result (λ n. S.piece source.new ≡ n) }
     ensures cause { HasCause (S.faults source.old) (S.faults source.new) result }
 {

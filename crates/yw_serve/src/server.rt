@@ -1,13 +1,12 @@
 // A server: the state, where it is kept, and the answer to one line.
 ghost use Rattle.std.specs.Prelude.{◌≡◌, ◌≢◌, ◌++◌, ◌∷◌, [], IfErr, Err, OnOk, OnErr, IsTrue};
-ghost use Rattle.yw_model.specs.Run.{Step};
 ghost use Rattle.yw_outside.specs.Image.{SaysPart, Speaks};
 ghost use Rattle.yw_outside.specs.Moments.{After, IsSettled};
 ghost use Rattle.yw_outside.specs.Since.{LeavesOnly};
 ghost use Rattle.yw_engine.specs.Held as held;
-ghost use Rattle.yw_serve.specs.Desks.{ForContent, KeepsCounts, KeepsJournal, Stands};
+ghost use Rattle.yw_serve.specs.Desks.{ForContent, KeepsCounts, KeepsJournal, Stands, StaysSettled};
 ghost use Rattle.yw_serve.specs.Faults.{CallFaults};
-ghost use Rattle.yw_serve.specs.Plans.{CanBeAppended, Does};
+ghost use Rattle.yw_serve.specs.Plans.{CanBeAppended, ForStep};
 ghost use Rattle.yw_serve.specs.Session.{AreDone, CutsLine, EndsLine, OfSteps, Why, server_state};
 
 use crate::plan::{Plan, plan_line};
@@ -46,7 +45,7 @@ pub fn tell<D: Desk>(desk: &mut D, text: &[u8]) -> Result<(), Stop>
     ensures said { OnOk result (IsTrue (D.tells desk.old) → (D.state desk.new).said ≡ (D.state desk.old).said ++ text.now) }
     ensures a { (D.state desk.new).a ≡ (D.state desk.old).a }
     ensures b { (D.state desk.new).b ≡ (D.state desk.old).b }
-    ensures settled { IsTrue (D.tells desk.old) → IsSettled (D.state desk.old) (D.may_leave desk.old) → IsSettled (D.state desk.new) (D.may_leave desk.new) }
+    ensures settled { StaysSettled D.Desk desk.old desk.new }
     ensures any_moment { IsTrue (D.tells desk.old) → IsSettled (D.state desk.old) (D.may_leave desk.old)
         → LeavesOnly D.Desk desk.old desk.new (Speaks text.now (D.state desk.old)) }
     ensures part { IsTrue (D.tells desk.old) → SaysPart (D.state desk.old).said text.now (D.state desk.new).said }
@@ -71,12 +70,12 @@ fn carry_out<D: Desk>(
     requires framed { CanBeAppended entry.now plan.now }
     requires stands { Stands D.Desk journal.old desk.old }
 
-    ensures ok { OnOk result (ForContent D.Desk journal.old desk.old (λ c. (step : Step) → Does plan.now entry.now step
-        → AreDone D.Desk c (step ∷ []) journal.new desk.old desk.new)) }
-    ensures moments { OnErr result (ForContent D.Desk journal.old desk.old (λ c. (step : Step) → Does plan.now entry.now step
-        → LeavesOnly D.Desk desk.old desk.new (OfSteps journal.old.file c (step ∷ []) (D.state desk.old)))) }
-    ensures why { IfErr result (λ stop. ForContent D.Desk journal.old desk.old (λ c. (step : Step) → Does plan.now entry.now step
-        → Why D.Desk c stop journal.old (step ∷ []) desk.old desk.new)) }
+    ensures ok { OnOk result (ForContent D.Desk journal.old desk.old (λ c. ForStep plan.now entry.now (λ step.
+        AreDone D.Desk c (step ∷ []) journal.new desk.old desk.new))) }
+    ensures moments { OnErr result (ForContent D.Desk journal.old desk.old (λ c. ForStep plan.now entry.now (λ step.
+        LeavesOnly D.Desk desk.old desk.new (OfSteps journal.old.file c (step ∷ []) (D.state desk.old))))) }
+    ensures why { IfErr result (λ stop. ForContent D.Desk journal.old desk.old (λ c. ForStep plan.now entry.now (λ step.
+        Why D.Desk c stop journal.old (step ∷ []) desk.old desk.new))) }
 
     ensures stands { OnOk result (Stands D.Desk journal.new desk.new) }
     ensures keeps { KeepsJournal D.Desk journal.old journal.new desk.old desk.new }
