@@ -1,5 +1,5 @@
 -- What stands behind an event of neither a rule tree nor an exlet stood before, or is new and plain.
-use Rattle.std.specs.Prelude.{◌≡◌, ◌+◌, ◌⊎◌, ℕ, Bool, true, false, List, [], ◌∷◌, fold, length, Option, Some, None, refl, unwrap_or, if◌then◌else◌}
+use Rattle.std.specs.Prelude.{◌≡◌, ◌+◌, ℕ, Bool, true, false, List, [], ◌∷◌, fold, length, Option, Some, None, refl, unwrap_or, if◌then◌else◌}
 use Rattle.std.specs.List.{range_with_len, zip}
 use Rattle.std.specs.Ordering.{eq_by_cmp}
 use Rattle.std.proofs.Common.{sym, ◌∙◌, ap, subst, inl, inr}
@@ -17,10 +17,9 @@ use Rattle.yw_state.specs.Allowed.{exit_values, place_numbers}
 use Rattle.yw_state.specs.ByName.{made_by_child}
 use Rattle.yw_state.specs.Events.{after}
 use Rattle.yw_state.specs.Identity.{Ident, case_ident, child}
-use Rattle.yw_state.specs.Judged.{has_rule}
 use Rattle.yw_state.specs.Map.{empty, get, insert, lexical, retain, update}
 use Rattle.yw_state.specs.Nets.{is_atomic}
-use Rattle.yw_state.specs.Passing.{given_values}
+use Rattle.yw_state.specs.Passing.{entry_values, given_values}
 use Rattle.yw_state.specs.State.{State, Site, Sites, ItemAt, NetAt, NetPart, TaskAt, bare, drop, drop_all, item_at, items_of, net_at, no_checks, spec_called, task_at, top_called}
 use Rattle.yw_state.specs.Texts.{Said, a_spec, a_test, nothing}
 use Rattle.yw_state.specs.Values.{Row}
@@ -119,9 +118,10 @@ make_select_due-plain s j t plain = if-plain (is_atomic t) _ s (make_due-plain s
 
 add_item-plain : (x : TaskAt) (i : Ident) (s : State) (e : ℕ × Row) → Plain s → Plain (After.add_item x i s e)
 add_item-plain x i s e plain =
-    let there : Plain (After.put s (child i e.0) (After.new_item x.number e.1)) =
-        (plain.0, insert-plain s.sites (child i e.0) _ plain.1 (record { run = refl; suspended = refl; due = refl })) in
-    make_select_due-plain _ (child i e.0) x.task (make_due-plain _ (child i e.0) Pre there)
+    let j : Ident = child i e.0 in
+    let came : State = After.put s j (After.new_item x.number e.1) in
+    let there : Plain came = (plain.0, insert-plain s.sites j _ plain.1 (record { run = refl; suspended = refl; due = refl })) in
+    make_select_due-plain (After.make_due came j Pre) j x.task (make_due-plain came j Pre there)
 
 add_items-plain : (x : TaskAt) (i : Ident) (first : ℕ) (rows : List Row) (s : State) → Plain s → Plain (After.add_items x i first rows s)
 add_items-plain x i first rows s plain = fold-plain (After.add_item x i) (add_item-plain x i) (zip (range_with_len first (length rows)) rows) s plain
@@ -130,7 +130,7 @@ without_items-plain : (i : Ident) (s : State) (k : ℕ) → Plain s → Plain (A
 without_items-plain i s k plain = (plain.0, drop_all-plain (After.idents (items_of s i k)) s.sites plain.1)
 
 complete-plain : (s : State) (j : Ident) (out : Row) → Plain s → Plain (After.complete s j out)
-complete-plain s j out plain = make_due-plain _ j Post (change_parts-plain s j _ plain (λ x. refl) (λ x. refl) (λ x. refl))
+complete-plain s j out plain = make_due-plain (After.change s j (After.with_item (After.completed out))) j Post (change_parts-plain s j _ plain (λ x. refl) (λ x. refl) (λ x. refl))
 
 -- ---- rows
 
@@ -142,14 +142,18 @@ load-plain s name text (a_test test) plain = plain
 launch-plain : (s : State) (n : ℕ) (name : List ℕ) (vals : Row) → Plain s → Plain (After.launch s n name vals)
 launch-plain s n name vals plain =
     where_spec-plain s name _ plain (λ spec net.
-    make_due-plain _ (case_ident n) Pre
-    (plain.0, insert-plain s.sites (case_ident n) _ plain.1 (record { run = refl; suspended = refl; due = refl })))
+    let own : Site = After.stands (After.new_net name spec.top net vals) After.empty_site in
+    make_due-plain (After.with_next (After.put s (case_ident n) own) (n + 1)) (case_ident n) Pre
+    (plain.0, insert-plain s.sites (case_ident n) own plain.1 (record { run = refl; suspended = refl; due = refl })))
 
 net-plain : (s : State) (i : Ident) (f : NetPart → NetPart) → Plain s → Plain (After.change s i (After.with_net f))
 net-plain s i f plain = change_parts-plain s i _ plain (λ x. refl) (λ x. refl) (λ x. refl)
 
 enter-plain : (s : State) (i : Ident) (places : List Place) (first : ℕ) (x : TaskAt) → Plain s → Plain (After.enter s i places first x)
-enter-plain s i places first x plain = add_items-plain x i first _ _ (net-plain s i _ plain)
+enter-plain s i places first x plain =
+    let cs : List ℕ = unwrap_or (place_numbers x.within.net places) [] in
+    let rows : List Row = unwrap_or (entry_values x.task x.within.part.vals) [] in
+    add_items-plain x i first rows (After.take s i cs) (net-plain s i (λ n. record n { tokens = fold After.one_less n.tokens cs }) plain)
 
 add-plain : (s : State) (i : Ident) (value : Value) (n : ℕ) (x : TaskAt) → Plain s → Plain (After.add s i value n x)
 add-plain s i value n x plain =
@@ -160,14 +164,20 @@ start_sub-plain s j x plain = where_some-plain _ s _ plain (λ e. change_parts-p
 
 end_net-plain : (s : State) (j : Ident) (made : NetAt → ItemAt → Row) (x : ItemAt) → Plain s → Plain (After.end_net s j made x)
 end_net-plain s j made x plain =
-    where_some-plain (net_at s j) s _ plain (λ n. complete-plain _ j (made n x) (plain.0, bare-plain s.sites j plain.1))
+    where_some-plain (net_at s j) s _ plain (λ n. complete-plain (After.with_sites s (bare s.sites j)) j (made n x) (plain.0, bare-plain s.sites j plain.1))
 
 exit-plain : (s : State) (i : Ident) (places : List Place) (x : TaskAt) → Plain s → Plain (After.exit s i places x)
 exit-plain s i places x plain =
-    let assigned = net-plain _ i _ (without_items-plain i s x.number plain) in
-    let emptied = fold-plain (After.without_items i) (without_items-plain i) x.task.drop_tasks _ (net-plain _ i _ assigned) in
-    let marked = net-plain _ i _ emptied in
-    if-plain _ _ _ (make_due-plain _ i Post marked) marked
+    let cs : List ℕ = unwrap_or (place_numbers x.within.net places) [] in
+    let gone : State = After.without_items i s x.number in
+    let assigned : State = After.set_values gone i (exit_values s i x) in
+    let wiped : State = After.wipe assigned i x.task.drop_places in
+    let emptied : State = fold (After.without_items i) wiped x.task.drop_tasks in
+    let marked : State = After.produce emptied i cs in
+    let there : Plain marked =
+    net-plain emptied i _ (fold-plain (After.without_items i) (without_items-plain i) x.task.drop_tasks wiped
+    (net-plain assigned i _ (net-plain gone i _ (without_items-plain i s x.number plain)))) in
+    if-plain _ (After.make_due marked i Post) marked (make_due-plain marked i Post there) there
 
 end_case-plain : (s : State) (n : ℕ) (way : Way) → Plain s → Plain (After.end_case s n way)
 end_case-plain s n way plain = (plain.0, retain-plain s.sites _ plain.1)

@@ -6,13 +6,13 @@ use Rattle.yw_plain.specs.Plain.{IsPlain, PlainWords}
 use Rattle.yw_state.proofs.Entries.{find-entry, passing}
 use Rattle.yw_state.proofs.MapLemmas.{by_name}
 use Rattle.yw_state.proofs.Tests.{by_option, by_test, never}
-use Rattle.yw_state.specs.Identity.{Ident, case_number, is_child, strictly_under}
-use Rattle.yw_state.specs.Judged.{Question, has_rule, is_manual, place_key, rules_at, task_place}
+use Rattle.yw_state.specs.Identity.{Ident, case_number, is_case_ident, is_child, strictly_under}
+use Rattle.yw_state.specs.Judged.{Question, case_place, has_rule, is_manual, item_row, place_key, rules_at, task_place}
 use Rattle.yw_state.specs.Map.{empty, entries, get}
 use Rattle.yw_state.specs.Nets.{is_atomic}
 use Rattle.yw_state.specs.Options.{is_some_and}
 use Rattle.yw_state.specs.RuleTree.{TreeRule}
-use Rattle.yw_state.specs.State.{State, Site, ItemPart, RunPart, TaskAt, due_at, is_suspended, no_checks, run_part, some_site}
+use Rattle.yw_state.specs.State.{State, Site, ItemAt, ItemPart, NetPart, RunPart, TaskAt, due_at, is_suspended, item_at, net_part, no_checks, run_part, some_site}
 use Rattle.yw_state.specs.Values.{Row}
 use Rattle.yw_state.specs.Well.{Stands}
 use Rattle.yw_state.specs.Words.{any_due, busy, clear, done, held, is_at_work, is_completed, shielded, urgent}
@@ -50,7 +50,14 @@ module _ (s : State) (none : s.rules ≡ empty) where
   asked_none place row (Some a) = ap (λ (rs : List TreeRule). nat_lt 0 (length rs)) (no_rules (place a))
 
   pub no_rule : (j : Ident) (kind : TreeKind) → has_rule s j kind ≡ false
-  no_rule j kind = either_none _ _ _ (asked_none _ _ _) (asked_none _ _ _)
+  no_rule j kind =
+      let of_case : NetPart → TreePlace = λ n. case_place n kind in
+      let of_item : ItemAt → TreePlace = λ x. task_place x.of_task kind in
+      either_none (is_case_ident j)
+      (option_map (λ n. record { rules = rules_at s (of_case n); row = n.vals }) (net_part s j))
+      (option_map (λ x. record { rules = rules_at s (of_item x); row = item_row x }) (item_at s j))
+      (asked_none of_case (λ n. n.vals) (net_part s j))
+      (asked_none of_item item_row (item_at s j))
 
 -- ---- what stands
 

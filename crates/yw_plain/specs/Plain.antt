@@ -1,6 +1,6 @@
 -- States without rules, runs, suspensions and checks: each that is reached until rule trees and exlets are built. A field of `IsPlain` goes when
 -- what it forbids is built. Our own.
-use Rattle.std.specs.Prelude.{◌≡◌, ℕ, Bool, true, false, List, [], None}
+use Rattle.std.specs.Prelude.{◌≡◌, ℕ, Bool, true, false, [], None}
 use Rattle.yw_state.specs.Identity.{Ident}
 use Rattle.yw_state.specs.Judged.{has_rule, is_manual, rules_at}
 use Rattle.yw_state.specs.Map.{empty}
