@@ -1,0 +1,130 @@
+-- What the words of a plain state say.
+use Rattle.std.specs.Prelude.{◌≡◌, ◌==◌, ◌&&◌, ◌||◌, ℕ, Bool, true, false, not, List, [], length, Option, Some, None, is_some, nat_lt, option_map, option_and_then, unwrap_or, refl, if◌then◌else◌}
+use Rattle.std.proofs.Common.{sym, ◌∙◌, ap}
+use Rattle.yw_base.specs.Identity.{under}
+use Rattle.yw_plain.specs.Plain.{IsPlain, PlainWords}
+use Rattle.yw_state.proofs.Entries.{find-entry, passing}
+use Rattle.yw_state.proofs.MapLemmas.{by_name}
+use Rattle.yw_state.proofs.Tests.{by_option, by_test, never}
+use Rattle.yw_state.specs.Identity.{Ident, case_number, is_case_ident, is_child, strictly_under}
+use Rattle.yw_state.specs.Judged.{Question, case_place, has_rule, is_manual, item_row, place_key, rules_at, task_place}
+use Rattle.yw_state.specs.Map.{empty, entries, get}
+use Rattle.yw_state.specs.Nets.{is_atomic}
+use Rattle.yw_state.specs.Options.{is_some_and}
+use Rattle.yw_state.specs.RuleTree.{TreeRule}
+use Rattle.yw_state.specs.State.{State, Site, ItemAt, ItemPart, NetPart, RunPart, TaskAt, due_at, is_suspended, item_at, net_part, no_checks, run_part, some_site}
+use Rattle.yw_state.specs.Values.{Row}
+use Rattle.yw_state.specs.Well.{Stands}
+use Rattle.yw_state.specs.Words.{any_due, busy, clear, done, held, is_at_work, is_completed, shielded, urgent}
+use Rattle.yw_state.specs.declared.part.Checks.{Checks}
+use Rattle.yw_state.specs.declared.tree.TreeKind.{TreeKind}
+use Rattle.yw_state.specs.declared.tree.TreeKind.TheVariants.{Select}
+use Rattle.yw_state.specs.declared.tree.TreePlace.{TreePlace}
+
+-- ---- tests
+
+and_false : (b : Bool) → (b && false) ≡ false
+and_false true = refl
+and_false false = refl
+
+and_true : (b : Bool) → (b && true) ≡ b
+and_true true = refl
+and_true false = refl
+
+-- ---- no tree has a rule
+
+abbrev has_some : Option Question → Bool
+has_some o = is_some_and o (λ q. nat_lt 0 (length q.rules))
+
+either_none : (b : Bool) (o q : Option Question) → has_some o ≡ false → has_some q ≡ false → has_some (if b then o else q) ≡ false
+either_none true o q there here = there
+either_none false o q there here = here
+
+module _ (s : State) (none : s.rules ≡ empty) where
+  pub no_rules : (p : TreePlace) → rules_at s p ≡ []
+  no_rules p = ap (λ m. unwrap_or (get m (place_key p)) []) none
+
+  asked_none : {A : Type 0} (place : A → TreePlace) (row : A → Row) (o : Option A)
+      → has_some (option_map (λ a. record { rules = rules_at s (place a); row = row a }) o) ≡ false
+  asked_none place row None = refl
+  asked_none place row (Some a) = ap (λ (rs : List TreeRule). nat_lt 0 (length rs)) (no_rules (place a))
+
+  pub no_rule : (j : Ident) (kind : TreeKind) → has_rule s j kind ≡ false
+  no_rule j kind =
+      let of_case : NetPart → TreePlace = λ n. case_place n kind in
+      let of_item : ItemAt → TreePlace = λ x. task_place x.of_task kind in
+      either_none (is_case_ident j)
+      (option_map (λ n. record { rules = rules_at s (of_case n); row = n.vals }) (net_part s j))
+      (option_map (λ x. record { rules = rules_at s (of_item x); row = item_row x }) (item_at s j))
+      (asked_none of_case (λ n. n.vals) (net_part s j))
+      (asked_none of_item item_row (item_at s j))
+
+-- ---- what stands
+
+-- nothing that stands passes
+none_pass : (s : State) (p : Ident → Site → Bool) → ((j : Ident) (x : Site) → Stands s j x → p j x ≡ false) → some_site s p ≡ false
+none_pass s p fails =
+    by_test (some_site s p)
+    (λ some. let (e, within, is) = passing (λ e. p e.0 e.1) (entries s.sites) some in
+    never (sym (fails e.0 e.1 (find-entry by_name (entries s.sites) e s.sites.sorted within)) ∙ is))
+    (λ e. e)
+
+module _ (s : State) (plain : IsPlain s) where
+  -- what is read is this, whether something stands there or not
+  read : {A : Type 0} (f : Option Site → A) (a : A) (j : Ident) → f None ≡ a → ((x : Site) → Stands s j x → f (Some x) ≡ a) → f (get s.sites j) ≡ a
+  read f a j nothing something = by_option (get s.sites j) (λ e. ap f e ∙ nothing) (λ x e. ap f e ∙ something x e)
+
+  not_busy : (j : Ident) → busy s j ≡ false
+  not_busy j = none_pass s _ (λ r x at. ap (λ (o : Option RunPart). is_some o && is_child r j) (plain.run r x at))
+
+  not_shielded : (j i : Ident) → shielded s j i ≡ false
+  not_shielded j i = none_pass s _ (λ r x at. ap (λ (o : Option RunPart). is_some o && strictly_under r i && under j r) (plain.run r x at))
+
+  not_held : (j : Ident) → held s j ≡ false
+  not_held j = none_pass s _ (λ i x at. ap (λ b. b && under j i && not (shielded s j i)) (plain.suspended i x at))
+
+  not_urgent : (n : ℕ) → urgent s n ≡ false
+  not_urgent n =
+      none_pass s _ (λ j x at.
+      ap (λ (c : Checks). case_number j == n && (any_due c && not (busy s j) || is_at_work x.run)) (plain.due j x at)
+      ∙ ap (λ (o : Option RunPart). case_number j == n && is_at_work o) (plain.run j x at)
+      ∙ and_false (case_number j == n))
+
+  is_clear : (j : Ident) → clear s j ≡ true
+  is_clear j = ap (λ b. not b && not (urgent s (case_number j))) (not_held j) ∙ ap not (not_urgent (case_number j))
+
+  not_suspended : (j : Ident) → is_suspended s j ≡ false
+  not_suspended j = read (λ o. is_some_and o (λ x. x.suspended)) false j refl (plain.suspended j)
+
+  no_run : (j : Ident) → run_part s j ≡ None
+  no_run j = read (option_and_then (λ x. x.run)) None j refl (plain.run j)
+
+  none_due : (j : Ident) → due_at s j ≡ no_checks
+  none_due j = read (λ o. unwrap_or (option_map (λ (x : Site). x.due) o) no_checks) no_checks j refl (plain.due j)
+
+  is_done : (j : Ident) (x : ItemPart) → done s j x ≡ is_completed x.stage
+  is_done j x =
+      ap (λ b. is_completed x.stage && not b && not (is_suspended s j)) (not_busy j)
+      ∙ ap (λ b. is_completed x.stage && true && not b) (not_suspended j)
+      ∙ and_true (is_completed x.stage && true)
+      ∙ and_true (is_completed x.stage)
+
+  by_person : (x : TaskAt) → is_manual s x ≡ is_atomic x.task
+  by_person x = ap (λ (rs : List TreeRule). is_atomic x.task && length rs == 0) (no_rules s plain.rules (task_place x Select)) ∙ and_true (is_atomic x.task)
+
+  pub words : PlainWords s
+  words =
+      record {
+        busy = not_busy;
+        shielded = not_shielded;
+        held = not_held;
+        urgent = not_urgent;
+        clear = is_clear;
+        suspended = not_suspended;
+        run = no_run;
+        due = none_due;
+        done = is_done;
+        rules = no_rules s plain.rules;
+        manual = by_person;
+        rule = no_rule s plain.rules;
+      }

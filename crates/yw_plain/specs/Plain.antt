@@ -1,0 +1,54 @@
+-- States without rules, runs, suspensions and checks: each that is reached until rule trees and exlets are built. A field of `IsPlain` goes when
+-- what it forbids is built. Our own.
+use Rattle.std.specs.Prelude.{◌≡◌, ℕ, Bool, true, false, [], None}
+use Rattle.yw_state.specs.Identity.{Ident}
+use Rattle.yw_state.specs.Judged.{has_rule, is_manual, rules_at}
+use Rattle.yw_state.specs.Map.{empty}
+use Rattle.yw_state.specs.Nets.{is_atomic}
+use Rattle.yw_state.specs.State.{State, Site, ItemPart, TaskAt, due_at, is_suspended, no_checks, run_part}
+use Rattle.yw_state.specs.Well.{Stands}
+use Rattle.yw_state.specs.Words.{busy, clear, done, held, is_completed, shielded, urgent}
+use Rattle.yw_state.specs.declared.event.Event.{Event}
+use Rattle.yw_state.specs.declared.event.Event.TheVariants as events
+use Rattle.yw_state.specs.declared.tree.TreeKind.{TreeKind}
+use Rattle.yw_state.specs.declared.tree.TreePlace.{TreePlace}
+
+-- No tree has a rule, and at no identity that stands is a run, a suspension or a check that is due.
+pub record IsPlain (s : State) : Type 0 where
+  pub rules : s.rules ≡ empty
+  pub run : (j : Ident) (x : Site) → Stands s j x → x.run ≡ None
+  pub suspended : (j : Ident) (x : Site) → Stands s j x → x.suspended ≡ false
+  pub due : (j : Ident) (x : Site) → Stands s j x → x.due ≡ no_checks
+
+-- What the words of `yw_state` say then: nothing holds work back, no tree has a rule, and persons do each atomic task.
+pub record PlainWords (s : State) : Type 0 where
+  pub busy : (j : Ident) → busy s j ≡ false
+  pub shielded : (j i : Ident) → shielded s j i ≡ false
+  pub held : (j : Ident) → held s j ≡ false
+  pub urgent : (n : ℕ) → urgent s n ≡ false
+  pub clear : (j : Ident) → clear s j ≡ true
+  pub suspended : (j : Ident) → is_suspended s j ≡ false
+  pub run : (j : Ident) → run_part s j ≡ None
+  pub due : (j : Ident) → due_at s j ≡ no_checks
+  pub done : (j : Ident) (x : ItemPart) → done s j x ≡ is_completed x.stage
+  pub rules : (p : TreePlace) → rules_at s p ≡ []
+  pub manual : (x : TaskAt) → is_manual s x ≡ is_atomic x.task
+  pub rule : (j : Ident) (kind : TreeKind) → has_rule s j kind ≡ false
+
+-- the event is of neither a rule tree nor an exlet
+abbrev pub is_plain_event : Event → Bool
+is_plain_event (events.Person name roles) = true
+is_plain_event (events.Load name text) = true
+is_plain_event (events.Launch n spec vals) = true
+is_plain_event (events.Enter i t places first count) = true
+is_plain_event (events.Start j who) = true
+is_plain_event (events.Complete j out) = true
+is_plain_event (events.Exit i t places) = true
+is_plain_event (events.Add i t value n) = true
+is_plain_event (events.Finish n) = true
+is_plain_event (events.Cancel n) = true
+is_plain_event (events.StartSub j) = true
+is_plain_event (events.CompleteSub j) = true
+is_plain_event (events.CompleteEmpty j) = true
+is_plain_event (events.Advance n) = true
+is_plain_event e = false
