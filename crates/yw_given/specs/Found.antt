@@ -2,6 +2,7 @@
 use Rattle.std.specs.Prelude.{◌≡◌, ◌&&◌, ℕ, Bool, not, List, [], ◌∷◌, Option, Some, None, find, is_none, is_some, filter, map, option_and_then, option_map, position, slice_get, unwrap_or, if◌then◌else◌}
 use Rattle.std.specs.BTreeMap.{get_by_text}
 use Rattle.std.specs.List.{list_any}
+use Rattle.std.specs.Map.{update}
 use Rattle.std.specs.Str.{bytes_eq}
 use Rattle.yw_base.specs.Order.{lesser}
 use Rattle.yw_base.specs.Usages.{comes_in}
@@ -17,6 +18,10 @@ use Rattle.yw_state.specs.declared.command.Given.{Given}
 -- the number that a name has
 abbrev pub number_of : Numbers → List ℕ → Option ℕ
 number_of numbers name = get_by_text numbers.table name
+
+-- this name has this number from now on
+abbrev pub Puts : List ℕ → ℕ → Numbers → Numbers → Type 0
+Puts name number old new = (other : List ℕ) → number_of new other ≡ update bytes_eq (number_of old) name (Some number) other
 
 -- of those of a list that have a name, the first is found by its number
 abbrev pub Finds : {A : Type 0} → (A → List ℕ → Bool) → List A → Numbers → Type 0

@@ -1,5 +1,5 @@
 //! The values that a command gives, read against what is wanted: the variables of a net as a case begins, the parameters of a task as an item
-//! is completed, and the element as one is added.
+//! is completed, and the element as one is added. The rules are our own.
 #![tactic(auto)]
 
 mod complete;

@@ -16,10 +16,8 @@ pub struct Numbers {
 }
 
 impl Numbers {
-    ghost use Rattle.std.specs.Prelude.{◌≡◌, ℕ, List, None, OnOk, Some};
-    ghost use Rattle.std.specs.Map.{update};
-    ghost use Rattle.std.specs.Str.{bytes_eq};
-    ghost use Rattle.yw_given.specs.Found.{number_of};
+    ghost use Rattle.std.specs.Prelude.{◌≡◌, ℕ, List, None, OnOk};
+    ghost use Rattle.yw_given.specs.Found.{Puts, number_of};
 
     /// No name has a number. It takes no memory.
     fn new(alloc: Global) -> Numbers
@@ -32,7 +30,7 @@ impl Numbers {
 
     /// The name has this number from now on. An `Err` says that no memory was left.
     fn put(&mut self, alloc: Global, name: &str, number: usize) -> Result<(), AllocError>
-        ensures { OnOk result ((other : List ℕ) → number_of self.new other ≡ update bytes_eq (number_of self.old) name.now (Some number) other) }
+        ensures { OnOk result (Puts name.now number self.old self.new) }
     {
         let key = String::from_str(alloc, name)?;
         self.table.insert(key, number)?;
