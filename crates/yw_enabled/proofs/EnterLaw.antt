@@ -1,7 +1,7 @@
 -- A task may be entered exactly where its net says so, but for an OR-join that waits.
-use Rattle.std.proofs.Common.{Bool, List, None, Option, Some, [], ap, false, get_or, inl, inr, length, refl, subst, suc, sym, true, zero, ℕ, ◌+◌, ◌∙◌, ◌∷◌, ◌≡◌}
+use Rattle.std.proofs.Common.{Bool, List, Some, [], ap, false, get_or, inl, inr, length, refl, subst, suc, sym, true, zero, ℕ, ◌+◌, ◌∙◌, ◌∷◌, ◌≡◌}
 use Rattle.std.proofs.lemmas.Bool.{and_from, and_parts}
-use Rattle.std.specs.Prelude.{IfSome, IsTrue, is_some, nat_le, not, slice_get, unwrap_or, ◌&&◌}
+use Rattle.std.specs.Prelude.{IsTrue, nat_le, not, slice_get, unwrap_or, ◌&&◌}
 use Rattle.yw_base.specs.Gates.{is_or}
 use Rattle.yw_base.specs.Identity.{number_end}
 use Rattle.yw_enabled.proofs.FreeItems.{task_is}
@@ -14,11 +14,11 @@ use Rattle.yw_spec.specs.declared.spec.Net.{Net}
 use Rattle.yw_spec.specs.declared.task.Task.{Task}
 use Rattle.yw_state.proofs.Tests.{never, some_same}
 use Rattle.yw_state.specs.Identity.{Ident}
-use Rattle.yw_state.specs.Joins.{NoWait, Waits, has_tokens, joins}
+use Rattle.yw_state.specs.Joins.{NoWait, Waits, has_tokens}
 use Rattle.yw_state.specs.Options.{is_some_and}
 use Rattle.yw_state.specs.Passing.{entry_values, within_bounds}
 use Rattle.yw_state.specs.State.{State, TaskAt}
-use Rattle.yw_still.specs.Still.{can_be_entered, task_numbered}
+use Rattle.yw_still.specs.Still.{can_be_entered}
 use Rattle.yw_task.proofs.EnterAsk.{has_marks, its_active, net_with}
 use Rattle.yw_task.specs.Asked.{OrWaitsAs, is_active}
 use Rattle.yw_tree.specs.declared.Forest.{Forest}

@@ -1,6 +1,6 @@
 -- What a state says of the items of a net that stands free.
-use Rattle.std.proofs.Common.{Bool, List, None, Option, Some, [], ap, refl, suc, sym, true, zero, ℕ, ◌∙◌, ◌∷◌, ◌≡◌, ◌≤◌, length, arith}
-use Rattle.std.specs.Prelude.{Vec, is_some, not, option_and_then, option_map, slice_get, ◌&&◌}
+use Rattle.std.proofs.Common.{List, None, Option, Some, [], ap, refl, suc, sym, true, ℕ, ◌∙◌, ◌∷◌, ◌≡◌, ◌≤◌, length, arith}
+use Rattle.std.specs.Prelude.{Vec, not, option_and_then, slice_get, ◌&&◌}
 use Rattle.std.specs.declared.alloc.Global.{Global}
 use Rattle.yw_enabled.proofs.ItemThere.{item_there, its_child}
 use Rattle.yw_enabled.specs.Free.{StandsFree}

@@ -1,9 +1,9 @@
 -- What the boxes of an item and of a case say of how they go on.
-use Rattle.std.proofs.Common.{Bool, List, None, Option, Some, ap, false, length, refl, sym, true, ℕ, ◌∙◌, ◌≡◌, ◌≤◌}
+use Rattle.std.proofs.Common.{Bool, List, None, Option, Some, ap, false, refl, sym, true, ℕ, ◌∙◌, ◌≡◌}
 use Rattle.std.proofs.lemmas.Bool.{and_from, and_parts}
 use Rattle.std.specs.Prelude.{is_some, nat_lt, not, option_and_then, option_map, ◌&&◌, ◌||◌}
 use Rattle.yw_base.specs.Identity.{is_identity}
-use Rattle.yw_enabled.specs.Items.{CaseEnds, CaseEndsAs, CaseFree, IsAtOutputAs, ItemFree, ItemGoes, ItemTakes, StepsAs, case_at_end, event_of, is_at_output, item_step, step_of}
+use Rattle.yw_enabled.specs.Items.{CaseEndsAs, CaseFree, IsAtOutputAs, ItemFree, ItemGoes, StepsAs, case_at_end, event_of, is_at_output, item_step, step_of}
 use Rattle.yw_enabled.specs.declared.items.ItemStep.{ItemStep}
 use Rattle.yw_enabled.specs.declared.items.ItemStep.TheVariants.{CompleteEmpty, CompleteSub, CompleteWorklet, StartSub}
 use Rattle.yw_spec.specs.declared.spec.Net.{Net}
@@ -18,10 +18,10 @@ use Rattle.yw_state.specs.Nets.{child_net, is_atomic, is_empty}
 use Rattle.yw_state.specs.Options.{is_some_and}
 use Rattle.yw_state.specs.State.{ItemAt, NetAt, State, item_at}
 use Rattle.yw_state.specs.Texts.{nothing}
-use Rattle.yw_state.specs.Words.{busy, clear, is_executing, is_ready}
+use Rattle.yw_state.specs.Words.{busy, is_executing, is_ready}
 use Rattle.yw_state.specs.declared.event.Event.TheVariants as events
 use Rattle.yw_state.specs.declared.part.Stage.{Stage}
-use Rattle.yw_state.specs.declared.part.Stage.TheVariants.{Completed, Executing, Ready}
+use Rattle.yw_state.specs.declared.part.Stage.TheVariants.{Executing, Ready}
 use Rattle.yw_still.specs.Still.{case_ends, item_begins, item_ends, item_goes_on}
 use Rattle.yw_task.proofs.EnterAsk.{has_marks, its_net}
 use Rattle.yw_task.proofs.ItemLaw.{its_busy, known_part}

@@ -1,5 +1,5 @@
 -- A task may be left exactly where its list of items and the tokens of its net say so.
-use Rattle.std.proofs.Common.{Bool, List, None, Option, Some, [], ap, false, length, map, refl, subst, sym, true, ℕ, ◌∙◌, ◌∷◌, ◌≡◌}
+use Rattle.std.proofs.Common.{Bool, List, Some, ap, false, length, subst, sym, true, ℕ, ◌∙◌, ◌≡◌}
 use Rattle.std.specs.List.{list_all}
 use Rattle.std.specs.Prelude.{filter, nat_le, nat_lt, slice_get, ◌==◌, ◌&&◌, ◌||◌}
 use Rattle.yw_base.specs.declared.gate.Gate.{Gate}
@@ -21,7 +21,7 @@ use Rattle.yw_state.specs.State.{ItemPart, State, TaskAt}
 use Rattle.yw_state.specs.Values.{Row}
 use Rattle.yw_state.specs.Words.{done}
 use Rattle.yw_still.proofs.Numbers.{all_filtered}
-use Rattle.yw_still.specs.Still.{has_room_on, is_leaving, task_numbered}
+use Rattle.yw_still.specs.Still.{has_room_on, is_leaving}
 use Rattle.yw_task.proofs.EnterAsk.{has_marks, its_active, its_items, net_with}
 use Rattle.yw_task.proofs.MadeLaw.{made_rows_are}
 use Rattle.yw_task.specs.Making.{rows_made}

@@ -15,7 +15,7 @@ use Rattle.yw_state.specs.Words.{clear}
 use Rattle.yw_state.specs.declared.event.Event.{Event}
 use Rattle.yw_state.specs.declared.event.Event.TheVariants as events
 use Rattle.yw_state.specs.declared.part.Stage.{Stage}
-use Rattle.yw_state.specs.declared.part.Stage.TheVariants.{Ready, Executing, Completed}
+use Rattle.yw_state.specs.declared.part.Stage.TheVariants.{Ready, Executing}
 use Rattle.yw_enabled.specs.declared.items.ItemStep.{ItemStep}
 use Rattle.yw_enabled.specs.declared.items.ItemStep.TheVariants.{StartSub, CompleteSub, CompleteEmpty, CompleteWorklet}
 use Rattle.yw_still.specs.Still.{case_ends, item_goes_on}

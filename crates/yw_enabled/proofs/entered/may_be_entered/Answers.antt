@@ -1,4 +1,4 @@
-use Rattle.std.proofs.Common.{Bool, false, refl, subst, sym, true, ◌∙◌}
+use Rattle.std.proofs.Common.{Bool, false, refl, subst, sym, ◌∙◌}
 use Rattle.yw_enabled.proofs.EnterLaw.{comes_in, out_active, out_unmade, out_waiting, out_without}
 use Rattle.yw_enabled.proofs.entered.may_be_entered.Goals as goal
 use Rattle.yw_task.specs.Asked.{OrWaitsAs}

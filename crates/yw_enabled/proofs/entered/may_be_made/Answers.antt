@@ -1,5 +1,5 @@
 use Rattle.std.proofs.Common.{sym, ◌∙◌}
-use Rattle.yw_enabled.proofs.MadeCount.{made_by_count, unmade_by_count}
+use Rattle.yw_enabled.proofs.MadeCount.{made_by_count}
 use Rattle.yw_enabled.proofs.entered.may_be_made.Goals as goal
 
 pub returns-in-Some : goal.returns-in-Some

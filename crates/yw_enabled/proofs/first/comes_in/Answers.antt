@@ -1,4 +1,4 @@
-use Rattle.std.proofs.Common.{inr, sym, ◌∙◌}
+use Rattle.std.proofs.Common.{inr}
 use Rattle.yw_enabled.proofs.first.comes_in.Goals as goal
 
 pub returns-clause-none : goal.returns-clause-none

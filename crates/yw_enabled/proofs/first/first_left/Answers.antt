@@ -1,4 +1,4 @@
-use Rattle.std.proofs.Common.{Bool, List, ap, arith, below_more, false, length, subst, sym, true, ◌<◌, ◌≡◌, ◌≤◌}
+use Rattle.std.proofs.Common.{Bool, ap, arith, below_more, false, length, subst}
 use Rattle.yw_enabled.proofs.first.first_left.Goals as goal
 use Rattle.yw_enabled.specs.Left.{IsLeavingAs}
 
