@@ -30,7 +30,7 @@ fn lacks_value(param: &Param, vals: &Row) -> bool
 }
 
 /// The first such parameter.
-fn first_lacking<'a>(params: &'a [Param], vals: &Row) -> Option<&'a Param>
+pub fn first_lacking<'a>(params: &'a [Param], vals: &Row) -> Option<&'a Param>
     ensures { option_copied result ≡ find (lacks_value vals.now) params.now }
 {
     params.iter().find(|param| lacks_value(param, vals))
@@ -96,7 +96,7 @@ pub fn given_row(
 }
 
 /// How many elements a list has; none where it is no list.
-fn element_count(list: Val<'_>) -> usize
+pub fn element_count(list: Val<'_>) -> usize
     ensures { result ≡ length (elements (value_of list.entry)) }
 {
     match list {

@@ -18,10 +18,13 @@ mod tokens;
 mod waits;
 
 pub use adding::add;
-pub use ask::{ask_complete, ask_enter, ask_start};
+pub use ask::{ask_complete, ask_enter, ask_start, task_at};
 pub use done::complete;
 pub use entering::enter;
 pub use exits::exit;
 pub use fault::StepFault;
+pub use giving::{count_rule, element_count, first_lacking};
 pub use item::start;
+pub use made::{items_in, kept_values};
 pub use region::empty_region;
+pub use waits::{is_active, or_waits};

@@ -1,0 +1,90 @@
+-- A task may be left exactly where its list of items and the tokens of its net say so.
+use Rattle.std.proofs.Common.{Bool, List, Some, ap, false, length, subst, sym, true, ℕ, ◌∙◌, ◌≡◌}
+use Rattle.std.specs.List.{list_all}
+use Rattle.std.specs.Prelude.{filter, nat_le, nat_lt, slice_get, ◌==◌, ◌&&◌, ◌||◌}
+use Rattle.yw_base.specs.declared.gate.Gate.{Gate}
+use Rattle.yw_base.specs.declared.gate.Gate.TheVariants.{And, Or, Xor}
+use Rattle.yw_enabled.proofs.Counted.{all_counted, all_same, count_same}
+use Rattle.yw_enabled.proofs.FreeItems.{all_done_there, task_is}
+use Rattle.yw_enabled.specs.Free.{StandsFree}
+use Rattle.yw_enabled.specs.Left.{IsLeavingAs, are_enough, done_count, has_room, is_done, leaves_by, reaches, split_has_room}
+use Rattle.yw_spec.specs.declared.spec.Net.{Net}
+use Rattle.yw_spec.specs.declared.task.Many.{Many}
+use Rattle.yw_spec.specs.declared.task.Task.{Task}
+use Rattle.yw_state.proofs.Tests.{some_same}
+use Rattle.yw_state.specs.Allowed.{exit_values, may_leave, most_tokens}
+use Rattle.yw_state.specs.Identity.{Ident}
+use Rattle.yw_state.specs.Nets.{is_among}
+use Rattle.yw_state.specs.Options.{is_some_and}
+use Rattle.yw_state.specs.Passing.{kept_values, made_rows, split_places}
+use Rattle.yw_state.specs.State.{ItemPart, State, TaskAt}
+use Rattle.yw_state.specs.Values.{Row}
+use Rattle.yw_state.specs.Words.{done}
+use Rattle.yw_still.proofs.Numbers.{all_filtered}
+use Rattle.yw_still.specs.Still.{has_room_on, is_leaving}
+use Rattle.yw_task.proofs.EnterAsk.{has_marks, its_active, its_items, net_with}
+use Rattle.yw_task.proofs.MadeLaw.{made_rows_are}
+use Rattle.yw_task.specs.Making.{rows_made}
+use Rattle.yw_tree.specs.Entries.{item_part_of}
+use Rattle.yw_tree.specs.Shows.{items_in}
+use Rattle.yw_tree.specs.declared.Forest.{Forest}
+use Rattle.yw_tree.specs.declared.NetState.{NetState, out-NetState}
+use Rattle.yw_tree.specs.declared.Node.{Node, out-Node}
+
+-- a split chooses among the places behind the task
+pub among_after : (t : Task) (row : Row) (p : ℕ → Bool) → list_all p t.after ≡ true → list_all p (split_places t row) ≡ true
+among_after t row p all = by_gate t.split
+  where
+    by_gate : (g : Gate) → list_all p (split_places (record t { split = g }) row) ≡ true
+    by_gate And = all
+    by_gate Xor = all_filtered _ p t.after all
+    by_gate Or = all_filtered _ p t.after all
+
+module _ (names : ℕ → List ℕ) (f : Forest) (s : State) (i : Ident) (net : Net) (state : NetState) (h : StandsFree names f s i net state) (t : ℕ) (task : Task) where
+  abbrev counts : Ident × ItemPart → Bool
+  counts e = done s e.0 e.1
+
+  abbrev with_id : Node → Ident × ItemPart
+  with_id n = ((out-Node n).id, item_part_of n)
+
+  enough_there : may_leave s i (record { number = t; task = task; within = net_with names net state }) ≡ (done_count (items_in state t) == length (items_in state t) || reaches task (done_count (items_in state t)))
+  enough_there =
+      let each = all_done_there names f s i net state h t in
+      ap (λ es. list_all (λ (e : Ident × ItemPart). done s e.0 e.1) es || is_some_and task.many (λ (m : Many). nat_le m.threshold (length (filter (λ (e : Ident × ItemPart). done s e.0 e.1) es)))) (its_items names f s i net state h.stands t)
+      ∙ (λ j. (all_same counts is_done with_id (items_in state t) each ∙ all_counted is_done (items_in state t)) j || is_some_and task.many (λ (m : Many). nat_le m.threshold (count_same counts is_done with_id (items_in state t) each j)))
+
+  values_are : exit_values s i (record { number = t; task = task; within = net_with names net state }) ≡ kept_values task (rows_made (items_in state t)) (out-NetState state).vals
+  values_are =
+      ap (λ es. kept_values task (made_rows es) (out-NetState state).vals) (its_items names f s i net state h.stands t)
+      ∙ ap (λ rows. kept_values task rows (out-NetState state).vals) (made_rows_are (items_in state t))
+
+  room_there : list_all (has_room_on s i (record { number = t; task = task; within = net_with names net state })) (split_places task (exit_values s i (record { number = t; task = task; within = net_with names net state }))) ≡ split_has_room state task (items_in state t)
+  room_there = λ j. list_all (λ c. is_among task.drop_places c || nat_lt (has_marks names f s i net state h.stands c j) most_tokens) (split_places task (values_are j))
+
+  leaving_there : is_leaving s i (record { number = t; task = task; within = net_with names net state }) ≡ leaves_by state t task
+  leaving_there = (λ j. h.free j && its_active names f s i net state h.stands t j && enough_there j && room_there j)
+
+pub leaving_as : (net : Net) (state : NetState) (t : ℕ) (task : Task) → slice_get net.tasks t ≡ Some task → (answer : Bool) → answer ≡ leaves_by state t task → IsLeavingAs net state t answer
+leaving_as net state t task at answer same = λ names f s i x h is.
+    let y = task_is names f s i net state h t x is in
+    let its_task : y.0 ≡ task = some_same y.0 task (sym y.1 ∙ at) in
+    subst (λ (z : TaskAt). is_leaving s i z ≡ answer) y.2
+    (leaving_there names f s i net state h t y.0 ∙ ap (leaves_by state t) its_task ∙ sym same)
+
+-- where too few have come far enough, it may not be left
+pub too_few : (net : Net) (state : NetState) (t : ℕ) (task : Task) (ns : List Node) → slice_get net.tasks t ≡ Some task → ns ≡ items_in state t → are_enough task ns ≡ false → IsLeavingAs net state t false
+too_few net state t task ns at items few =
+    leaving_as net state t task at false (ap (λ b. b && split_has_room state task (items_in state t)) (sym few ∙ ap (are_enough task) items))
+
+-- else it may where there is room
+pub by_room : (net : Net) (state : NetState) (t : ℕ) (task : Task) (ns : List Node) → slice_get net.tasks t ≡ Some task → ns ≡ items_in state t → are_enough task ns ≡ true → (room : Bool) → room ≡ split_has_room state task ns → IsLeavingAs net state t room
+by_room net state t task ns at items enough room same =
+    leaving_as net state t task at room
+    (same ∙ ap (split_has_room state task) items ∙ ap (λ b. b && split_has_room state task (items_in state t)) (sym enough ∙ ap (are_enough task) items))
+
+-- there is room on each place of the split where there is on each place behind the task
+pub room_behind : (state : NetState) (task : Task) (ns : List Node) (places : List ℕ) → places ≡ task.after → list_all (has_room (out-NetState state).marks task) places ≡ true → true ≡ split_has_room state task ns
+room_behind state task ns places same room =
+    let row = kept_values task (rows_made ns) (out-NetState state).vals in
+    let p = has_room (out-NetState state).marks task in
+    sym (among_after task row p (ap (list_all p) (sym same) ∙ room))

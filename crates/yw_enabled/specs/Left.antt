@@ -1,0 +1,69 @@
+-- When a task may be left, read off its list of items and the tokens of its net.
+use Rattle.std.specs.Prelude.{◌≡◌, ◌<◌, ℕ, ◌==◌, ◌&&◌, ◌||◌, Bool, true, false, not, List, Option, Some, None, count_by, is_some, length, nat_le, nat_lt}
+use Rattle.std.specs.List.{list_all}
+use Rattle.yw_spec.specs.declared.spec.Net.{Net}
+use Rattle.yw_spec.specs.declared.task.Many.{Many}
+use Rattle.yw_spec.specs.declared.task.Task.{Task}
+use Rattle.yw_state.specs.After.{count_on}
+use Rattle.yw_state.specs.Allowed.{most_tokens}
+use Rattle.yw_state.specs.Identity.{Ident}
+use Rattle.yw_state.specs.Nets.{is_among}
+use Rattle.yw_state.specs.Options.{is_some_and}
+use Rattle.yw_state.specs.Passing.{kept_values, split_places}
+use Rattle.yw_state.specs.State.{State, TaskAt}
+use Rattle.yw_state.specs.Words.{is_completed}
+use Rattle.yw_enabled.specs.Free.{StandsFree}
+use Rattle.yw_still.specs.Still.{is_leaving, task_numbered}
+use Rattle.yw_task.specs.Making.{rows_made}
+use Rattle.yw_tree.specs.Shows.{items_in}
+use Rattle.yw_tree.specs.declared.Forest.{Forest}
+use Rattle.yw_tree.specs.declared.NetState.{NetState, out-NetState}
+use Rattle.yw_tree.specs.declared.Node.{Node, out-Node}
+
+-- ---- by the boxes
+
+-- it counts where its task exits: it is completed, no run hangs at it, and it isn't suspended
+unfoldable pub is_done : Node → Bool
+is_done n = is_completed (out-Node n).stage && not (is_some (out-Node n).run) && not (out-Node n).suspended
+
+abbrev pub done_count : List Node → ℕ
+done_count ns = count_by is_done ns
+
+-- so many are as many as the threshold, where there is one
+abbrev pub reaches : Task → ℕ → Bool
+reaches task count = is_some_and task.many (λ (m : Many). nat_le m.threshold count)
+
+-- there are items, and all are done, or as many as the threshold
+abbrev pub are_enough : Task → List Node → Bool
+are_enough task ns = nat_lt 0 (length ns) && (done_count ns == length ns || reaches task (done_count ns))
+
+-- one token more is not too many, once the removal set is emptied
+abbrev pub has_room : List ℕ → Task → ℕ → Bool
+has_room marks task c = is_among task.drop_places c || nat_lt (count_on marks c) most_tokens
+
+-- there is room on each place of the split
+abbrev pub split_has_room : NetState → Task → List Node → Bool
+split_has_room state task ns =
+    list_all (has_room (out-NetState state).marks task) (split_places task (kept_values task (rows_made ns) (out-NetState state).vals))
+
+abbrev pub leaves_by : NetState → ℕ → Task → Bool
+leaves_by state t task = are_enough task (items_in state t) && split_has_room state task (items_in state t)
+
+-- ---- by the definitions
+
+-- wherever the net stands free, the answer is whether its task with this number may be left
+abbrev pub IsLeavingAs : Net → NetState → ℕ → Bool → Type 0
+IsLeavingAs net state t answer =
+    (names : ℕ → List ℕ) (f : Forest) (s : State) (i : Ident) (x : TaskAt)
+    → StandsFree names f s i net state → task_numbered s i t ≡ Some x → is_leaving s i x ≡ answer
+
+-- The task with this number may be left, and none before it.
+pub record LeavesAt (net : Net) (state : NetState) (t : ℕ) : Type 0 where
+  pub below : t < length net.tasks
+  pub leaves : IsLeavingAs net state t true
+  pub first : (k : ℕ) → k < t → IsLeavingAs net state k false
+
+-- the first task that may be left, or none where none may
+abbrev pub LeavesFirst : Net → NetState → Option ℕ → Type 0
+LeavesFirst net state (Some t) = LeavesAt net state t
+LeavesFirst net state None = (k : ℕ) → k < length net.tasks → IsLeavingAs net state k false

@@ -1,0 +1,4 @@
+pub mod Free
+pub mod Left
+pub mod Entered
+pub mod Items

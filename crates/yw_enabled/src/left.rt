@@ -1,0 +1,128 @@
+// Whether a task may be left.
+ghost use Rattle.std.specs.Prelude.{◌≡◌, ◌<◌, IfOk, count_by, length};
+ghost use Rattle.std.specs.List.{list_all};
+ghost use Rattle.yw_enabled.specs.Left.{IsLeavingAs, are_enough, has_room, is_done, reaches, split_has_room};
+ghost use Rattle.yw_state.specs.After.{count_on};
+ghost use Rattle.yw_state.specs.Nets.{is_among};
+ghost use Rattle.yw_state.specs.Words.{is_completed};
+ghost use Rattle.yw_tree.specs.declared.NetState.{out-NetState};
+
+use std::alloc::{AllocError, Global};
+use yw_mark::split_places;
+use yw_spec::{Net, Task};
+use yw_state::{Marks, Stage};
+use yw_task::{items_in, kept_values, task_at};
+use yw_tree::{NetState, Node};
+
+/// The most tokens that a place may have.
+const MOST_TOKENS: u64 = 1_000_000;
+
+/// It has made its values.
+fn is_completed(stage: Stage) -> bool
+    ensures { result ≡ is_completed stage }
+{
+    match stage {
+        Stage::Completed => true,
+        Stage::Ready | Stage::Executing => false,
+    }
+}
+
+/// The item counts where its task exits.
+#[tactic(auto, unfolding(crate::specs::Left::is_done))]
+fn is_done(node: &Node) -> bool
+    ensures { result ≡ is_done node.now }
+{
+    is_completed(node.stage) && !node.run.is_some() && !node.suspended
+}
+
+/// How many of these items count.
+fn done_count(nodes: &[Node]) -> usize
+    ensures { result ≡ count_by is_done nodes.now }
+{
+    let mut count = 0;
+    for node in nodes {
+        if is_done(node) {
+            count += 1;
+        }
+    }
+    count
+}
+
+/// The task has a threshold, and so many are as many.
+fn reaches(task: &Task, count: usize) -> bool
+    ensures { result ≡ reaches task.now count }
+{
+    match &task.many {
+        Some(many) => many.threshold as usize <= count,
+        None => false,
+    }
+}
+
+/// There are items, and all of them count, or as many as the threshold.
+fn are_enough(task: &Task, nodes: &[Node]) -> bool
+    ensures { result ≡ are_enough task.now nodes.now }
+{
+    let done = done_count(nodes);
+    0 < nodes.len() && (done == nodes.len() || reaches(task, done))
+}
+
+/// It is one of these.
+fn is_among(places: &[usize], c: usize) -> bool
+    ensures { result ≡ is_among places.now c }
+{
+    places.iter().any(|place| c == *place)
+}
+
+/// How many tokens are on a place.
+fn count_on(marks: &Marks, c: usize) -> u64
+    ensures { result ≡ count_on marks.now c }
+{
+    marks.get(c).copied().unwrap_or(0)
+}
+
+/// One token more on the place is not too many, once the removal set is emptied.
+fn has_room(marks: &Marks, task: &Task, c: usize) -> bool
+    ensures { result ≡ has_room marks.now task.now c }
+{
+    is_among(task.drop_places.as_slice(), c) || count_on(marks, c) < MOST_TOKENS
+}
+
+/// There is room on each of these places.
+fn have_room(marks: &Marks, task: &Task, places: &[usize]) -> bool
+    ensures { result ≡ list_all (has_room marks.now task.now) places.now }
+{
+    places.iter().all(|c| has_room(marks, task, *c))
+}
+
+/// There is room on each place of the split. The split is decided, over the values that the assignments leave, only where a place behind the
+/// task has no room.
+fn split_has_room(
+    alloc: Global,
+    task: &Task,
+    state: &NetState,
+    nodes: &[Node],
+) -> Result<bool, AllocError>
+    ensures { IfOk result (λ room. room ≡ split_has_room state.now task.now nodes.now) }
+{
+    if have_room(&state.marks, task, task.after.as_slice()) {
+        return Ok(true);
+    }
+    let vals = kept_values(alloc, task, nodes, &state.vals)?;
+    let places = split_places(alloc, task, &vals)?;
+    Ok(have_room(&state.marks, task, places.as_slice()))
+}
+
+/// Whether the task of a net with this number may be left: it has items that have come far enough, and none of the places of its split has too
+/// many tokens. An `Err` says that no memory was left. None is taken, and no expression is evaluated, but where a place behind the task is full.
+/// That a task is left is the paper's; how far its items have to come is after it, and how many tokens a place may have is our own.
+pub fn may_be_left(alloc: Global, net: &Net, state: &NetState, t: usize) -> Result<bool, AllocError>
+    requires { t < length net.now.tasks }
+    ensures { IfOk result (IsLeavingAs net.now state.now t) }
+{
+    let task = task_at(net, t);
+    let nodes = items_in(state, t);
+    if are_enough(task, nodes) {
+        return split_has_room(alloc, task, state, nodes);
+    }
+    Ok(false)
+}
