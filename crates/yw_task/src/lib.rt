@@ -19,12 +19,12 @@ mod waits;
 
 pub use adding::add;
 pub use ask::{ask_complete, ask_enter, ask_start, task_at};
-pub use done::complete;
+pub use done::{complete, completion_fault, finish};
 pub use entering::enter;
 pub use exits::exit;
 pub use fault::StepFault;
 pub use giving::{count_rule, element_count, first_lacking};
 pub use item::start;
-pub use made::{items_in, kept_values};
+pub use made::{int_in, is_text, items_in, kept_values, made_by, text_in};
 pub use region::empty_region;
 pub use waits::{is_active, or_waits};
