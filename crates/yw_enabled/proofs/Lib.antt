@@ -6,3 +6,4 @@ pub mod MadeCount
 pub mod EnterLaw
 pub mod ItemSteps
 pub mod Results
+pub mod Coming

@@ -61,7 +61,7 @@ taken_up true true = refl
 taken_up true false = refl
 taken_up false z = refl
 
-not_zero : (k : ℕ) → (suc k == 0) ≡ false
+pub not_zero : (k : ℕ) → (suc k == 0) ≡ false
 not_zero k = false_from_ne_true (suc k == 0) (λ e. let same : suc k ≡ 0 = eqb-true (suc k) 0 e in absurd (omega arith))
 
 -- there is an element, where the task has a list

@@ -5,6 +5,7 @@
 mod entered;
 mod first;
 mod items;
+pub mod laws;
 mod left;
 
 pub use entered::may_be_entered;
