@@ -99,7 +99,7 @@ pub fn placeless(alloc: Global, rule: Rule) -> Refusal
 }
 
 /// The first rule that a completion breaks.
-fn completion_fault(
+pub fn completion_fault(
     alloc: Global,
     net: &Net,
     task: &Task,
@@ -129,7 +129,7 @@ fn with_post(due: Checks, post: bool) -> Checks
     }
 }
 
-fn finish(node: &mut Node, out: Row, post: bool)
+pub fn finish(node: &mut Node, out: Row, post: bool)
     ensures { out-Node node.new ≡ record (out-Node node.old) { stage = Completed; made = out; due = due_where post Post (out-Node node.old).due } }
 {
     node.stage = Stage::Completed;

@@ -18,10 +18,11 @@ mod tokens;
 mod waits;
 
 pub use adding::add;
-pub use ask::{ask_complete, ask_enter, ask_start};
-pub use done::complete;
+pub use ask::{ask_complete, ask_enter, ask_start, task_at};
+pub use done::{complete, completion_fault, finish};
 pub use entering::enter;
 pub use exits::exit;
 pub use fault::StepFault;
 pub use item::start;
+pub use made::{int_in, is_text, items_in, made_by, text_in};
 pub use region::empty_region;

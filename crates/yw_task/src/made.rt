@@ -37,7 +37,7 @@ fn is_completed(stage: Stage) -> bool
 }
 
 /// What an item that is completed has made of the parameter with this number.
-fn made_by(node: &Node, k: usize) -> Option<&Value>
+pub fn made_by(node: &Node, k: usize) -> Option<&Value>
     ensures { option_copied result ≡ made_by k node.now }
 {
     if is_completed(node.stage) {
@@ -47,7 +47,7 @@ fn made_by(node: &Node, k: usize) -> Option<&Value>
     }
 }
 
-fn int_in(value: &Value) -> Option<i64>
+pub fn int_in(value: &Value) -> Option<i64>
     ensures { result ≡ int_in value.now }
 {
     match value {
@@ -56,7 +56,7 @@ fn int_in(value: &Value) -> Option<i64>
     }
 }
 
-fn text_in(value: &Value) -> Option<&Text>
+pub fn text_in(value: &Value) -> Option<&Text>
     ensures { option_copied result ≡ text_in value.now }
 {
     match value {
@@ -102,7 +102,7 @@ fn texts(alloc: Global, nodes: &[Node], k: usize) -> Result<TextList, AllocError
     Ok(texts)
 }
 
-fn is_text(sort: Sort) -> bool
+pub fn is_text(sort: Sort) -> bool
     ensures { result ≡ is_text sort }
 {
     match sort {
