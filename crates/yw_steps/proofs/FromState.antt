@@ -50,7 +50,7 @@ with_task p w = option_map (item_with p) (task_in w p.task)
 
 -- ---- a net
 
-pub net_is : (s : State) → HoldsWithin s → (i : Ident) (n : NetAt) → net_at s i ≡ Some n → NetIs s i n.net
+abbrev pub net_is : (s : State) → HoldsWithin s → (i : Ident) (n : NetAt) → net_at s i ≡ Some n → NetIs s i n.net
 net_is s holds i n at = let w = net_within s holds i n at in record { there = n; stands = at; same = refl; spec = w.0; within = w.1 }
 
 last_passes : (p : ℕ → Bool) (xs : List ℕ) (n : ℕ) → list_all p (xs ++ n ∷ []) ≡ true → p n ≡ true

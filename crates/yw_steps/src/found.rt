@@ -1,5 +1,6 @@
 // What is found in a forest.
-ghost use Rattle.std.specs.Prelude.{◌≡◌, IfOk, IsSome, Some, false};
+ghost use Rattle.std.specs.Prelude.{◌≡◌, IfOk, IsSome, Some, false, true};
+ghost use Rattle.yw_base.specs.Identity.{is_identity};
 ghost use Rattle.yw_state.specs.Identity.{is_case_ident, parent};
 ghost use Rattle.yw_tree.specs.Forest.{item_of};
 ghost use Rattle.yw_tree.specs.Places.{net_at};
@@ -33,7 +34,8 @@ pub fn item_there<'a>(forest: &'a Forest, j: &Ident) -> &'a Node
 /// The identity of the net in which an item stands.
 pub fn parent(alloc: Global, j: &Ident) -> Result<Ident, AllocError>
     requires { is_case_ident j.now ≡ false }
-    ensures { IfOk result (λ i. i ≡ parent j.now) }
+    ensures value { IfOk result (λ i. i ≡ parent j.now) }
+    ensures identity { is_identity j.now ≡ true }
 {
     let numbers = j.numbers();
     let outer = Vec::from_slice(alloc, &numbers[..numbers.len() - 1])?;

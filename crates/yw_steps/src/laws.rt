@@ -7,7 +7,7 @@ ghost use Rattle.yw_spec.specs.declared.task.Task.{Task};
 ghost use Rattle.yw_state.specs.Allowed.{Allowed};
 ghost use Rattle.yw_state.specs.Identity.{Ident};
 ghost use Rattle.yw_state.specs.State.{ItemAt, NetAt, State, item_at, net_at};
-ghost use Rattle.yw_state.specs.Texts.{Reader, Said};
+ghost use Rattle.yw_state.specs.Texts.{Said};
 ghost use Rattle.yw_state.specs.Well.{IsWell};
 ghost use Rattle.yw_state.specs.declared.event.Event.TheVariants as events;
 ghost use Rattle.yw_state.specs.declared.part.Checks.{Checks};
@@ -21,6 +21,8 @@ ghost use Rattle.yw_tree.specs.declared.Forest.{Forest};
 ghost use Rattle.yw_tree.specs.declared.NetState.{NetState};
 ghost use Rattle.yw_within.specs.Within.{HoldsWithin};
 
+use yw_state::laws::reads::Reads;
+
 /// The item that a state has is found, so it may be asked to start; and so it is where a start is allowed.
 pub fn item_stands()
     ensures found { (names : ℕ → List ℕ) (f : Forest) (s : State) → StandsWell names f s
@@ -30,10 +32,10 @@ pub fn item_stands()
 {}
 
 /// So may one be asked to complete, and what a completion needs of the state is so.
-pub fn item_may_complete()
+pub fn item_may_complete<R: Reads>()
     ensures may { (names : ℕ → List ℕ) (f : Forest) (s : State) → StandsWell names f s
         → (j : Ident) (x : ItemAt) → item_at s j ≡ Some x → IsItemIn f x.of_task.within.net j }
-    ensures needs { (names : ℕ → List ℕ) (f : Forest) (s : State) (reader : Reader) → StandsWell names f s → IsWell reader s
+    ensures needs { (names : ℕ → List ℕ) (f : Forest) (s : State) → StandsWell names f s → IsWell R.reader s
         → (j : Ident) (x : ItemAt) → item_at s j ≡ Some x → ItemIs s j x.of_task.within.net }
 {}
 

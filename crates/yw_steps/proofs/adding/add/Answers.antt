@@ -32,8 +32,8 @@ add-requires-clause-task_in c =
 pub add-requires-clause-before : goal.add-requires-clause-before
 add-requires-clause-before c = c.requires.before c.in-Some.state.now (sym (rw c.in-Some.is at c.net_mut.ensures.value))
 
-pub returns-in-Some-clause-ok : goal.returns-in-Some-clause-ok
-returns-in-Some-clause-ok c =
+pub returns-clause-ok : goal.returns-clause-ok
+returns-clause-ok c =
     let f = c.args.forest.now in
     let i = c.args.at.now in
     let net = c.args.net.now in
@@ -43,8 +43,8 @@ returns-in-Some-clause-ok c =
     if_ok c.add.result (λ _. NetAdds net old i c.args.t c.args.value c.args.n c.args.due w) (λ _. Adds net i c.args.t c.args.value c.args.n c.args.due f (placed_net f i w)) c.add.ensures.ok
     (λ _ does. adds f c.requires.boxed i c.net_mut.ensures.identity old found net c.args.t c.args.value c.args.n c.args.due w does)
 
-pub returns-in-Some-clause-allowed : goal.returns-in-Some-clause-allowed
-returns-in-Some-clause-allowed c =
+pub returns-clause-allowed : goal.returns-clause-allowed
+returns-clause-allowed c =
     let f = c.args.forest.now in
     let i = c.args.at.now in
     let net = c.args.net.now in
@@ -56,8 +56,8 @@ returns-in-Some-clause-allowed c =
     (λ _ does unbroken. allowed f c.requires.boxed i c.net_mut.ensures.identity old found net c.args.t c.args.value c.args.n
     (breaks f c.requires.boxed i c.net_mut.ensures.identity old found net c.args.t c.args.value c.args.n None unbroken))
 
-pub returns-in-Some-clause-breaks : goal.returns-in-Some-clause-breaks
-returns-in-Some-clause-breaks c =
+pub returns-clause-breaks : goal.returns-clause-breaks
+returns-clause-breaks c =
     let f = c.args.forest.now in
     let i = c.args.at.now in
     let net = c.args.net.now in
@@ -66,8 +66,8 @@ returns-in-Some-clause-breaks c =
     first_so c.add.result (NetAddBreaks net old c.args.t c.args.value c.args.n) (AddBreaks f net i c.args.t c.args.value c.args.n) c.add.ensures.breaks
     (λ rule h. breaks f c.requires.boxed i c.net_mut.ensures.identity old found net c.args.t c.args.value c.args.n rule h)
 
-pub returns-in-Some-clause-err : goal.returns-in-Some-clause-err
-returns-in-Some-clause-err c =
+pub returns-clause-err : goal.returns-clause-err
+returns-clause-err c =
     let f = c.args.forest.now in
     let i = c.args.at.now in
     let old = c.in-Some.state.now in

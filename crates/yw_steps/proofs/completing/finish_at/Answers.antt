@@ -3,8 +3,8 @@ use Rattle.yw_steps.proofs.CompleteLaw.{completed}
 use Rattle.yw_steps.proofs.completing.finish_at.Goals as goal
 use Rattle.yw_tree.specs.Forest.{item_of}
 
-pub returns-in-Some : goal.returns-in-Some
-returns-in-Some c = λ net.
+pub returns : goal.returns
+returns c = λ net.
     let f = c.args.forest.now in
     let j = c.args.j.now in
     let old = c.in-Some.node.now in

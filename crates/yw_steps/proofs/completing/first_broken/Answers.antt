@@ -14,7 +14,7 @@ pub parent-requires : goal.parent-requires
 parent-requires c = no_case c.args.forest.now c.requires.boxed c.args.j.now c.requires.may.item c.requires.may.found
 
 pub net_there-outer-requires : goal.net_there-outer-requires
-net_there-outer-requires c = ap is_some (ap (net_at c.args.forest.now) c.in_ok-at.ensures ∙ c.requires.may.stands_in)
+net_there-outer-requires c = ap is_some (ap (net_at c.args.forest.now) c.in_ok-at.ensures.value ∙ c.requires.may.stands_in)
 
 pub item_there-item-requires : goal.item_there-item-requires
 item_there-item-requires c = ap is_some c.requires.may.found
@@ -42,7 +42,7 @@ returns-clause-finds c =
             item = item;
             outer = outer;
             found = c.item_there-item.ensures;
-            stands_in = sym (ap (net_at f) c.in_ok-at.ensures) ∙ c.net_there-outer.ensures;
+            stands_in = sym (ap (net_at f) c.in_ok-at.ensures.value) ∙ c.net_there-outer.ensures;
             task = subst (λ (n : Node). (out-Node n).task < length net.tasks) (some_same m.item item (sym m.found ∙ c.item_there-item.ensures)) m.task;
           };
       task = task;

@@ -29,8 +29,8 @@ enter-requires-clause-task_in c =
     let found : net_at c.args.forest.now c.args.at.now ≡ Some c.in-Some.state.now = sym (rw c.in-Some.is at c.net_mut.ensures.value) in
     subst (HasTask c.args.t) (some_same m.state c.in-Some.state.now (sym m.found ∙ found)) m.list
 
-pub returns-in-Some-clause-ok : goal.returns-in-Some-clause-ok
-returns-in-Some-clause-ok c =
+pub returns-clause-ok : goal.returns-clause-ok
+returns-clause-ok c =
     let f = c.args.forest.now in
     let i = c.args.at.now in
     let net = c.args.net.now in
@@ -40,8 +40,8 @@ returns-in-Some-clause-ok c =
     if_ok c.enter.result (NetEnters net old i c.args.t c.args.taken c.args.first c.args.due w) (Enters net i c.args.t c.args.taken c.args.first c.args.due f (placed_net f i w)) c.enter.ensures.ok
     (λ count does. enters f c.requires.boxed i c.net_mut.ensures.identity old found net c.args.t c.args.taken c.args.first c.args.due w count does)
 
-pub returns-in-Some-clause-allowed : goal.returns-in-Some-clause-allowed
-returns-in-Some-clause-allowed c =
+pub returns-clause-allowed : goal.returns-clause-allowed
+returns-clause-allowed c =
     let f = c.args.forest.now in
     let i = c.args.at.now in
     let net = c.args.net.now in
@@ -53,8 +53,8 @@ returns-in-Some-clause-allowed c =
     (λ count does unbroken. allowed f c.requires.boxed i c.net_mut.ensures.identity old found net c.args.t c.args.taken c.args.first c.args.due w count does
     (breaks f c.requires.boxed i c.net_mut.ensures.identity old found net c.args.t c.args.taken c.args.first None unbroken))
 
-pub returns-in-Some-clause-breaks : goal.returns-in-Some-clause-breaks
-returns-in-Some-clause-breaks c =
+pub returns-clause-breaks : goal.returns-clause-breaks
+returns-clause-breaks c =
     let f = c.args.forest.now in
     let i = c.args.at.now in
     let net = c.args.net.now in
@@ -63,8 +63,8 @@ returns-in-Some-clause-breaks c =
     first_so c.enter.result (NetEnterBreaks net old c.args.t c.args.taken c.args.first) (EnterBreaks f net i c.args.t c.args.taken c.args.first) c.enter.ensures.breaks
     (λ rule h. breaks f c.requires.boxed i c.net_mut.ensures.identity old found net c.args.t c.args.taken c.args.first rule h)
 
-pub returns-in-Some-clause-err : goal.returns-in-Some-clause-err
-returns-in-Some-clause-err c =
+pub returns-clause-err : goal.returns-clause-err
+returns-clause-err c =
     let f = c.args.forest.now in
     let i = c.args.at.now in
     let old = c.in-Some.state.now in

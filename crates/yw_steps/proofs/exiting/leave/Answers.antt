@@ -15,8 +15,8 @@ exit-requires-clause-boxed c =
     let found : net_at f i ≡ Some c.in-Some.state.now = sym (rw c.in-Some.is at c.net_mut.ensures.value) in
     (net_here f i c.in-Some.state.now c.requires.boxed (identity_long i c.net_mut.ensures.identity) found).boxed
 
-pub returns-in-Some-clause-ok : goal.returns-in-Some-clause-ok
-returns-in-Some-clause-ok c =
+pub returns-clause-ok : goal.returns-clause-ok
+returns-clause-ok c =
     let f = c.args.forest.now in
     let i = c.args.at.now in
     let net = c.args.net.now in
@@ -26,8 +26,8 @@ returns-in-Some-clause-ok c =
     ok_both c.exit.result (Exits net c.args.t old w) (SplitsTo net c.args.t old) (NetLeaves net i c.args.t f (placed_net f i w)) c.exit.ensures.ok c.exit.ensures.split
     (λ numbers exits split. record { before = old; later = w; found = found; placed = refl; exits = exits; split = split })
 
-pub returns-in-Some-clause-err : goal.returns-in-Some-clause-err
-returns-in-Some-clause-err c =
+pub returns-clause-err : goal.returns-clause-err
+returns-clause-err c =
     let f = c.args.forest.now in
     let i = c.args.at.now in
     let old = c.in-Some.state.now in

@@ -12,8 +12,8 @@ unreachable-requires c =
     let e : c.in_ok-outer.outer.items ≡ parent j = c.in_ok-outer.ensures.items ∙ ap (λ z. take (length z - 1) z) c.numbers-numbers.ensures.numbers ∙ sym (parent_is j (identity_long j i)) in
     c.in-None.ensures (subst (λ z. is_identity z ≡ true) (sym e) (parent_identity j i c.requires))
 
-pub returns : goal.returns
-returns c =
+pub returns-clause-value : goal.returns-clause-value
+returns-clause-value c =
     let j = c.args.j.now in
     let i = c.numbers-numbers.ensures.identity in
     let e : c.in_ok-outer.outer.items ≡ parent j = c.in_ok-outer.ensures.items ∙ ap (λ z. take (length z - 1) z) c.numbers-numbers.ensures.numbers ∙ sym (parent_is j (identity_long j i)) in

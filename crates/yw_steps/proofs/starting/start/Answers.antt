@@ -11,8 +11,8 @@ use Rattle.yw_task.specs.Standing.{ItemDoes}
 use Rattle.yw_tree.proofs.PutBack.{put_back}
 use Rattle.yw_tree.specs.Forest.{item_of, placed}
 
-pub returns-in-Some-clause-ok : goal.returns-in-Some-clause-ok
-returns-in-Some-clause-ok c =
+pub returns-clause-ok : goal.returns-clause-ok
+returns-clause-ok c =
     let f = c.args.forest.now in
     let j = c.args.j.now in
     let old = c.in-Some.node.now in
@@ -21,15 +21,15 @@ returns-in-Some-clause-ok c =
     if_ok c.start.result (λ _. ItemDoes (λ k. events.Start k c.args.who) old new) (λ _. Starts j c.args.who f (placed f j new)) c.start.ensures.ok
     (λ _ does. starts f c.requires.boxed j c.item_mut.ensures.identity old found c.args.who new does)
 
-pub returns-in-Some-clause-first : goal.returns-in-Some-clause-first
-returns-in-Some-clause-first c =
+pub returns-clause-first : goal.returns-clause-first
+returns-clause-first c =
     let f = c.args.forest.now in
     let j = c.args.j.now in
     let found : item_of f j ≡ Some c.in-Some.node.now = sym (rw c.in-Some.is at c.item_mut.ensures.value) in
     breaks f c.requires.boxed j c.item_mut.ensures.identity c.in-Some.node.now found (result_err c.start.result) c.start.ensures.first
 
-pub returns-in-Some-clause-allowed : goal.returns-in-Some-clause-allowed
-returns-in-Some-clause-allowed c =
+pub returns-clause-allowed : goal.returns-clause-allowed
+returns-clause-allowed c =
     let f = c.args.forest.now in
     let j = c.args.j.now in
     let found : item_of f j ≡ Some c.in-Some.node.now = sym (rw c.in-Some.is at c.item_mut.ensures.value) in
@@ -37,8 +37,8 @@ returns-in-Some-clause-allowed c =
     (breaks f c.requires.boxed j c.item_mut.ensures.identity c.in-Some.node.now found (result_err c.start.result) c.start.ensures.first)
     (allowed f j c.args.who)
 
-pub returns-in-Some-clause-err : goal.returns-in-Some-clause-err
-returns-in-Some-clause-err c =
+pub returns-clause-err : goal.returns-clause-err
+returns-clause-err c =
     let f = c.args.forest.now in
     let j = c.args.j.now in
     let old = c.in-Some.node.now in
