@@ -1,7 +1,7 @@
 -- The start of an item, on the whole forest.
 use Rattle.std.proofs.Common.{Bool, List, None, Option, Some, [], ap, subst, sym, true, ℕ, ◌∙◌, ◌≡◌}
 use Rattle.std.proofs.lemmas.Bool.{and_from, not-false}
-use Rattle.std.specs.Prelude.{not, option_map}
+use Rattle.std.specs.Prelude.{not, option_map, ◌&&◌}
 use Rattle.yw_asked.proofs.Unbroken.{known, none_broken, passes}
 use Rattle.yw_base.specs.Identity.{is_identity}
 use Rattle.yw_state.specs.After.{with_sites}
