@@ -162,7 +162,7 @@ module _ (f : Forest) (boxed : IsForest f) (j : Ident) (identity : is_identity j
 
   split_fault : (o : Option Refusal) (r : Option Rule) → None ≡ or_else o r → (r ≡ None) × (o ≡ None)
   split_fault o None e = (refl, sym e)
-  split_fault o (Some rule) e = nowhere e
+  split_fault o (Some first) e = nowhere e
 
   of_three : (a b c : Bool) → (if not a then Some rules.Stage else (if b then Some rules.NotYours else (if c then Some rules.Busy else None))) ≡ None → (a ≡ true) × (c ≡ false)
   of_three false b c e = nowhere (sym e)
@@ -183,8 +183,7 @@ module _ (f : Forest) (boxed : IsForest f) (j : Ident) (identity : is_identity j
       all_defined (λ (a : Assign). val a.value row) task.set (unmapped (λ (a : Assign). a.var) (find (λ (a : Assign). is_none (val a.value row)) task.set) (unmapped _ (first_undefined task.set row) split.1)) in
       let executing : is_executing is.there.part.stage ≡ true = ap (λ (p : ItemPart). is_executing p.stage) part_there ∙ shown.0 in
       let all : list_all (λ (a : Assign). is_some (val a.value (speaks_of s j is.there out))) is.there.of_task.task.set ≡ true =
-      (λ i. list_all (λ (a : Assign). is_some (val a.value (together out so_far fits gathered i))) (task_is i).set) ∙ defined in
-      (
+      (λ i. list_all (λ (a : Assign). is_some (val a.value (together out so_far fits gathered i))) (task_is i).set) ∙ defined in (
         ap (busy s) (sym id) ∙ its_busy names f s place.item stands ∙ shown.1,
         and_from _ _ (and_from _ _ (and_from _ _ (and_from _ _ executing begun) (ap is_none vacant)) fits_there) all,
       )

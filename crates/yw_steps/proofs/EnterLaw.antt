@@ -123,16 +123,15 @@ module _ (f : Forest) (boxed : IsForest f) (i : Ident) (identity : is_identity i
         let many : length rows ≡ count = sym (came ∙ ap (λ o. length (unwrap_or o [])) are) in
         let fits : within_bounds task.many count ≡ true = ap (within_bounds task.many) came ∙ not-false _ (known is misses_bounds bounds) in
         let left : nat_le (first + count) number_end ≡ true =
-        le-leb (first + count) number_end (let l = ltb-false number_end (s.next + length (unwrap_or (entry_values task vals) [])) (known is (is_spent s) numbers) in let e = needs.next in omega (arith, l, e, came)) in
-        (
+        le-leb (first + count) number_end (let l = ltb-false number_end (s.next + length (unwrap_or (entry_values task vals) [])) (known is (is_spent s) numbers) in let e = needs.next in omega (arith, l, e, came)) in (
           and_from _ _ free
-          (passes is (λ (y : TaskAt). not (active s i y.number) && is_some_and (place_numbers y.within.net places) (joins y.task.join s i y.task.before)
-          && (is_some_and (entry_values y.task y.within.part.vals) (λ rs. length rs == count) && within_bounds y.task.many count)
-          && (first == s.next && nat_le (first + count) number_end))
-          (and_from _ _
-          (and_from _ _ (and_from _ _ (ap not (known is (λ (y : TaskAt). active s i y.number) idle)) (passes (numbers_are task taken places stand) (joins task.join s i task.before) takes))
-          (and_from _ _ (passes are (λ (rs : List Row). length rs == count) (eq-eqb (length rows) count many)) fits))
-          (and_from _ _ (eq-eqb first s.next (sym needs.next)) left))),
+              (passes is (λ (y : TaskAt). not (active s i y.number) && is_some_and (place_numbers y.within.net places) (joins y.task.join s i y.task.before)
+              && (is_some_and (entry_values y.task y.within.part.vals) (λ rs. length rs == count) && within_bounds y.task.many count)
+              && (first == s.next && nat_le (first + count) number_end))
+              (and_from _ _
+              (and_from _ _ (and_from _ _ (ap not (known is (λ (y : TaskAt). active s i y.number) idle)) (passes (numbers_are task taken places stand) (joins task.join s i task.before) takes))
+              (and_from _ _ (passes are (λ (rs : List Row). length rs == count) (eq-eqb (length rows) count many)) fits))
+              (and_from _ _ (eq-eqb first s.next (sym needs.next)) left))),
           λ y is_y or waits. no_wait (y, is_y, or, waits),
         )
       where

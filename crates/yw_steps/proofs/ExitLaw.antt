@@ -58,8 +58,7 @@ module _ (i : Ident) (identity : is_identity i ≡ true) (net : Net) (numbers : 
     due_then e =
         let alone : is_case_ident i ≡ true = (and_parts (is_case_ident i) (is_among numbers net.output) e).0 in
         let c = the_case alone in
-        let m = sites_of names g in
-        (
+        let m = sites_of names g in (
           ap (λ (b : Bool). with_sites s (update m i (judged_after b))) (sym (rule alone))
               ∙ ap (λ (j : Ident). with_sites s (update m j (judged_after due_post))) (sym (case_ident_is i alone))
               ∙ ap (with_sites s) (sym (post_map g boxed (case_number i) c.0 c.1 due_post names)),
@@ -71,14 +70,12 @@ module _ (i : Ident) (identity : is_identity i ≡ true) (net : Net) (numbers : 
         by_test (is_case_ident i && is_among numbers net.output)
         (λ e.
         let d = due_then e in
-        let h = case_with_post g (case_number i) due_post in
-        (
+        let h = case_with_post g (case_number i) due_post in (
           ap (λ (b : Bool). cond b (make_due (with_sites s (sites_of names g)) i Post) (with_sites s (sites_of names g))) e ∙ d.0 ∙ ap (λ (b : Bool). with_sites s (sites_of names (cond b h g))) (sym e),
           subst (λ (b : Bool). IsForest (cond b h g)) (sym e) d.1,
         ))
         (λ e.
-        let h = case_with_post g (case_number i) due_post in
-        (
+        let h = case_with_post g (case_number i) due_post in (
           ap (λ (b : Bool). cond b (make_due (with_sites s (sites_of names g)) i Post) (with_sites s (sites_of names g))) e ∙ ap (λ (b : Bool). with_sites s (sites_of names (cond b h g))) (sym e),
           subst (λ (b : Bool). IsForest (cond b h g)) (sym e) boxed,
         ))

@@ -13,7 +13,7 @@ returns-in-Some-clause-first c =
     let j = c.args.j.now in
     let net = c.args.net.now in
     breaks f c.requires.boxed j c.first_broken.ensures.identity net c.args.who.now c.args.out (Some c.in-Some.refusal)
-    (subst (Finds f net j c.args.who.now c.args.out) c.in-Some.is c.in_ok-first_broken.ensures.finds)
+    (subst (Finds f net j c.args.who.now c.args.out) c.in-Some.is c.in_ok-refusal.ensures.finds)
 
 pub returns-in-None-clause-first : goal.returns-in-None-clause-first
 returns-in-None-clause-first c =
@@ -21,7 +21,7 @@ returns-in-None-clause-first c =
     let j = c.args.j.now in
     let net = c.args.net.now in
     breaks f c.requires.boxed j c.first_broken.ensures.identity net c.args.who.now c.args.out None
-    (subst (Finds f net j c.args.who.now c.args.out) c.in-None.is c.in_ok-first_broken.ensures.finds)
+    (subst (Finds f net j c.args.who.now c.args.out) c.in-None.is c.in_ok-refusal.ensures.finds)
 
 pub returns-in-None-clause-allowed : goal.returns-in-None-clause-allowed
 returns-in-None-clause-allowed c =
@@ -29,7 +29,7 @@ returns-in-None-clause-allowed c =
     let j = c.args.j.now in
     let net = c.args.net.now in
     allowed f c.requires.boxed j c.first_broken.ensures.identity net c.args.who.now c.args.out
-    (subst (Finds f net j c.args.who.now c.args.out) c.in-None.is c.in_ok-first_broken.ensures.finds)
+    (subst (Finds f net j c.args.who.now c.args.out) c.in-None.is c.in_ok-refusal.ensures.finds)
 
 pub returns-in-None-clause-ok : goal.returns-in-None-clause-ok
 returns-in-None-clause-ok c = c.finish_at.ensures c.args.net.now
