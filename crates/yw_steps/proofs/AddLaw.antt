@@ -1,7 +1,7 @@
 -- The addition of an item, on the whole forest.
-use Rattle.std.proofs.Common.{Bool, List, None, Option, Some, [], ap, false, length, refl, sym, true, ℕ, ◌+◌, ◌∙◌, ◌≡◌}
+use Rattle.std.proofs.Common.{Bool, None, Option, Some, ap, false, length, refl, sym, true, ℕ, ◌+◌, ◌∙◌, ◌≡◌}
 use Rattle.std.proofs.lemmas.Bool.{and_from, eq-eqb, le-leb, leb-false, lt-ltb, ltb-false, not-false}
-use Rattle.std.specs.Prelude.{codes, find, is_none, is_some, nat_le, nat_lt, not, option_and_then, option_map, slice_get, ◌&&◌, ◌==◌, if◌then◌else◌}
+use Rattle.std.specs.Prelude.{find, is_some, nat_le, nat_lt, not, option_and_then, option_map, ◌&&◌}
 use Rattle.yw_asked.proofs.Fitting.{sort_fits}
 use Rattle.yw_asked.proofs.Given.{undefined, values_there}
 use Rattle.yw_asked.proofs.Unbroken.{known, none_broken, passes, unmapped}
@@ -11,7 +11,6 @@ use Rattle.yw_base.specs.declared.value.Value.{Value}
 use Rattle.yw_spec.specs.declared.spec.Net.{Net}
 use Rattle.yw_spec.specs.declared.task.Many.{Many}
 use Rattle.yw_spec.specs.declared.task.Param.{Param}
-use Rattle.yw_spec.specs.declared.task.Task.{Task}
 use Rattle.yw_state.proofs.Tests.{then_some, there_and}
 use Rattle.yw_state.specs.Allowed.{allows, element_param}
 use Rattle.yw_state.specs.Given.{as_sort}
@@ -21,7 +20,7 @@ use Rattle.yw_state.specs.Passing.{given_values}
 use Rattle.yw_state.specs.State.{State, TaskAt, items_of, task_at}
 use Rattle.yw_state.specs.Texts.{nothing}
 use Rattle.yw_state.specs.Values.{Row}
-use Rattle.yw_state.specs.Words.{active, clear}
+use Rattle.yw_state.specs.Words.{active}
 use Rattle.yw_state.specs.declared.part.Checks.{Checks}
 use Rattle.yw_state.specs.declared.rule.Refusal.{Refusal}
 use Rattle.yw_steps.proofs.EnterLaw.{may_get}
@@ -29,7 +28,7 @@ use Rattle.yw_steps.proofs.NetFound.{stands_so}
 use Rattle.yw_steps.specs.Adds.{AddBreaks, AddIsAllowed, Adds}
 use Rattle.yw_task.proofs.EnterAsk.{net_with, task_stands}
 use Rattle.yw_task.specs.Adds.{AddBreaks as NetAddBreaks, Adds as NetAdds, add_table}
-use Rattle.yw_tree.specs.Forest.{IsForest, sites_of}
+use Rattle.yw_tree.specs.Forest.{IsForest}
 use Rattle.yw_tree.specs.Places.{net_at as net_found, placed_net}
 use Rattle.yw_tree.specs.declared.Forest.{Forest}
 use Rattle.yw_tree.specs.declared.NetState.{NetState, out-NetState}

@@ -1,10 +1,10 @@
 -- The completion of an item, on the whole forest.
-use Rattle.std.proofs.Common.{Bool, List, None, Option, Some, [], ap, arith, cond, false, length, refl, subst, sym, true, ℕ, ◌++◌, ◌∙◌, ◌∷◌, ◌≡◌, ◌≤◌}
-use Rattle.std.proofs.lemmas.Bool.{and_from, eq-eqb, not-false}
+use Rattle.std.proofs.Common.{Bool, List, None, Option, Some, [], ap, cond, false, length, refl, subst, sym, true, ℕ, ◌++◌, ◌∙◌, ◌∷◌, ◌≡◌, ◌≤◌}
+use Rattle.std.proofs.lemmas.Bool.{and_from, eq-eqb}
 use Rattle.std.specs.List.{list_all}
-use Rattle.std.specs.Prelude.{find, is_none, is_some, not, option_and_then, option_map, slice_get, ◌&&◌, ◌==◌, if◌then◌else◌}
+use Rattle.std.specs.Prelude.{find, is_none, is_some, not, option_and_then, option_map, slice_get, if◌then◌else◌}
 use Rattle.yw_asked.proofs.Fitting.{all_defined, made_there}
-use Rattle.yw_asked.proofs.Unbroken.{none_of, passes, unmapped}
+use Rattle.yw_asked.proofs.Unbroken.{passes, unmapped}
 use Rattle.yw_base.specs.Identity.{is_identity}
 use Rattle.yw_expr.specs.Meaning.{val}
 use Rattle.yw_nest.proofs.Known.{no_case}
@@ -20,7 +20,7 @@ use Rattle.yw_state.specs.Allowed.{allows, may_complete}
 use Rattle.yw_state.specs.Broken.{First}
 use Rattle.yw_state.specs.Events.{after}
 use Rattle.yw_state.specs.Given.{made_values, misfit}
-use Rattle.yw_state.specs.Identity.{Ident, is_child, parent}
+use Rattle.yw_state.specs.Identity.{Ident, parent}
 use Rattle.yw_state.specs.Judged.{has_rule}
 use Rattle.yw_state.specs.Map.{entries, get}
 use Rattle.yw_state.specs.Passing.{made_rows_with, row_fits, set_row}
@@ -40,7 +40,7 @@ use Rattle.yw_state.specs.declared.tree.TreeKind.TheVariants.{Post}
 use Rattle.yw_steps.proofs.Gathered.{only_one, speaks_many, speaks_one}
 use Rattle.yw_steps.proofs.ItemFound.{it_stands, its_id}
 use Rattle.yw_steps.proofs.NetFound.{net_stands, part_is}
-use Rattle.yw_steps.specs.Completes.{CompleteBreaks, CompleteIsAllowed, Completes, Finds, IsItemIn, ItemIs, MayComplete, outs_once}
+use Rattle.yw_steps.specs.Completes.{CompleteBreaks, CompleteIsAllowed, Completes, Finds, IsItemIn, ItemIs, outs_once}
 use Rattle.yw_task.proofs.CompleteLaw.{completes, completes_first}
 use Rattle.yw_task.proofs.EnterAsk.{its_items}
 use Rattle.yw_task.proofs.ItemLaw.{its_busy, its_site, known_part}

@@ -1,5 +1,5 @@
 -- The entry of a task, on the whole forest.
-use Rattle.std.proofs.Common.{Bool, List, None, Option, Some, [], ap, arith, cond, false, length, refl, subst, sym, true, ℕ, ◌+◌, ◌∙◌, ◌∷◌, ◌≡◌}
+use Rattle.std.proofs.Common.{Bool, List, None, Option, Some, [], ap, arith, length, refl, subst, sym, true, ℕ, ◌+◌, ◌∙◌, ◌≡◌}
 use Rattle.std.proofs.lemmas.Bool.{and_from, and_parts, eq-eqb, le-leb, ltb-false, not-false}
 use Rattle.std.specs.Prelude.{codes, find, is_none, nat_le, nat_lt, not, option_and_then, option_map, slice_get, unwrap_or, ◌&&◌, ◌==◌, if◌then◌else◌}
 use Rattle.yw_asked.proofs.Given.{rows_there, undefined}
@@ -18,7 +18,7 @@ use Rattle.yw_spec.specs.declared.task.Param.{Param}
 use Rattle.yw_spec.specs.declared.task.Task.{Task}
 use Rattle.yw_state.proofs.Tests.{never, some_same}
 use Rattle.yw_state.specs.After.{enter, where_some}
-use Rattle.yw_state.specs.Allowed.{Allowed, allows, place_numbers}
+use Rattle.yw_state.specs.Allowed.{allows, place_numbers}
 use Rattle.yw_state.specs.Broken.{First}
 use Rattle.yw_state.specs.Events.{after}
 use Rattle.yw_state.specs.Identity.{Ident}
@@ -29,7 +29,7 @@ use Rattle.yw_state.specs.Passing.{elements_for, entry_values, within_bounds}
 use Rattle.yw_state.specs.State.{NetPart, State, TaskAt, task_at}
 use Rattle.yw_state.specs.Texts.{Said, nothing}
 use Rattle.yw_state.specs.Values.{Row}
-use Rattle.yw_state.specs.Words.{active, clear}
+use Rattle.yw_state.specs.Words.{active}
 use Rattle.yw_state.specs.declared.event.Event.TheVariants as events
 use Rattle.yw_state.specs.declared.part.Checks.{Checks}
 use Rattle.yw_state.specs.declared.rule.Refusal.{Refusal}

@@ -1,18 +1,17 @@
 -- The exit of a task, on the whole forest.
-use Rattle.std.proofs.Common.{Bool, List, None, Option, Some, [], ap, cond, false, refl, subst, sym, true, ℕ, ◌∙◌, ◌≡◌}
+use Rattle.std.proofs.Common.{Bool, List, None, Option, Some, [], ap, cond, refl, subst, sym, true, ℕ, ◌∙◌, ◌≡◌}
 use Rattle.std.proofs.lemmas.Bool.{and_parts}
-use Rattle.std.specs.Prelude.{is_some, option_and_then, option_map, slice_get, unwrap_or, ◌&&◌, if◌then◌else◌}
+use Rattle.std.specs.Prelude.{is_some, option_and_then, option_map, slice_get, unwrap_or, ◌&&◌}
 use Rattle.yw_base.specs.Identity.{is_identity}
 use Rattle.yw_nest.proofs.NetFound.{net_there}
-use Rattle.yw_nest.specs.Does.{Does, all_else}
 use Rattle.yw_spec.specs.declared.spec.Net.{Net}
 use Rattle.yw_spec.specs.declared.spec.Place.{Place}
 use Rattle.yw_spec.specs.declared.task.Task.{Task}
 use Rattle.yw_state.proofs.Tests.{by_test, map_some, nowhere, some_same}
-use Rattle.yw_state.specs.After.{change, exit, exit_to, make_due, post_at_output, where_some, with_sites}
+use Rattle.yw_state.specs.After.{exit, make_due, post_at_output, where_some, with_sites}
 use Rattle.yw_state.specs.Allowed.{Allowed, allows, place_numbers}
 use Rattle.yw_state.specs.Events.{after}
-use Rattle.yw_state.specs.Identity.{Ident, case_ident, case_number, is_case_ident}
+use Rattle.yw_state.specs.Identity.{Ident, case_number, is_case_ident}
 use Rattle.yw_state.specs.Judged.{has_rule}
 use Rattle.yw_state.specs.Map.{get, update}
 use Rattle.yw_state.specs.Nets.{is_among}
@@ -21,7 +20,7 @@ use Rattle.yw_state.specs.State.{NetPart, Site, State, TaskAt, net_part, task_at
 use Rattle.yw_state.specs.Texts.{Said, nothing}
 use Rattle.yw_state.specs.declared.event.Event.TheVariants as events
 use Rattle.yw_state.specs.declared.tree.TreeKind.TheVariants.{Post}
-use Rattle.yw_steps.proofs.NetFound.{part_is, stands_so}
+use Rattle.yw_steps.proofs.NetFound.{stands_so}
 use Rattle.yw_steps.proofs.PostLaw.{judged_after, post_kept, post_map}
 use Rattle.yw_steps.proofs.SpecKept.{by_exit, by_post, case_rule, spec_at, tree_after}
 use Rattle.yw_steps.specs.Exits.{Exits, MayExit, NetLeaves, PutsOn, SplitsAt, case_with_post, judged}

@@ -1,5 +1,5 @@
 -- What a call supposes of a forest and needs of a state, from a state that is well.
-use Rattle.std.proofs.Common.{Bool, List, None, Option, Some, [], ap, arith, false, length, refl, subst, sym, true, ℕ, ◌++◌, ◌<◌, ◌∙◌, ◌∷◌, ◌≡◌, ◌≤◌}
+use Rattle.std.proofs.Common.{Bool, List, Option, Some, [], ap, arith, length, refl, subst, sym, true, ℕ, ◌++◌, ◌<◌, ◌∙◌, ◌∷◌, ◌≡◌, ◌≤◌}
 use Rattle.std.proofs.lemmas.Bool.{and_parts, ltb-true}
 use Rattle.std.specs.List.{list_all}
 use Rattle.std.specs.Prelude.{IsSome, is_some, nat_lt, option_and_then, option_map, slice_get}
@@ -12,27 +12,24 @@ use Rattle.yw_spec.specs.declared.task.Task.{Task}
 use Rattle.yw_state.proofs.Standing.{at_item, at_net}
 use Rattle.yw_state.proofs.Tests.{by_option, map_some, then_some, there_and}
 use Rattle.yw_state.specs.Allowed.{Allowed, allows}
-use Rattle.yw_state.specs.Identity.{Ident, child, is_case_ident, parent}
-use Rattle.yw_state.specs.Judged.{has_rule}
+use Rattle.yw_state.specs.Identity.{Ident, child, parent}
 use Rattle.yw_state.specs.Map.{get}
 use Rattle.yw_state.specs.State.{ItemAt, ItemPart, NetAt, NetPart, State, TaskAt, item_at, item_part, items_of, net_at, net_of, net_part, task_in}
 use Rattle.yw_state.specs.Texts.{Reader, Said}
 use Rattle.yw_state.specs.Well.{IsWell, NumbersFit, most_items}
 use Rattle.yw_state.specs.declared.event.Event.TheVariants as events
 use Rattle.yw_state.specs.declared.part.Checks.{Checks}
-use Rattle.yw_state.specs.declared.tree.TreeKind.TheVariants.{Post}
-use Rattle.yw_steps.specs.Completes.{IsItemIn, ItemIs, MayComplete}
+use Rattle.yw_steps.specs.Completes.{IsItemIn, ItemIs}
 use Rattle.yw_steps.specs.Stands.{MayGetItems, NetIs, TaskMayGrow}
 use Rattle.yw_task.specs.Due.{entry_checks}
 use Rattle.yw_task.specs.Items.{NothingFrom}
 use Rattle.yw_tree.proofs.Removed.{within}
 use Rattle.yw_tree.specs.Coming.{HasTask}
-use Rattle.yw_tree.specs.Entries.{item_part_of, net_part as its_part}
 use Rattle.yw_tree.specs.Forest.{item_of}
 use Rattle.yw_tree.specs.Places.{net_at as net_found}
 use Rattle.yw_tree.specs.declared.Forest.{Forest}
 use Rattle.yw_tree.specs.declared.NetState.{NetState}
-use Rattle.yw_tree.specs.declared.Node.{Node, out-Node}
+use Rattle.yw_tree.specs.declared.Node.{out-Node}
 use Rattle.yw_within.proofs.Finding.{net_within}
 use Rattle.yw_within.specs.Within.{HoldsWithin}
 

@@ -1,11 +1,10 @@
 -- What the items of a task make together, once one of them has made its values, as the definitions say it.
-use Rattle.std.proofs.Common.{Bool, List, None, Option, Some, [], ap, arith, cond, false, length, map, refl, subst, suc, sym, true, zero, ℕ, ◌++◌, ◌+◌, ◌∙◌, ◌∷◌, ◌≡◌, ◌≤◌}
+use Rattle.std.proofs.Common.{Bool, List, None, Option, Some, [], ap, arith, cond, false, length, map, refl, subst, suc, sym, true, ℕ, ◌++◌, ◌+◌, ◌∙◌, ◌∷◌, ◌≡◌, ◌≤◌}
 use Rattle.std.proofs.lemmas.Bool.{and_parts}
-use Rattle.std.specs.Cmp.Lexicographic.{pointwise}
 use Rattle.std.specs.FinMap.Entries.{find}
 use Rattle.std.specs.List.{cons_option, enumerate_from, filter_map}
 use Rattle.std.specs.Ordering.{eq_by_cmp}
-use Rattle.std.specs.Prelude.{is_some, option_and_then, slice_get, if◌then◌else◌}
+use Rattle.std.specs.Prelude.{option_and_then, slice_get, if◌then◌else◌}
 use Rattle.yw_base.specs.Values.{may_hold, zero_of}
 use Rattle.yw_base.specs.declared.value.Sort.{Sort}
 use Rattle.yw_base.specs.declared.value.Sort.TheVariants as sorts
@@ -17,7 +16,7 @@ use Rattle.yw_spec.specs.declared.task.Many.{Many}
 use Rattle.yw_spec.specs.declared.task.Param.{Param}
 use Rattle.yw_spec.specs.declared.task.Task.{Task}
 use Rattle.yw_state.proofs.MapLemmas.{by_name, tied}
-use Rattle.yw_state.proofs.Tests.{by_option, by_test, never, nowhere, some_same}
+use Rattle.yw_state.proofs.Tests.{by_test, never, nowhere, some_same}
 use Rattle.yw_state.specs.Identity.{Ident, same}
 use Rattle.yw_state.specs.Map.{lexical}
 use Rattle.yw_state.specs.Passing.{made_rows, made_rows_with, row_fits, set_row}
@@ -27,7 +26,7 @@ use Rattle.yw_state.specs.Words.{is_completed}
 use Rattle.yw_state.specs.declared.part.Stage.TheVariants.{Completed}
 use Rattle.yw_steps.specs.Completes.{listed_once, made_once, outs_once}
 use Rattle.yw_task.proofs.MadeLaw.{made_rows_are, set_row_is}
-use Rattle.yw_task.specs.Making.{int_by, int_in, is_text, listed, made_by, out_value, outs_from, rows_made, text_by, text_in}
+use Rattle.yw_task.specs.Making.{int_in, is_text, listed, made_by, out_value, outs_from, text_in}
 use Rattle.yw_tree.proofs.Rows.{row_parts}
 use Rattle.yw_tree.specs.declared.NetState.{NetState}
 use Rattle.yw_tree.specs.declared.Node.{Node, Node-F, out-Node, out-roll-Node, roll-Node}

@@ -1,9 +1,8 @@
 -- An exit leaves the specification of its net, and so the trees by which its case is judged.
-use Rattle.std.proofs.Common.{Bool, List, None, Option, Some, ap, cond, refl, sym, true, ℕ, ◌∙◌, ◌∷◌, [], ◌≡◌}
+use Rattle.std.proofs.Common.{Bool, List, None, Option, Some, ap, cond, refl, true, ℕ, ◌∙◌, ◌∷◌, [], ◌≡◌}
 use Rattle.std.specs.Prelude.{fold, length, nat_lt, option_and_then, option_map, ◌&&◌}
 use Rattle.yw_sites.proofs.Dropped.{above, get-drop_all}
 use Rattle.yw_spec.specs.declared.spec.Net.{Net}
-use Rattle.yw_spec.specs.declared.task.Task.{Task}
 use Rattle.yw_state.proofs.Alike.{asked_of}
 use Rattle.yw_state.proofs.ChangeWell.{read_kept}
 use Rattle.yw_state.proofs.Tests.{by_test}

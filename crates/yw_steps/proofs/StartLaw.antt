@@ -1,5 +1,5 @@
 -- The start of an item, on the whole forest.
-use Rattle.std.proofs.Common.{Bool, List, None, Option, Some, [], ap, subst, sym, true, ℕ, ◌∙◌, ◌≡◌}
+use Rattle.std.proofs.Common.{List, None, Option, Some, [], ap, subst, sym, true, ℕ, ◌≡◌}
 use Rattle.std.proofs.lemmas.Bool.{and_from, not-false}
 use Rattle.std.specs.Prelude.{not, option_map, ◌&&◌}
 use Rattle.yw_asked.proofs.Unbroken.{known, none_broken, passes}
@@ -10,9 +10,9 @@ use Rattle.yw_state.specs.Broken.{First, placeless}
 use Rattle.yw_state.specs.Events.{after}
 use Rattle.yw_state.specs.Identity.{Ident}
 use Rattle.yw_state.specs.Nets.{is_atomic}
-use Rattle.yw_state.specs.State.{ItemAt, State, item_at}
+use Rattle.yw_state.specs.State.{item_at}
 use Rattle.yw_state.specs.Texts.{nothing}
-use Rattle.yw_state.specs.Words.{busy, is_ready}
+use Rattle.yw_state.specs.Words.{is_ready}
 use Rattle.yw_state.specs.declared.event.Event.TheVariants as events
 use Rattle.yw_state.specs.declared.rule.Rule.{Rule}
 use Rattle.yw_steps.proofs.ItemFound.{bare_state, it_stands, its_id}
@@ -21,7 +21,7 @@ use Rattle.yw_task.specs.Asked.{AsksStart, start_shown}
 use Rattle.yw_task.specs.Standing.{ItemDoes}
 use Rattle.yw_tree.specs.Forest.{IsForest, item_of, placed, sites_of}
 use Rattle.yw_tree.specs.declared.Forest.{Forest}
-use Rattle.yw_tree.specs.declared.Node.{Node, out-Node}
+use Rattle.yw_tree.specs.declared.Node.{Node}
 
 module _ (f : Forest) (boxed : IsForest f) (j : Ident) (identity : is_identity j ≡ true) (old : Node) (found : item_of f j ≡ Some old) where
   pub starts : (who : List ℕ) (new : Node) → ItemDoes (λ k. events.Start k who) old new → Starts j who f (placed f j new)

@@ -1,5 +1,4 @@
-use Rattle.std.proofs.Common.{None, Some, ap, sym, ◌∙◌, ◌≡◌}
-use Rattle.std.specs.Option.{option_copied_mut}
+use Rattle.std.proofs.Common.{Some, ap, sym, ◌∙◌, ◌≡◌}
 use Rattle.std.specs.Result.{result_err}
 use Rattle.yw_nest.proofs.Results.{if_ok}
 use Rattle.yw_state.specs.declared.event.Event.TheVariants as events

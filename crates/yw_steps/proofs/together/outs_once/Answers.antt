@@ -1,4 +1,4 @@
-use Rattle.std.proofs.Common.{ap, append-nil, arith, length, sym, ◌++◌, ◌∙◌, ◌≡◌}
+use Rattle.std.proofs.Common.{ap, append-nil, arith, length, sym, ◌++◌, ◌∙◌}
 use Rattle.std.proofs.lemmas.List.{drop_all}
 use Rattle.yw_steps.proofs.together.outs_once.Goals as goal
 use Rattle.yw_steps.specs.Completes.{outs_once}
