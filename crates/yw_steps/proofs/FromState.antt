@@ -1,0 +1,131 @@
+-- What a call supposes of a forest and needs of a state, from a state that is well.
+use Rattle.std.proofs.Common.{Bool, List, Option, Some, [], ap, arith, length, refl, subst, sym, true, ℕ, ◌++◌, ◌<◌, ◌∙◌, ◌∷◌, ◌≡◌, ◌≤◌}
+use Rattle.std.proofs.lemmas.Bool.{and_parts, ltb-true}
+use Rattle.std.specs.List.{list_all}
+use Rattle.std.specs.Prelude.{IsSome, is_some, nat_lt, option_and_then, option_map, slice_get}
+use Rattle.yw_base.specs.Identity.{is_identity, most_numbers}
+use Rattle.yw_nest.proofs.FromState.{item_stands}
+use Rattle.yw_nest.proofs.NetFound.{item_there, net_there}
+use Rattle.yw_nest.specs.Stands.{StandsWell}
+use Rattle.yw_spec.specs.declared.spec.Net.{Net}
+use Rattle.yw_spec.specs.declared.task.Task.{Task}
+use Rattle.yw_state.proofs.Standing.{at_item, at_net}
+use Rattle.yw_state.proofs.Tests.{by_option, map_some, then_some, there_and}
+use Rattle.yw_state.specs.Allowed.{Allowed, allows}
+use Rattle.yw_state.specs.Identity.{Ident, child, parent}
+use Rattle.yw_state.specs.Map.{get}
+use Rattle.yw_state.specs.State.{ItemAt, ItemPart, NetAt, NetPart, State, TaskAt, item_at, item_part, items_of, net_at, net_of, net_part, task_in}
+use Rattle.yw_state.specs.Texts.{Reader, Said}
+use Rattle.yw_state.specs.Well.{IsWell, NumbersFit, most_items}
+use Rattle.yw_state.specs.declared.event.Event.TheVariants as events
+use Rattle.yw_state.specs.declared.part.Checks.{Checks}
+use Rattle.yw_steps.specs.Completes.{IsItemIn, ItemIs}
+use Rattle.yw_steps.specs.Stands.{MayGetItems, NetIs, TaskMayGrow}
+use Rattle.yw_task.specs.Due.{entry_checks}
+use Rattle.yw_task.specs.Items.{NothingFrom}
+use Rattle.yw_tree.proofs.Removed.{within}
+use Rattle.yw_tree.specs.Coming.{HasTask}
+use Rattle.yw_tree.specs.Forest.{item_of}
+use Rattle.yw_tree.specs.Places.{net_at as net_found}
+use Rattle.yw_tree.specs.declared.Forest.{Forest}
+use Rattle.yw_tree.specs.declared.NetState.{NetState}
+use Rattle.yw_tree.specs.declared.Node.{out-Node}
+use Rattle.yw_within.proofs.Finding.{net_within}
+use Rattle.yw_within.specs.Within.{HoldsWithin}
+
+abbrev item_with : ItemPart → TaskAt → ItemAt
+item_with p t = record { part = p; of_task = t }
+
+abbrev task_with : NetAt → ℕ → Task → TaskAt
+task_with w k t = record { number = k; task = t; within = w }
+
+abbrev net_with : NetPart → Net → NetAt
+net_with p w = record { part = p; net = w }
+
+abbrev with_task : ItemPart → NetAt → Option ItemAt
+with_task p w = option_map (item_with p) (task_in w p.task)
+
+-- ---- a net
+
+abbrev pub net_is : (s : State) → HoldsWithin s → (i : Ident) (n : NetAt) → net_at s i ≡ Some n → NetIs s i n.net
+net_is s holds i n at = let w = net_within s holds i n at in record { there = n; stands = at; same = refl; spec = w.0; within = w.1 }
+
+last_passes : (p : ℕ → Bool) (xs : List ℕ) (n : ℕ) → list_all p (xs ++ n ∷ []) ≡ true → p n ≡ true
+last_passes p [] n e = (and_parts (p n) true e).0
+last_passes p (x ∷ xs) n e = last_passes p xs n (and_parts (p x) (list_all p (xs ++ n ∷ [])) e).1
+
+pub nothing_from : (s : State) → NumbersFit s → (i : Ident) → NothingFrom s.sites i s.next
+nothing_from s numbers i = λ n l.
+    by_option (get s.sites (child i n))
+    (λ none. none)
+    (λ x some.
+    let below : n < s.next = ltb-true n s.next (last_passes (λ k. nat_lt k s.next) i n (numbers.drawn (child i n) x some)) in
+    absurd (omega arith))
+
+pub may_get : (s : State) → NumbersFit s → HoldsWithin s → (i : Ident) (n : NetAt) (task : Task) (due : Checks) → net_at s i ≡ Some n → due ≡ entry_checks s n.part.spec n.net task → MayGetItems n.net i s.next due task s
+may_get s numbers holds i n task due at checks = record { net_is = net_is s holds i n at; next = refl; fresh = nothing_from s numbers i; due_are = checks }
+
+module _ (names : ℕ → List ℕ) (f : Forest) (s : State) (h : StandsWell names f s) where
+  -- the net that a state has is found
+  found_net : (i : Ident) (n : NetAt) → net_at s i ≡ Some n → (u : NetState) × (net_found f i ≡ Some u)
+  found_net i n at =
+      let p = then_some (λ (p : NetPart). option_map (net_with p) (net_of s p)) (net_part s i) n at in
+      let stands = at_net s i n at in
+      let u = net_there names f h.boxed i (h.numbers.identities i stands.0 stands.1) s h.sites p.0 p.1 in
+      (u.0, u.1)
+
+  pub net_stands : (i : Ident) (n : NetAt) → net_at s i ≡ Some n → IsSome (net_found f i)
+  net_stands i n at = ap is_some (found_net i n at).1
+
+  pub may_grow : (i : Ident) (n : NetAt) (t : ℕ) → net_at s i ≡ Some n → t < length n.net.tasks → ((u : NetState) → net_found f i ≡ Some u → HasTask t u) → length i < most_numbers → TaskMayGrow f n.net i t
+  may_grow i n t at few lists room = let u = found_net i n at in record { state = u.0; found = u.1; task = few; list = lists u.0 u.1; room = room }
+
+  -- ---- an item
+
+  pub item_found : (j : Ident) (x : ItemAt) → item_at s j ≡ Some x → IsSome (item_of f j)
+  item_found j x known = item_stands names f s h j x known
+
+  module _ (j : Ident) (x : ItemAt) (known : item_at s j ≡ Some x) where
+    identity : is_identity j ≡ true
+    identity = let stands = at_item s j x known in h.numbers.identities j stands.0 stands.1
+
+    part : (y : ItemPart) × (item_part s j ≡ Some y) × (option_and_then (with_task y) (net_at s (parent j)) ≡ Some x)
+    part = then_some (λ (y : ItemPart). option_and_then (with_task y) (net_at s (parent j))) (item_part s j) x known
+
+    outer : (n : NetAt) × (net_at s (parent j) ≡ Some n) × (with_task part.0 n ≡ Some x)
+    outer = then_some (with_task part.0) (net_at s (parent j)) x part.2
+
+    tasked : (t : TaskAt) × (task_in outer.0 part.0.task ≡ Some t) × (item_with part.0 t ≡ x)
+    tasked = map_some (item_with part.0) (task_in outer.0 part.0.task) x outer.2
+
+    the_task : (t : Task) × (slice_get outer.0.net.tasks part.0.task ≡ Some t) × (task_with outer.0 part.0.task t ≡ tasked.0)
+    the_task = map_some (task_with outer.0 part.0.task) (slice_get outer.0.net.tasks part.0.task) tasked.0 tasked.1
+
+    same_net : outer.0.net ≡ x.of_task.within.net
+    same_net = ap (λ (t : TaskAt). t.within.net) the_task.2 ∙ ap (λ (y : ItemAt). y.of_task.within.net) tasked.2
+
+    pub item_in : IsItemIn f x.of_task.within.net j
+    item_in =
+        let n = item_there names f h.boxed j identity s h.sites part.0 part.1 in
+        let u = found_net (parent j) outer.0 outer.1 in
+        let number : part.0.task ≡ (out-Node n.0).task = sym (ap (λ (y : ItemPart). y.task) n.2) in
+        let at : slice_get x.of_task.within.net.tasks (out-Node n.0).task ≡ Some the_task.0 = sym (λ i. slice_get (same_net i).tasks (number i)) ∙ the_task.1 in
+        record { item = n.0; outer = u.0; found = n.1; stands_in = u.1; task = within x.of_task.within.net.tasks (out-Node n.0).task the_task.0 at }
+
+    pub item_is : (reader : Reader) → IsWell reader s → ItemIs s j x.of_task.within.net
+    item_is reader well =
+        let few = well.content.count (parent j) outer.0 part.0.task the_task.0 outer.1 the_task.1 in
+        let k : part.0.task ≡ x.part.task = ap (λ (y : ItemAt). y.part.task) tasked.2 in
+        let t : the_task.0 ≡ x.of_task.task = ap (λ (z : TaskAt). z.task) the_task.2 ∙ ap (λ (y : ItemAt). y.of_task.task) tasked.2 in
+        record {
+          there = x;
+          known = known;
+          net_is = refl;
+          few = subst (λ (z : Task). length (items_of s (parent j) x.part.task) ≤ most_items z.many) t (subst (λ n. length (items_of s (parent j) n) ≤ most_items the_task.0.many) k few);
+        }
+
+-- ---- where the event is allowed
+
+pub start_found : (names : ℕ → List ℕ) (f : Forest) (s : State) → StandsWell names f s → (j : Ident) (who : List ℕ) (said : Said) → Allowed s (events.Start j who) said → IsSome (item_of f j)
+unfolding allows
+start_found names f s h j who said allowed = let x = there_and (item_at s j) _ (and_parts _ _ allowed.0).1 in item_found names f s h j x.0 x.1

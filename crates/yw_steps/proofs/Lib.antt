@@ -1,0 +1,12 @@
+mod ItemFound
+mod StartLaw
+mod Results
+mod NetFound
+mod EnterLaw
+mod AddLaw
+mod PostLaw
+mod SpecKept
+mod ExitLaw
+mod Gathered
+mod CompleteLaw
+mod FromState

@@ -1,0 +1,82 @@
+// An item is completed.
+ghost use Rattle.std.specs.Prelude.{◌≡◌, IfOk, IsSome, OnErr, OnOk, true};
+ghost use Rattle.yw_base.specs.Identity.{is_identity};
+ghost use Rattle.yw_spec.specs.declared.spec.Net.{Net};
+ghost use Rattle.yw_steps.specs.Completes.{CompleteBreaks, CompleteIsAllowed, Completes, Finds, IsItemIn};
+ghost use Rattle.yw_task.specs.Completes.{AnswersFirst};
+ghost use Rattle.yw_tree.specs.Forest.{IsForest, item_of};
+
+use crate::found::{item_there, net_there, parent};
+use crate::together::made_so_far;
+use std::alloc::{AllocError, Global};
+use yw_base::{Ident, Name, Row};
+use yw_spec::Net;
+use yw_state::{Checks, Refusal};
+use yw_task::{StepFault, completion_fault, finish, items_in, task_at};
+use yw_tree::Forest;
+
+/// The first rule that a completion breaks.
+fn first_broken(
+    alloc: Global,
+    forest: &Forest,
+    net: &Net,
+    j: &Ident,
+    who: &Name,
+    out: &Row,
+) -> Result<Option<Refusal>, AllocError>
+    requires boxed { IsForest forest.now }
+    requires may { IsItemIn forest.now net.now j.now }
+    ensures finds { IfOk result (Finds forest.now net.now j.now who.now out.now) }
+    ensures identity { is_identity j.now ≡ true }
+{
+    let at = parent(alloc, j)?;
+    let outer = net_there(forest, &at);
+    let item = item_there(forest, j);
+    let task = task_at(net, item.task);
+    let so_far = made_so_far(alloc, task, items_in(outer, item.task), j, out)?;
+    completion_fault(alloc, net, task, &outer.vals, &so_far, item, who, out)
+}
+
+/// The item at an identity is completed, and has made these values. If `due` says so, the check after it is due.
+fn finish_at(forest: &mut Forest, j: &Ident, out: Row, due: Checks)
+    requires boxed { IsForest forest.old }
+    requires stands { IsSome (item_of forest.old j.now) }
+    ensures { (net : Net) → Completes net j.now out due forest.old forest.new }
+{
+    match forest.item_mut(j) {
+        Some(node) => finish(node, out, due.post),
+        None => unreachable!(),
+    }
+}
+
+/// A person completes the item at an identity, which it started and which has made these values, one for each of the task's `outs` and of its
+/// sort; it stands in this net. From now on it is completed, and if `due` says so its tree after it is to be asked.
+///
+/// `Refused` has the first rule that this breaks, of those that are looked at here: `Stage` where it isn't executing, `NotYours` where another
+/// person started it, `Busy` where an exlet is at work on it, and `Mapping` where an assignment would be undefined over what the task's items
+/// make together and the net's values, at the variable of the first such one. Then, and where no memory is left, all is as it was. That
+/// persons complete items is the paper's.
+pub fn complete(
+    alloc: Global,
+    forest: &mut Forest,
+    net: &Net,
+    j: &Ident,
+    who: &Name,
+    out: Row,
+    due: Checks,
+) -> Result<(), StepFault>
+    requires boxed { IsForest forest.old }
+    requires may { IsItemIn forest.old net.now j.now }
+    ensures ok { OnOk result (Completes net.now j.now out due forest.old forest.new) }
+    ensures allowed { OnOk result (CompleteIsAllowed forest.old net.now j.now out) }
+    ensures first { AnswersFirst (CompleteBreaks forest.old net.now j.now who.now out) result }
+    ensures err { OnErr result (forest.new ≡ forest.old) }
+{
+    match first_broken(alloc, forest, net, j, who, &out)? {
+        Some(refusal) => Err(StepFault::Refused(refusal)),
+        None => {
+            finish_at(forest, j, out, due);
+            Ok(())
+        }
+    }
+}

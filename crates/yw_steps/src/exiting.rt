@@ -1,0 +1,124 @@
+// A task exits.
+ghost use Rattle.std.specs.Prelude.{◌≡◌, ◌<◌, ◌≤◌, ◌&&◌, IfOk, IsSome, OnErr, OnOk, length, true};
+ghost use Rattle.yw_base.specs.Identity.{is_identity};
+ghost use Rattle.yw_state.specs.After.{due_where};
+ghost use Rattle.yw_state.specs.Identity.{case_number, is_case_ident};
+ghost use Rattle.yw_state.specs.Nets.{is_among};
+ghost use Rattle.yw_state.specs.declared.tree.TreeKind.TheVariants.{Post};
+ghost use Rattle.yw_steps.specs.Exits.{Exits, NetLeaves, PutsOn, SplitsAt, case_with_post, judged};
+ghost use Rattle.yw_tree.specs.Forest.{IsForest};
+ghost use Rattle.yw_tree.specs.Places.{net_at};
+
+use std::alloc::{AllocError, Global};
+use yw_base::Ident;
+use yw_spec::{IndexList, Net};
+use yw_state::Checks;
+use yw_tree::Forest;
+
+/// With the check after it due too, if this says so.
+pub fn with_post(due: Checks, post: bool) -> Checks
+    ensures { result ≡ due_where post Post due }
+{
+    if post {
+        Checks { post: true, ..due }
+    } else {
+        due
+    }
+}
+
+/// It is the identity of a case.
+fn is_case(id: &Ident) -> bool
+    ensures { result ≡ is_case_ident id.now }
+{
+    id.numbers().len() == 1
+}
+
+/// The number of the case.
+fn case_number(id: &[u64]) -> u64
+    requires { 1 ≤ length id.now }
+    ensures { result ≡ case_number id.now }
+{
+    id[0]
+}
+
+/// It is one of these.
+fn is_among(places: &[usize], c: usize) -> bool
+    ensures { result ≡ is_among places.now c }
+{
+    places.iter().any(|place| c == *place)
+}
+
+/// A token came to the output of the case's own net.
+fn ends_case(net: &Net, at: &Ident, places: &[usize]) -> bool
+    ensures { result ≡ (is_case_ident at.now && is_among places.now net.now.output) }
+{
+    is_case(at) && is_among(places, net.output)
+}
+
+/// If this says so, the case is to be judged after its end.
+fn make_post_due(forest: &mut Forest, n: u64, due_post: bool)
+    ensures { forest.new ≡ case_with_post forest.old n due_post }
+{
+    if let Some(case) = forest.case_mut(n) {
+        case.due = with_post(case.due, due_post);
+    }
+}
+
+/// Where a token came to the output of the case's own net, the same.
+fn judge_end(forest: &mut Forest, net: &Net, at: &Ident, places: &[usize], due_post: bool)
+    ensures { forest.new ≡ judged at.now net.now places.now due_post forest.old }
+{
+    if ends_case(net, at, places) {
+        make_post_due(forest, case_number(at.numbers()), due_post);
+    }
+}
+
+/// The task with this number exits, but for the check of a case after its end.
+fn leave(
+    alloc: Global,
+    forest: &mut Forest,
+    net: &Net,
+    at: &Ident,
+    t: usize,
+) -> Result<IndexList, AllocError>
+    requires boxed { IsForest forest.old }
+    requires stands { IsSome (net_at forest.old at.now) }
+    requires task { t < length net.now.tasks }
+    ensures ok { IfOk result (NetLeaves net.now at.now t forest.old forest.new) }
+    ensures err { OnErr result (forest.new ≡ forest.old) }
+    ensures identity { is_identity at.now ≡ true }
+{
+    match forest.net_mut(at) {
+        Some(state) => yw_task::exit(alloc, net, state, t),
+        None => unreachable!(),
+    }
+}
+
+/// The task with this number exits, in the net at an identity, which is this one, where that is allowed. Its items go, with all under them. Its
+/// assignments are made, each over what the items made and the net's values as they were before; one that is undefined leaves its variable. The
+/// split is decided over the new values. The removal set is emptied, and then a token comes to each place that the split chose. The answer is
+/// these places, in flow order. Where one of them is the output of a case's own net, the case is to be judged after its end, if `due_post`
+/// says that its tree has a rule.
+///
+/// An `Err` says that no memory was left, and then all is as it was. The exit is the paper's; what is kept of values, the order, and the check
+/// are our own.
+pub fn exit(
+    alloc: Global,
+    forest: &mut Forest,
+    net: &Net,
+    at: &Ident,
+    t: usize,
+    due_post: bool,
+) -> Result<IndexList, AllocError>
+    requires boxed { IsForest forest.old }
+    requires stands { IsSome (net_at forest.old at.now) }
+    requires task { t < length net.now.tasks }
+    ensures ok { OnOk result (Exits net.now at.now t due_post forest.old forest.new) }
+    ensures puts { IfOk result (PutsOn forest.old net.now at.now t due_post) }
+    ensures split { IfOk result (SplitsAt forest.old net.now at.now t) }
+    ensures err { OnErr result (forest.new ≡ forest.old) }
+{
+    let places = leave(alloc, forest, net, at, t)?;
+    judge_end(forest, net, at, places.as_slice(), due_post);
+    Ok(places)
+}
