@@ -1,0 +1,25 @@
+//! What is so of each state that is held. Each law is the contract of a function that does nothing.
+ghost use Rattle.std.specs.Prelude.{◌≡◌, List, ℕ, option_and_then};
+ghost use Rattle.yw_known.specs.Held.{IsHeld};
+ghost use Rattle.yw_known.specs.Here.{IsNetHere, as_net_at};
+ghost use Rattle.yw_known.specs.Names.{names_of};
+ghost use Rattle.yw_known.specs.declared.here.NetHere.{NetHere};
+ghost use Rattle.yw_library.specs.Holdings.{Holdings, with_spec};
+ghost use Rattle.yw_state.specs.Identity.{Ident};
+ghost use Rattle.yw_state.specs.Nets.{task_number};
+ghost use Rattle.yw_state.specs.State.{State, task_at, task_in};
+ghost use Rattle.yw_state.specs.declared.loaded.Loaded.{Loaded};
+ghost use Rattle.yw_tree.specs.Forest.{sites_of};
+ghost use Rattle.yw_tree.specs.declared.Forest.{Forest};
+
+/// With one specification more the map of the forest is the same.
+pub fn load_keeps_sites()
+    ensures { (known : Holdings) (f : Forest) (s : State) (loaded : Loaded) → IsHeld known f s
+        → sites_of (names_of known) f ≡ sites_of (names_of (with_spec known loaded)) f }
+{}
+
+/// The task of a name in a net that stands is the one with the number that `task_called` gives.
+pub fn task_is()
+    ensures { (known : Holdings) (f : Forest) (s : State) (i : Ident) (h : NetHere) (name : List ℕ) → IsNetHere known f s i h
+        → task_at s i name ≡ option_and_then (task_in (as_net_at known h)) (task_number h.net.now name) }
+{}
