@@ -1,7 +1,7 @@
 // Persons, specifications, and the upstream of each net.
 ghost use Rattle.std.specs.Prelude.{◌≡◌, Option, None, Some, Ok, true, All, IfOk, OnOk, OnErr, MatchOption};
 ghost use Rattle.yw_known.specs.Known.{IsKnownNet, net_numbered};
-ghost use Rattle.yw_known.specs.Upstreams.{IsAllOrNothing};
+ghost use Rattle.yw_known.specs.Upstreams.{AreNamed, IsAllOrNothing};
 ghost use Rattle.yw_library.specs.Accepts.{Answers, IfRefused};
 ghost use Rattle.yw_library.specs.Always.{AlwaysBreaks, AlwaysLeads, IsTried};
 ghost use Rattle.yw_library.specs.Holdings as kept;
@@ -133,7 +133,8 @@ impl Known {
 
     /// The net with this number of the specification with this number, or `None` where there is none. It takes no memory.
     pub fn net(&self, spec: usize, net: usize) -> Option<KnownNet<'_>>
-        ensures { MatchOption result (net_numbered self.now spec net ≡ None) (IsKnownNet self.now spec net) }
+        ensures found { MatchOption result (net_numbered self.now spec net ≡ None) (IsKnownNet self.now spec net) }
+        ensures named { AreNamed self.now }
     {
         let loaded = self.library.specs().get(spec)?;
         let row = self.rows.get(spec)?;
