@@ -9,7 +9,7 @@ use Rattle.yw_known.proofs.Lists.{at_front}
 use Rattle.yw_known.proofs.Renamed.{EntryHasName, HasName, same_sites}
 use Rattle.yw_known.specs.Held.{IsHeld}
 use Rattle.yw_known.specs.Names.{name_in, names_of}
-use Rattle.yw_library.specs.Holdings.{Holdings, with_spec}
+use Rattle.yw_library.specs.Holdings.{AddsSpec, Holdings, with_library, with_spec}
 use Rattle.yw_model.specs.Texts.{reader}
 use Rattle.yw_sites.specs.Entries.{Entries, Entry, Unique}
 use Rattle.yw_sites.specs.Idents.{Each}
@@ -40,8 +40,8 @@ pub record OfSpec (s : State) (p : NetPart) : Type 0 where
   pub has_name : p.spec ≡ [] → ⊥
 
 module _ (s : State) (well : IsWell reader s) where
-  pub of_spec : (j : Ident) (p : NetPart) → net_part s j ≡ Some p → OfSpec s p
-  of_spec j p e =
+  pub spec_behind : (j : Ident) (p : NetPart) → net_part s j ≡ Some p → OfSpec s p
+  spec_behind j p e =
       let n = there (net_at s j) (well.content.of_spec j p e) in
       let known : option_map (λ (w : Net). let x : NetAt = record { part = p; net = w } in x) (net_of s p) ≡ Some n.0 =
           sym (ap (option_and_then (λ (q : NetPart). option_map (λ (w : Net). let x : NetAt = record { part = q; net = w } in x) (net_of s q))) e) ∙ n.1 in
@@ -88,7 +88,7 @@ module _ (known : Holdings) (f : Forest) (s : State) (h : IsHeld known f s) wher
 
       by : (o : Option NetPart) → e.1.net ≡ o → HasName o
       by None is = tt
-      by (Some p) is = (of_spec s h.well e.0 p (ap (option_and_then (λ (x : Site). x.net)) stands ∙ is)).has_name
+      by (Some p) is = (spec_behind s h.well e.0 p (ap (option_and_then (λ (x : Site). x.net)) stands ∙ is)).has_name
 
   pub all_have_names : Each EntryHasName (entries (names_of known) f)
   all_have_names = each_found EntryHasName (entries (names_of known) f) (unique_forest (names_of known) f h.boxed) entry_has_name
@@ -103,3 +103,15 @@ names_agree known loaded k named =
 pub load_keeps_sites : (known : Holdings) (f : Forest) (s : State) (loaded : Loaded) → IsHeld known f s → sites_of (names_of known) f ≡ sites_of (names_of (with_spec known loaded)) f
 load_keeps_sites known f s loaded h =
     same_sites (names_of known) (names_of (with_spec known loaded)) (names_agree known loaded) f (all_have_names known f s h)
+
+-- and what is held, stays so
+pub load_keeps_held : (old new : Holdings) (f : Forest) (s : State) (name text : List ℕ) → IsHeld old f s → AddsSpec old new name text
+    → IsWell reader (with_library s new) → IsHeld new f (with_library s new)
+unfolding with_library
+load_keeps_held old new f s name text h adds well =
+    record {
+      library = refl;
+      boxed = h.boxed;
+      sites = h.sites ∙ load_keeps_sites old f s adds.loaded h ∙ ap (λ z. sites_of (names_of z) f) (sym adds.behind);
+      well = well;
+    }

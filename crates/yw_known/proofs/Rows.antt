@@ -5,17 +5,29 @@ use Rattle.std.specs.Prelude.{slice_get}
 use Rattle.yw_known.proofs.Lists.{at_push, not_past}
 use Rattle.yw_known.specs.Upstreams.{AreKnown, AreUpstreams, by_name}
 use Rattle.yw_library.specs.Holdings.{spec_under}
+use Rattle.yw_path.specs.Direct.{HasItsPlaces}
 use Rattle.yw_path.specs.Upstream.{IsUpstreamOf}
 use Rattle.yw_path.specs.declared.upstream.Upstream.{Upstream}
 use Rattle.yw_spec.specs.declared.spec.Net.{Net}
+use Rattle.yw_spec.specs.declared.spec.Spec.{Spec}
 use Rattle.yw_state.proofs.MapEntries.{get-of_entries, of_entries-push}
 use Rattle.yw_state.proofs.MapLemmas.{by_name as order, get-insert_other, get-insert_same}
 use Rattle.yw_state.proofs.Tests.{nowhere, some_same}
 use Rattle.yw_state.specs.Map.{get, insert, lexical, of_entries}
 use Rattle.yw_state.specs.declared.loaded.Loaded.{Loaded}
+use Rattle.yw_within.proofs.Finding.{after_within, before_within}
 use Rattle.yw_within.specs.Within.{IsWithin}
 
 -- ---- the nets of one specification
+
+-- flows go to and from places of each net
+pub places_fit : (spec : Spec) (k : ℕ) (net : Net) → IsWithin spec → slice_get spec.nets k ≡ Some net → HasItsPlaces net
+places_fit spec k net within at =
+    let here = within.nets k net at in
+    record {
+      before = λ t c among. before_within spec net here t c among;
+      after = λ t c among. after_within spec net here t c among;
+    }
 
 -- of each net so far
 abbrev pub EachUpstream : List Net → List Upstream → Type 0

@@ -1,15 +1,16 @@
 -- The net that a state has at an identity, by what is known and the forest.
 use Rattle.std.proofs.Common.{List, None, Option, Some, ap, sym, true, ℕ, ◌∙◌, ◌≡◌, ◌≤◌, length}
 use Rattle.std.specs.Prelude.{option_and_then, option_map, slice_get}
+use Rattle.yw_accepted.proofs.Loaded.{accepted_are_within}
 use Rattle.yw_base.specs.Identity.{is_identity}
-use Rattle.yw_known.proofs.Names.{of_spec}
+use Rattle.yw_known.proofs.Names.{spec_behind}
 use Rattle.yw_known.specs.Held.{IsHeld}
 use Rattle.yw_known.specs.Here.{IsNetHere}
 use Rattle.yw_known.specs.Known.{IsKnownNet, net_numbered}
 use Rattle.yw_known.specs.Names.{name_in, names_of}
 use Rattle.yw_known.specs.Upstreams.{AreNamed}
 use Rattle.yw_known.specs.declared.here.NetHere.{NetHere}
-use Rattle.yw_library.specs.Holdings.{Holdings, state_of, with_library}
+use Rattle.yw_library.specs.Holdings.{Holdings, IsKept, state_of, with_library}
 use Rattle.yw_nest.proofs.Known.{net_known, part_known}
 use Rattle.yw_nest.proofs.NetFound.{net_there}
 use Rattle.yw_spec.specs.declared.spec.Spec.{Spec}
@@ -23,11 +24,31 @@ use Rattle.yw_tree.specs.Entries.{net_part as its_part}
 use Rattle.yw_tree.specs.Places.{net_at as net_found}
 use Rattle.yw_tree.specs.declared.Forest.{Forest}
 use Rattle.yw_tree.specs.declared.NetState.{NetState, out-NetState}
+use Rattle.yw_within.specs.Within.{IsWithin}
 
 -- the state's specifications are those that are known
 pub specs_are : (known : Holdings) (f : Forest) (s : State) → IsHeld known f s → s.specs ≡ (state_of known).specs
 unfolding with_library
 specs_are known f s h = ap (λ (z : State). z.specs) h.library
+
+-- ---- a specification that is found by its name
+
+module _ (known : Holdings) (f : Forest) (s : State) (h : IsHeld known f s) (name : List ℕ) (spec : Spec) (number : ℕ) (kept : IsKept known name spec number) where
+  loaded_there : get s.specs name ≡ Some (record { text = kept.text; spec = spec })
+  loaded_there = ap (λ z. get z name) (specs_are known f s h) ∙ kept.kept
+
+  -- it is loaded under the name
+  pub kept_called : spec_called s name ≡ Some spec
+  kept_called = ap (option_map (λ (l : Loaded). l.spec)) loaded_there
+
+  -- which is that of its number
+  pub kept_named : names_of known number ≡ name
+  kept_named = ap name_in kept.stands ∙ h.well.content.spec_name name (record { text = kept.text; spec = spec }) loaded_there
+
+pub kept_within : (known : Holdings) (name : List ℕ) (spec : Spec) (number : ℕ) → IsKept known name spec number → IsWithin spec
+kept_within known name spec number kept = accepted_are_within kept.text spec kept.accepted
+
+-- ---- a net
 
 module _ (known : Holdings) (f : Forest) (s : State) (h : IsHeld known f s) (i : Ident) (identity : is_identity i ≡ true) where
   long : 1 ≤ length i
@@ -53,7 +74,7 @@ module _ (known : Holdings) (f : Forest) (s : State) (h : IsHeld known f s) (i :
     -- the specification of its number has the net of its number
     pub numbered : AreNamed known → net_numbered known k n ≡ None → ⊥
     numbered named none =
-        let o = of_spec s h.well i (its_part (names_of known) u) part in
+        let o = spec_behind s h.well i (its_part (names_of known) u) part in
         by_option (slice_get known.specs k)
         (λ (e : slice_get known.specs k ≡ None). o.has_name (ap name_in e))
         (λ (l : Loaded) (e : slice_get known.specs k ≡ Some l).
