@@ -8,9 +8,11 @@ use Rattle.yw_known.specs.Names.{names_of}
 use Rattle.yw_known.specs.declared.here.ItemHere.{ItemHere}
 use Rattle.yw_known.specs.declared.here.NetHere.{NetHere}
 use Rattle.yw_library.specs.Holdings.{Holdings}
-use Rattle.yw_nest.proofs.Known.{item_known}
+use Rattle.yw_nest.proofs.Known.{item_known, no_case}
+use Rattle.yw_nest.proofs.Outer.{parent_identity}
 use Rattle.yw_spec.specs.declared.task.Task.{Task}
-use Rattle.yw_state.proofs.Tests.{never}
+use Rattle.yw_state.proofs.Standing.{at_item_part}
+use Rattle.yw_state.proofs.Tests.{by_option, by_test, never, there}
 use Rattle.yw_state.specs.Identity.{Ident, case_number, parent}
 use Rattle.yw_state.specs.Map.{get}
 use Rattle.yw_state.specs.State.{ItemAt, ItemPart, NetAt, NetPart, Site, State, TaskAt, is_case, is_item, item_at, item_part, net_at, net_of, net_part, task_in}
@@ -35,9 +37,15 @@ module _ (known : Holdings) (f : Forest) (s : State) (h : IsHeld known f s) (j :
       ap (λ m. option_and_then (λ (x : Site). x.item) (get m j)) h.sites
       ∙ item_is (names_of known) j f h.boxed (identity_in_case j identity) (identity_short j identity)
 
-  -- where none is found, none stands
-  pub none_here : item_of f j ≡ None → is_item s j ≡ false
+  none_here : item_of f j ≡ None → is_item s j ≡ false
   none_here e = ap is_some (part_is ∙ ap (option_map item_part_of) e)
+
+  -- nor does one where no identity is above
+  pub none_above : (is_identity (parent j) ≡ true → ⊥) → is_item s j ≡ false
+  none_above off =
+      by_option (item_of f j)
+      (λ none. none_here none)
+      (λ n some. absurd (off (parent_identity j identity (no_case f h.boxed j n some))))
 
   module _ (n : Node) (found : item_of f j ≡ Some n) where
     part : item_part s j ≡ Some (item_part_of n)
@@ -79,6 +87,16 @@ module _ (known : Holdings) (f : Forest) (s : State) (h : IsHeld known f s) (j :
         of_net = of_net;
         at = item_known (names_of known) f h.boxed s h.sites j identity n found x.outer.state.now outer.stands.found x.outer.spec.now outer.of_state x.outer.net.now outer.of_spec x.task.now of_net;
       }
+
+-- where none is found, none stands
+pub no_item_here : (known : Holdings) (f : Forest) (s : State) → IsHeld known f s → (j : Ident) → item_of f j ≡ None → is_item s j ≡ false
+no_item_here known f s h j e =
+    by_test (is_item s j)
+    (λ t.
+    let p = there (item_part s j) t in
+    let at = at_item_part s j p.0 p.1 in
+    none_here known f s h j (h.well.numbers.identities j at.0 at.1) e)
+    (λ t. t)
 
 -- ---- cases
 

@@ -61,7 +61,7 @@ pub known-push : (specs : List Loaded) (rows : List (List Upstream)) (l : Loaded
     → AreUpstreams l.spec.nets ups → get (by_name specs) l.spec.name ≡ None → AreKnown (specs ++ l ∷ []) (rows ++ ups ∷ [])
 known-push specs rows l ups known within fit free =
     record {
-      len = length-append rows (ups ∷ []) ∙ ap (λ n. n + 1) known.len ∙ sym (length-append specs (l ∷ []));
+      len = (let e = known.len in omega (arith, length-append rows (ups ∷ []), length-append specs (l ∷ [])));
       rows_fit = λ k m us at row. both k m us (at_push specs l k m at) (at_push rows ups k us row);
       within = λ k m at. inside k m (at_push specs l k m at);
       named = λ k m at. by_name-push specs l free m.spec.name m (named k m (at_push specs l k m at));

@@ -14,6 +14,7 @@ use Rattle.yw_library.specs.Holdings.{Holdings, IsKept, state_of, with_library}
 use Rattle.yw_nest.proofs.Known.{net_known, part_known}
 use Rattle.yw_nest.proofs.NetFound.{net_there}
 use Rattle.yw_spec.specs.declared.spec.Spec.{Spec}
+use Rattle.yw_state.proofs.Standing.{at_net_part}
 use Rattle.yw_state.proofs.Tests.{by_option, nowhere, some_same}
 use Rattle.yw_state.specs.Identity.{Ident}
 use Rattle.yw_state.specs.Map.{get}
@@ -50,16 +51,18 @@ kept_within known name spec number kept = accepted_are_within kept.text spec kep
 
 -- ---- a net
 
+-- where none is found, none stands
+pub no_net_here : (known : Holdings) (f : Forest) (s : State) → IsHeld known f s → (i : Ident) → net_found f i ≡ None → net_part s i ≡ None
+no_net_here known f s h i e =
+    by_option (net_part s i)
+    (λ none. none)
+    (λ p some.
+    let at = at_net_part s i p some in
+    nowhere (sym e ∙ (net_there (names_of known) f h.boxed i (h.well.numbers.identities i at.0 at.1) s h.sites p some).1))
+
 module _ (known : Holdings) (f : Forest) (s : State) (h : IsHeld known f s) (i : Ident) (identity : is_identity i ≡ true) where
   long : 1 ≤ length i
   long = identity_long i identity
-
-  -- where none is found, none stands
-  pub none_here : net_found f i ≡ None → net_part s i ≡ None
-  none_here e =
-      by_option (net_part s i)
-      (λ none. none)
-      (λ p some. nowhere (sym e ∙ (net_there (names_of known) f h.boxed i identity s h.sites p some).1))
 
   module _ (u : NetState) (found : net_found f i ≡ Some u) where
     abbrev k : ℕ

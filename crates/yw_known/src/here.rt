@@ -73,8 +73,8 @@ pub fn item_here<'a>(alloc: Global, known: &'a Known, forest: &'a Forest, id: &I
         → MatchOption found (is_item s id.now ≡ false) (IsItemHere known.now forest.now s id.now)) }
 {
     let numbers = id.numbers();
-    let outer = Vec::from_slice(alloc, &numbers[..numbers.len() - 1])?;
-    match Ident::from_numbers(outer) {
+    let above = Vec::from_slice(alloc, &numbers[..numbers.len() - 1])?;
+    match Ident::from_numbers(above) {
         Some(outer) => Ok(item_in(known, forest, &outer, id)),
         None => Ok(None),
     }
