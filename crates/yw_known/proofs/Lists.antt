@@ -1,6 +1,6 @@
 -- What is found at a place of a list.
-use Rattle.std.proofs.Common.{List, None, Some, [], ap, inl, inr, length, refl, suc, zero, ℕ, ◌++◌, ◌∷◌, ◌≡◌, ◌⊎◌, ◌≤◌, arith}
-use Rattle.std.proofs.lemmas.Option.{slice_get_past, slice_get_within}
+use Rattle.std.proofs.Common.{List, None, Some, [], ap, inl, inr, length, refl, suc, sym, zero, ℕ, ◌++◌, ◌<◌, ◌∷◌, ◌≡◌, ◌⊎◌, ◌≤◌, arith}
+use Rattle.std.proofs.lemmas.Option.{slice_get_within}
 use Rattle.std.specs.Prelude.{slice_get}
 use Rattle.yw_state.proofs.Tests.{nowhere, some_same}
 
@@ -24,3 +24,9 @@ at_push {A} (z ∷ xs) x (suc k) y e = by (at_push xs x k y e)
 -- nothing stands past the end
 pub not_past : {A B : Type 0} (xs : List A) (k : ℕ) (x : A) → slice_get xs k ≡ Some x → length xs ≤ k → B
 not_past xs k x e past = absurd (let within = slice_get_within xs k x e in omega arith)
+
+-- something stands before it
+pub not_before : {A B : Type 0} (xs : List A) (k : ℕ) → slice_get xs k ≡ None → k < length xs → B
+not_before [] k e within = absurd (omega (arith, within))
+not_before (x ∷ xs) zero e within = nowhere (sym e)
+not_before (x ∷ xs) (suc k) e within = not_before xs k e (omega (arith, within))

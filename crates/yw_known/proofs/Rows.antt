@@ -1,10 +1,15 @@
 -- What is kept beside the specifications, with one more of them.
 use Rattle.std.proofs.Common.{List, None, Some, [], ap, arith, inl, inr, length, length-append, map, refl, subst, sym, ℕ, ◌++◌, ◌∙◌, ◌∷◌, ◌≡◌, ◌⊎◌}
 use Rattle.std.proofs.lemmas.List.{map-append}
-use Rattle.std.specs.Prelude.{slice_get}
-use Rattle.yw_known.proofs.Lists.{at_push, not_past}
-use Rattle.yw_known.specs.Upstreams.{AreKnown, AreUpstreams, by_name}
-use Rattle.yw_library.specs.Holdings.{spec_under}
+use Rattle.std.proofs.lemmas.Option.{slice_get_within}
+use Rattle.std.specs.Prelude.{All, slice_get}
+use Rattle.yw_accept.proofs.IndexLemmas.{slice_get-seam}
+use Rattle.yw_known.proofs.Lists.{at_push, not_before, not_past}
+use Rattle.yw_known.specs.Upstreams.{AreKnown, AreNamed, AreUpstreams, by_name}
+use Rattle.yw_known.specs.Known.{IsKnownNet}
+use Rattle.yw_known.specs.declared.known.KnownNet.{KnownNet}
+use Rattle.yw_library.proofs.HoldingsLemmas.{all_at}
+use Rattle.yw_library.specs.Holdings.{Holdings, SaysItsText, spec_under, with_library}
 use Rattle.yw_path.specs.Direct.{HasItsPlaces}
 use Rattle.yw_path.specs.Upstream.{IsUpstreamOf}
 use Rattle.yw_path.specs.declared.upstream.Upstream.{Upstream}
@@ -82,3 +87,42 @@ known-push specs rows l ups known within fit free =
         → ((m.spec.name ≡ l.spec.name) × (l ≡ m)) ⊎ (get (by_name specs) m.spec.name ≡ Some m)
     named k m (inl a) = inr (known.named k m a)
     named k m (inr a) = inl (ap (λ (z : Loaded). z.spec.name) (sym a.1), a.1)
+
+-- ---- what is there
+
+pub row_there : {B : Type 0} (specs : List Loaded) (rows : List (List Upstream)) (k : ℕ) (l : Loaded) → AreKnown specs rows → slice_get specs k ≡ Some l → slice_get rows k ≡ None → B
+row_there specs rows k l known at none = not_before rows k none (let within = slice_get_within specs k l at in let e = known.len in omega arith)
+
+pub upstream_there : {B : Type 0} (nets : List Net) (ups : List Upstream) (k : ℕ) (net : Net) → AreUpstreams nets ups → slice_get nets k ≡ Some net → slice_get ups k ≡ None → B
+upstream_there nets ups k net fit at none = not_before ups k none (let within = slice_get_within nets k net at in let e = fit.len in omega arith)
+
+-- ---- with a specification more, which was loaded last
+
+pub row_pushed : (specs all : List Loaded) (rows after : List (List Upstream)) (l : Loaded) (ups : List Upstream) (number : ℕ) → number ≡ length rows → all ≡ specs ++ l ∷ []
+    → after ≡ rows ++ ups ∷ [] → ((m : Loaded) → slice_get all number ≡ Some m → IsWithin m.spec × AreUpstreams m.spec.nets ups) → AreKnown specs rows
+    → get (by_name specs) l.spec.name ≡ None → AreKnown all after
+row_pushed specs all rows after l ups number here is put row known free =
+    let at : slice_get all number ≡ Some l = ap (λ z. slice_get z number) is ∙ ap (slice_get (specs ++ l ∷ [])) (here ∙ known.len) ∙ slice_get-seam specs [] l in
+    let both = row l at in
+    subst (AreKnown all) (sym put) (subst (λ z. AreKnown z (rows ++ ups ∷ [])) (sym is) (known-push specs rows l ups known both.0 both.1 free))
+
+-- ---- what is found by numbers
+
+pub known_net : (known : Holdings) (rows : List (List Upstream)) (k n : ℕ) (g : KnownNet) (text : List ℕ) (ups : List Upstream) → AreKnown known.specs rows
+    → All SaysItsText known.specs → slice_get known.specs k ≡ Some (record { text = text; spec = g.spec.now }) → slice_get rows k ≡ Some ups
+    → slice_get g.spec.now.nets n ≡ Some g.net.now → slice_get ups n ≡ Some g.up.now → IsKnownNet known k n g
+unfolding with_library
+known_net known rows k n g text ups are all at row of_spec up =
+    let l : Loaded = record { text = text; spec = g.spec.now } in
+    let within = are.within k l at in
+    record {
+      kept = record { text = text; kept = are.named k l at; stands = at; accepted = all_at SaysItsText known.specs k l all at };
+      of_spec = of_spec;
+      spec_within = within;
+      within = within.nets n g.net.now of_spec;
+      upstream = (are.rows_fit k l ups at row).each n g.net.now g.up.now of_spec up;
+    }
+
+pub are_named : (known : Holdings) (rows : List (List Upstream)) → AreKnown known.specs rows → AreNamed known
+unfolding with_library
+are_named known rows are = are.named

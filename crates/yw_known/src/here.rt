@@ -43,6 +43,8 @@ pub fn net_here<'a>(known: &'a Known, forest: &'a Forest, at: &Ident) -> Option<
     ensures { (s : State) → IsHeld known.now forest.now s
         → MatchOption result (net_part s at.now ≡ None) (IsNetHere known.now forest.now s at.now) }
 {
+    let _ = at.numbers();
+    known.are_named();
     let state = forest.net(at)?;
     let found = known.net(state.spec, state.net)?;
     Some(NetHere {
@@ -53,15 +55,16 @@ pub fn net_here<'a>(known: &'a Known, forest: &'a Forest, at: &Ident) -> Option<
     })
 }
 
-/// The item at an identity, where `outer` is that of the net in which it would stand: `None` exactly where no item stands there. It takes no
+/// The item at an identity, where `outer_at` is that of the net in which it would stand: `None` exactly where no item stands there. It takes no
 /// memory.
-pub fn item_in<'a>(known: &'a Known, forest: &'a Forest, outer: &Ident, id: &Ident) -> Option<ItemHere<'a>>
-    requires { outer.now ≡ parent id.now }
+pub fn item_in<'a>(known: &'a Known, forest: &'a Forest, outer_at: &Ident, id: &Ident) -> Option<ItemHere<'a>>
+    requires { outer_at.now ≡ parent id.now }
     ensures { (s : State) → IsHeld known.now forest.now s
         → MatchOption result (is_item s id.now ≡ false) (IsItemHere known.now forest.now s id.now) }
 {
+    let _ = id.numbers();
     let item = forest.item(id)?;
-    let outer = net_here(known, forest, outer)?;
+    let outer = net_here(known, forest, outer_at)?;
     let task = outer.net.tasks.get(item.task)?;
     Some(ItemHere { item, task, outer })
 }

@@ -1,5 +1,5 @@
 // The upstreams of the nets of specifications.
-ghost use Rattle.std.specs.Prelude.{◌≡◌, ◌++◌, ◌∷◌, ℕ, [], List, IfOk, OnOk, OnErr};
+ghost use Rattle.std.specs.Prelude.{◌≡◌, ◌++◌, ◌∷◌, [], List, None, Some, IfOk, OnOk, OnErr, slice_get};
 ghost use Rattle.yw_known.specs.Upstreams.{AreKnown, AreUpstreams, by_name};
 ghost use Rattle.yw_library.specs.Holdings as kept;
 ghost use Rattle.yw_state.specs.Map.{get};
@@ -30,19 +30,18 @@ fn upstreams_of(alloc: Global, spec: &Spec) -> Result<UpstreamList, AllocError>
     Ok(ups)
 }
 
-/// The upstreams of the nets of the specification that was loaded last, and none where there is none. An `Err` says that no memory was left.
-fn last_upstreams(alloc: Global, library: &Library) -> Result<UpstreamList, AllocError>
-    ensures { IfOk result (λ ups. (specs : List Loaded) (l : Loaded) → library.now.specs ≡ specs ++ l ∷ []
-        → IsWithin l.spec × AreUpstreams l.spec.nets ups) }
+/// The upstreams of the nets of the specification with this number, and none where there is none. An `Err` says that no memory was left.
+fn row_of(alloc: Global, library: &Library, number: usize) -> Result<UpstreamList, AllocError>
+    ensures { IfOk result (λ ups. (l : Loaded) → slice_get library.now.specs number ≡ Some l → IsWithin l.spec × AreUpstreams l.spec.nets ups) }
 {
-    match library.specs().as_slice().last() {
+    match library.specs().get(number) {
         Some(loaded) => upstreams_of(alloc, &loaded.spec),
         None => Ok(Items::new(alloc)),
     }
 }
 
-/// Puts the upstreams of the nets of the specification that was loaded last behind the rows. An `Err` says that no memory was left.
-fn push_upstreams(
+/// Puts the upstreams of the nets of the specification behind those that have a row behind the rows. An `Err` says that no memory was left.
+fn push_row(
     alloc: Global,
     library: &Library,
     rows: &mut UpstreamRows,
@@ -50,7 +49,8 @@ fn push_upstreams(
     ensures { OnOk result ((specs : List Loaded) (l : Loaded) → library.now.specs ≡ specs ++ l ∷ [] → AreKnown specs rows.old
         → get (by_name specs) l.spec.name ≡ None → AreKnown library.now.specs rows.new) }
 {
-    rows.push(last_upstreams(alloc, library)?)
+    let row = row_of(alloc, library, rows.len())?;
+    rows.push(row)
 }
 
 /// Keeps the upstreams of the nets of the specification that was loaded last. An `Err` says that no memory was left: then the library and
@@ -65,7 +65,7 @@ pub fn keep_upstreams(
         → get (by_name specs) l.spec.name ≡ None → AreKnown library.old.specs rows.new) }
     ensures err { OnErr result ((library.new ≡ kept.nothing) × (rows.new ≡ [])) }
 {
-    let pushed = push_upstreams(alloc, library, rows);
+    let pushed = push_row(alloc, library, rows);
     if pushed.is_err() {
         *library = Library::new(alloc);
         *rows = Items::new(alloc);
