@@ -1,5 +1,6 @@
 -- The item that a state has at an identity, by what is known and the forest; and whether it is a case's.
-use Rattle.std.proofs.Common.{Bool, List, None, Option, Some, [], ap, arith, cond, false, length, refl, subst, sym, true, ℕ, ◌∙◌, ◌∷◌, ◌≡◌, ◌≤◌}
+use Rattle.std.proofs.Common.{Bool, List, None, Option, Some, [], ap, arith, cond, false, length, refl, subst, sym, true, ℕ, ◌<◌, ◌∙◌, ◌∷◌, ◌≡◌, ◌≤◌, Bor, get_or}
+use Rattle.std.specs.Option.{option_copied}
 use Rattle.std.specs.Prelude.{is_some, option_and_then, option_map, slice_get, ◌&&◌}
 use Rattle.yw_base.specs.Identity.{is_identity}
 use Rattle.yw_known.specs.Held.{IsHeld}
@@ -57,13 +58,7 @@ module _ (known : Holdings) (f : Forest) (s : State) (h : IsHeld known f s) (j :
     at_is : item_at s j ≡ option_and_then (with_task (item_part_of n)) (net_at s (parent j))
     at_is = ap (option_and_then (λ (x : ItemPart). option_and_then (with_task x) (net_at s (parent j)))) part
 
-    -- it stands in a net
-    pub net_wanted : net_part s (parent j) ≡ None → ⊥
-    net_wanted none =
-        let no_net : net_at s (parent j) ≡ None = ap (option_and_then (λ (p : NetPart). option_map (λ w. let x : NetAt = record { part = p; net = w } in x) (net_of s p))) none in
-        not_none (at_is ∙ ap (option_and_then (with_task (item_part_of n))) no_net)
-
-    -- which has its task
+    -- the net in which it stands has its task
     pub task_wanted : (w : NetHere) → IsNetHere known f s (parent j) w → slice_get w.net.now.tasks (out-Node n).task ≡ None → ⊥
     task_wanted w at none =
         not_none (at_is ∙ ap (option_and_then (with_task (item_part_of n))) at.at
@@ -110,3 +105,13 @@ case_is known f s h k =
     ap (λ m. is_some (option_and_then (λ (x : Site). x.net) (get m j))) h.sites
     ∙ ap (λ o. is_some (option_and_then (λ (x : Site). x.net) o)) (find_is (names_of known) f h.boxed j (omega arith) (omega arith))
     ∙ case_has_net (names_of known) (case_at k f.cases)
+
+-- an identity of one number
+pub one_number : (j : Ident) → 1 ≤ length j → length j < 2 → j ≡ get_or j 0 0 ∷ []
+one_number [] long short = absurd (omega (arith, long))
+one_number (n ∷ []) long short = refl
+one_number (n ∷ m ∷ ms) long short = absurd (omega (arith, short))
+
+pub copied_there : {A : Type 0} (o : Option (Bor A)) → is_some (option_copied o) ≡ is_some o
+copied_there None = refl
+copied_there (Some x) = refl

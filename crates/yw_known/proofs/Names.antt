@@ -44,7 +44,7 @@ module _ (s : State) (well : IsWell reader s) where
   spec_behind j p e =
       let n = there (net_at s j) (well.content.of_spec j p e) in
       let known : option_map (λ (w : Net). let x : NetAt = record { part = p; net = w } in x) (net_of s p) ≡ Some n.0 =
-          sym (ap (option_and_then (λ (q : NetPart). option_map (λ (w : Net). let x : NetAt = record { part = q; net = w } in x) (net_of s q))) e) ∙ n.1 in
+      sym (ap (option_and_then (λ (q : NetPart). option_map (λ (w : Net). let x : NetAt = record { part = q; net = w } in x) (net_of s q))) e) ∙ n.1 in
       let w = map_some (λ (w : Net). let x : NetAt = record { part = p; net = w } in x) (net_of s p) n.0 known in
       let z = then_some (λ (spec : Spec). slice_get spec.nets p.net) (spec_called s p.spec) w.0 w.1 in
       let l = map_some (λ (l : Loaded). l.spec) (get s.specs p.spec) z.0 z.1 in
@@ -72,12 +72,12 @@ none_there k (e ∷ es) h =
 each_found : (P : Entry → Type 0) (es : Entries) → Unique es → ((e : Entry) → find lexical e.0 es ≡ Some e.1 → P e) → Each P es
 each_found P [] u h = tt
 each_found P (e ∷ es) u h = (
-    h e (ap (λ (b : Bool). cond b (Some e.1) (find lexical e.0 es)) (tied_self by_name e.0)),
-    each_found P es u.1 (λ x at.
-    by_test (eq_by_cmp lexical x.0 e.0)
-    (λ t. nowhere (sym (none_there e.0 es u.0) ∙ ap (λ k. find lexical k es) (sym (tied by_name x.0 e.0 t)) ∙ at))
-    (λ t. h x (ap (λ (b : Bool). cond b (Some e.1) (find lexical x.0 es)) t ∙ at))),
-  )
+  h e (ap (λ (b : Bool). cond b (Some e.1) (find lexical e.0 es)) (tied_self by_name e.0)),
+  each_found P es u.1 (λ x at.
+      by_test (eq_by_cmp lexical x.0 e.0)
+      (λ t. nowhere (sym (none_there e.0 es u.0) ∙ ap (λ k. find lexical k es) (sym (tied by_name x.0 e.0 t)) ∙ at))
+      (λ t. h x (ap (λ (b : Bool). cond b (Some e.1) (find lexical x.0 es)) t ∙ at))),
+)
 
 module _ (known : Holdings) (f : Forest) (s : State) (h : IsHeld known f s) where
   entry_has_name : (e : Entry) → find lexical e.0 (entries (names_of known) f) ≡ Some e.1 → EntryHasName e

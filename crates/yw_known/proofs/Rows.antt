@@ -108,20 +108,21 @@ row_pushed specs all rows after l ups number here is put row known free =
 
 -- ---- what is found by numbers
 
-pub known_net : (known : Holdings) (rows : List (List Upstream)) (k n : ℕ) (g : KnownNet) (text : List ℕ) (ups : List Upstream) → AreKnown known.specs rows
+pub known_net : (known seen : Holdings) (rows : List (List Upstream)) (k n : ℕ) (g : KnownNet) (text : List ℕ) (ups : List Upstream) → known ≡ seen → AreKnown known.specs rows
     → All SaysItsText known.specs → slice_get known.specs k ≡ Some (record { text = text; spec = g.spec.now }) → slice_get rows k ≡ Some ups
-    → slice_get g.spec.now.nets n ≡ Some g.net.now → slice_get ups n ≡ Some g.up.now → IsKnownNet known k n g
+    → slice_get g.spec.now.nets n ≡ Some g.net.now → slice_get ups n ≡ Some g.up.now → IsKnownNet seen k n g
 unfolding with_library
-known_net known rows k n g text ups are all at row of_spec up =
+known_net known seen rows k n g text ups is are all at row of_spec up =
     let l : Loaded = record { text = text; spec = g.spec.now } in
     let within = are.within k l at in
-    record {
+    let here : IsKnownNet known k n g = record {
       kept = record { text = text; kept = are.named k l at; stands = at; accepted = all_at SaysItsText known.specs k l all at };
       of_spec = of_spec;
       spec_within = within;
       within = within.nets n g.net.now of_spec;
       upstream = (are.rows_fit k l ups at row).each n g.net.now g.up.now of_spec up;
-    }
+    } in
+    subst (λ z. IsKnownNet z k n g) is here
 
 pub are_named : (known : Holdings) (rows : List (List Upstream)) → AreKnown known.specs rows → AreNamed known
 unfolding with_library

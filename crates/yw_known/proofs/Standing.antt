@@ -93,7 +93,7 @@ module _ (known : Holdings) (f : Forest) (s : State) (h : IsHeld known f s) (i :
       let spec = w.spec.now in
       let name : names (out-NetState u).spec ≡ spec.name = ap name_in g.kept.stands in
       let called : spec_called s (names (out-NetState u).spec) ≡ Some spec =
-          ap (spec_called s) name ∙ ap (λ z. option_map (λ (l : Loaded). l.spec) (get z spec.name)) (specs_are known f s h) ∙ ap (option_map (λ (l : Loaded). l.spec)) g.kept.kept in
+      ap (spec_called s) name ∙ ap (λ z. option_map (λ (l : Loaded). l.spec) (get z spec.name)) (specs_are known f s h) ∙ ap (option_map (λ (l : Loaded). l.spec)) g.kept.kept in
       let of = ap (option_and_then (λ (p : NetPart). spec_called s p.spec)) (part u found) ∙ called in
       record {
         stands = record {

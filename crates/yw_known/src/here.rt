@@ -43,6 +43,7 @@ pub fn net_here<'a>(known: &'a Known, forest: &'a Forest, at: &Ident) -> Option<
     ensures { (s : State) → IsHeld known.now forest.now s
         → MatchOption result (net_part s at.now ≡ None) (IsNetHere known.now forest.now s at.now) }
 {
+    // No work is done here: these say that it is an identity, and that names lead to specifications.
     let _ = at.numbers();
     known.are_named();
     let state = forest.net(at)?;
@@ -57,7 +58,12 @@ pub fn net_here<'a>(known: &'a Known, forest: &'a Forest, at: &Ident) -> Option<
 
 /// The item at an identity, where `outer_at` is that of the net in which it would stand: `None` exactly where no item stands there. It takes no
 /// memory.
-pub fn item_in<'a>(known: &'a Known, forest: &'a Forest, outer_at: &Ident, id: &Ident) -> Option<ItemHere<'a>>
+pub fn item_in<'a>(
+    known: &'a Known,
+    forest: &'a Forest,
+    outer_at: &Ident,
+    id: &Ident,
+) -> Option<ItemHere<'a>>
     requires { outer_at.now ≡ parent id.now }
     ensures { (s : State) → IsHeld known.now forest.now s
         → MatchOption result (is_item s id.now ≡ false) (IsItemHere known.now forest.now s id.now) }
@@ -71,7 +77,12 @@ pub fn item_in<'a>(known: &'a Known, forest: &'a Forest, outer_at: &Ident, id: &
 
 /// The item at an identity: `None` exactly where no item stands there. An `Err` says that no memory was left, of which it takes that of one
 /// identity.
-pub fn item_here<'a>(alloc: Global, known: &'a Known, forest: &'a Forest, id: &Ident) -> Result<Option<ItemHere<'a>>, AllocError>
+pub fn item_here<'a>(
+    alloc: Global,
+    known: &'a Known,
+    forest: &'a Forest,
+    id: &Ident,
+) -> Result<Option<ItemHere<'a>>, AllocError>
     ensures { IfOk result (λ found. (s : State) → IsHeld known.now forest.now s
         → MatchOption found (is_item s id.now ≡ false) (IsItemHere known.now forest.now s id.now)) }
 {
@@ -88,7 +99,9 @@ pub fn task_called(net: &Net, name: &Name) -> Option<usize>
     ensures { result ≡ task_number net.now name.now }
 {
     let tasks = net.tasks.as_slice();
-    tasks.iter().position(|task| task.name.as_str() == name.as_str())
+    tasks
+        .iter()
+        .position(|task| task.name.as_str() == name.as_str())
 }
 
 /// A case has this identity. It takes no memory.

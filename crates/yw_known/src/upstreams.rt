@@ -41,11 +41,7 @@ fn row_of(alloc: Global, library: &Library, number: usize) -> Result<UpstreamLis
 }
 
 /// Puts the upstreams of the nets of the specification behind those that have a row behind the rows. An `Err` says that no memory was left.
-fn push_row(
-    alloc: Global,
-    library: &Library,
-    rows: &mut UpstreamRows,
-) -> Result<(), AllocError>
+fn push_row(alloc: Global, library: &Library, rows: &mut UpstreamRows) -> Result<(), AllocError>
     ensures { OnOk result ((specs : List Loaded) (l : Loaded) → library.now.specs ≡ specs ++ l ∷ [] → AreKnown specs rows.old
         → get (by_name specs) l.spec.name ≡ None → AreKnown library.now.specs rows.new) }
 {

@@ -1,8 +1,7 @@
-use Rattle.std.proofs.Common.{ap, subst, sym, ◌∙◌}
+use Rattle.std.proofs.Common.{ap, sym, ◌∙◌}
 use Rattle.std.specs.Prelude.{slice_get}
 use Rattle.yw_known.proofs.Rows.{known_net, row_there, upstream_there}
 use Rattle.yw_known.proofs.known.Known.net.Goals as goal
-use Rattle.yw_known.specs.Known.{IsKnownNet}
 
 pub returns-in_err-row : goal.returns-in_err-row
 returns-in_err-row c =
@@ -22,6 +21,5 @@ pub returns : goal.returns
 returns c =
     let l = c.in_ok-loaded.loaded.now in
     let at = ap (λ z. slice_get z c.args.spec) (sym c.specs.ensures.all) ∙ sym c.in_ok-loaded.ensures in
-    subst (λ z. IsKnownNet z c.args.spec c.args.net _) c.self.view_is
-    (known_net c.self.inside.library c.self.inside.rows c.args.spec c.args.net _ l.text c.in_ok-row.row.now c.self.invariant c.specs.ensures.accepted at
-    (sym c.in_ok-row.ensures) (sym c.in_ok-found.ensures) (sym c.in_ok-up.ensures))
+    known_net c.self.inside.library c.args.self.now c.self.inside.rows c.args.spec c.args.net _ l.text c.in_ok-row.row.now c.self.view_is c.self.invariant c.specs.ensures.accepted at
+    (sym c.in_ok-row.ensures) (sym c.in_ok-found.ensures) (sym c.in_ok-up.ensures)
