@@ -1,7 +1,7 @@
 -- The item that a state has at an identity, by what is known and the forest; and whether it is a case's.
-use Rattle.std.proofs.Common.{Bool, List, None, Option, Some, [], ap, arith, cond, false, length, refl, subst, sym, true, ℕ, ◌<◌, ◌∙◌, ◌∷◌, ◌≡◌, ◌≤◌, Bor, get_or}
+use Rattle.std.proofs.Common.{List, None, Option, Some, [], ap, arith, false, length, refl, sym, true, ℕ, ◌<◌, ◌∙◌, ◌∷◌, ◌≡◌, ◌≤◌, Bor, get_or}
 use Rattle.std.specs.Option.{option_copied}
-use Rattle.std.specs.Prelude.{is_some, option_and_then, option_map, slice_get, ◌&&◌}
+use Rattle.std.specs.Prelude.{is_some, option_and_then, option_map, slice_get}
 use Rattle.yw_base.specs.Identity.{is_identity}
 use Rattle.yw_known.specs.Held.{IsHeld}
 use Rattle.yw_known.specs.Here.{IsItemHere, IsNetHere, as_net_at}
@@ -14,16 +14,16 @@ use Rattle.yw_nest.proofs.Outer.{parent_identity}
 use Rattle.yw_spec.specs.declared.task.Task.{Task}
 use Rattle.yw_state.proofs.Standing.{at_item_part}
 use Rattle.yw_state.proofs.Tests.{by_option, by_test, never, there}
-use Rattle.yw_state.specs.Identity.{Ident, case_number, parent}
+use Rattle.yw_state.specs.Identity.{Ident, parent}
 use Rattle.yw_state.specs.Map.{get}
-use Rattle.yw_state.specs.State.{ItemAt, ItemPart, NetAt, NetPart, Site, State, TaskAt, is_case, is_item, item_at, item_part, net_at, net_of, net_part, task_in}
+use Rattle.yw_state.specs.State.{ItemAt, ItemPart, NetAt, Site, State, TaskAt, is_case, is_item, item_at, item_part, net_at, task_in}
 use Rattle.yw_tree.proofs.AbsentLaw.{item_is}
 use Rattle.yw_tree.proofs.FindLaw.{find_is}
 use Rattle.yw_tree.proofs.ForestLaw.{identity_in_case, item_found}
-use Rattle.yw_tree.proofs.Parents.{identity_long, identity_short}
+use Rattle.yw_tree.proofs.Parents.{identity_short}
 use Rattle.yw_tree.specs.Cases.{case_at}
 use Rattle.yw_tree.specs.Entries.{item_part_of}
-use Rattle.yw_tree.specs.Forest.{item_of, sites_of}
+use Rattle.yw_tree.specs.Forest.{item_of}
 use Rattle.yw_tree.specs.Spots.{a_case, part_site}
 use Rattle.yw_tree.specs.declared.Case.{Case}
 use Rattle.yw_tree.specs.declared.Forest.{Forest}

@@ -1,15 +1,13 @@
 -- What is so of a library into which a specification is loaded.
-use Rattle.std.proofs.Common.{Bool, List, None, Option, Some, [], ap, refl, subst, sym, true, ℕ, ◌++◌, ◌∙◌, ◌∷◌, ◌≡◌}
+use Rattle.std.proofs.Common.{List, None, [], ap, refl, subst, sym, ℕ, ◌++◌, ◌∙◌, ◌∷◌, ◌≡◌}
 use Rattle.std.specs.Prelude.{is_some, not}
 use Rattle.std.specs.Str.{bytes_eq}
 use Rattle.yw_known.specs.Upstreams.{AreKnown, by_name}
 use Rattle.yw_library.specs.Always.{AlwaysLeads}
 use Rattle.yw_library.specs.Holdings.{AddsSpec, Holdings, nothing as nothing_kept, with_library}
-use Rattle.yw_model.specs.Texts.{reader}
 use Rattle.yw_path.specs.declared.upstream.Upstream.{Upstream}
 use Rattle.yw_state.proofs.Tests.{and_right, by_option, never, nowhere}
 use Rattle.yw_state.specs.Allowed.{Allowed, allows}
-use Rattle.yw_state.specs.Events.{Leads}
 use Rattle.yw_state.specs.Map.{get}
 use Rattle.yw_state.specs.State.{State, opening}
 use Rattle.yw_state.specs.Texts.{Said, a_spec, a_test, nothing}

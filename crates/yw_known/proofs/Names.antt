@@ -1,8 +1,8 @@
 -- Each net that stands in a state which is well is of a specification with a name; so one specification more changes no map.
-use Rattle.std.proofs.Common.{Bool, List, None, Option, Some, [], ap, cond, false, refl, subst, sym, true, ℕ, ◌++◌, ◌∙◌, ◌∷◌, ◌≡◌}
+use Rattle.std.proofs.Common.{Bool, List, None, Option, Some, [], ap, cond, refl, sym, ℕ, ◌∙◌, ◌∷◌, ◌≡◌}
 use Rattle.std.specs.FinMap.Entries.{find}
 use Rattle.std.specs.Ordering.{eq_by_cmp}
-use Rattle.std.specs.Prelude.{is_some, option_and_then, option_map, slice_get}
+use Rattle.std.specs.Prelude.{option_and_then, option_map, slice_get}
 use Rattle.yw_accepted.proofs.Loaded.{accepted_are_within}
 use Rattle.yw_base.specs.Spelling.{is_name}
 use Rattle.yw_known.proofs.Lists.{at_front}

@@ -1,5 +1,5 @@
 -- What is kept beside the specifications, with one more of them.
-use Rattle.std.proofs.Common.{List, None, Some, [], ap, arith, inl, inr, length, length-append, map, refl, subst, sym, ℕ, ◌++◌, ◌∙◌, ◌∷◌, ◌≡◌, ◌⊎◌}
+use Rattle.std.proofs.Common.{List, None, Some, [], ap, arith, inl, inr, length, length-append, map, subst, sym, ℕ, ◌++◌, ◌∙◌, ◌∷◌, ◌≡◌, ◌⊎◌}
 use Rattle.std.proofs.lemmas.List.{map-append}
 use Rattle.std.proofs.lemmas.Option.{slice_get_within}
 use Rattle.std.specs.Prelude.{All, slice_get}

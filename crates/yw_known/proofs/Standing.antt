@@ -1,5 +1,5 @@
 -- The net that a state has at an identity, by what is known and the forest.
-use Rattle.std.proofs.Common.{List, None, Option, Some, ap, sym, true, ℕ, ◌∙◌, ◌≡◌, ◌≤◌, length}
+use Rattle.std.proofs.Common.{List, None, Some, ap, sym, true, ℕ, ◌∙◌, ◌≡◌, ◌≤◌, length}
 use Rattle.std.specs.Prelude.{option_and_then, option_map, slice_get}
 use Rattle.yw_accepted.proofs.Loaded.{accepted_are_within}
 use Rattle.yw_base.specs.Identity.{is_identity}

@@ -1,4 +1,4 @@
-use Rattle.std.proofs.Common.{List, Option, Some, ap, subst, sym, ℕ, ◌∙◌, ◌≡◌}
+use Rattle.std.proofs.Common.{List, Some, ap, subst, sym, ℕ, ◌∙◌, ◌≡◌}
 use Rattle.std.specs.Option.{option_copied}
 use Rattle.std.specs.Prelude.{IfOk, Result, Ok, Err, slice_get}
 use Rattle.yw_accepted.proofs.Loaded.{accepted_are_within}
