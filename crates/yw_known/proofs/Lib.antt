@@ -1,0 +1,7 @@
+pub mod Lists
+pub mod Rows
+pub mod Loads
+pub mod Renamed
+pub mod Names
+pub mod Standing
+pub mod Items

@@ -1,0 +1,5 @@
+use Rattle.yw_known.proofs.Names as names
+use Rattle.yw_known.proofs.laws.load_keeps_held.Goals as goal
+
+pub returns : goal.returns
+returns c = names.load_keeps_held

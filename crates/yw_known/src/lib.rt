@@ -1,0 +1,11 @@
+//! What the engine knows beside its cases: persons, specifications, and the upstream of each net. And the way from an identity in a forest to
+//! the net, the task and the item that the definitions have there. The README of the crate says which clause proves what.
+#![tactic(auto)]
+
+mod here;
+mod known;
+pub mod laws;
+mod upstreams;
+
+pub use here::{ItemHere, NetHere, is_case, item_here, item_in, net_here, task_called};
+pub use known::{Known, KnownNet};
