@@ -56,8 +56,8 @@ pub fn net_here<'a>(known: &'a Known, forest: &'a Forest, at: &Ident) -> Option<
     })
 }
 
-/// The item at an identity, where `outer_at` is that of the net in which it would stand: `None` exactly where no item stands there. It takes no
-/// memory.
+/// The item at an identity: `None` exactly where no item stands there. `outer_at` is the identity of the net in which it would stand. It
+/// takes no memory.
 pub fn item_in<'a>(
     known: &'a Known,
     forest: &'a Forest,

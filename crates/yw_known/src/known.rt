@@ -77,7 +77,8 @@ impl Known {
     /// The person has these roles from now on, and no others, as `Library::person` says. An `Err` says that no memory was left, and changes
     /// nothing.
     pub fn person(&mut self, name: Name, roles: NameList) -> Result<(), AllocError>
-        ensures ok { OnOk result ((s : State) → with_library s self.new ≡ after (with_library s self.old) (events.Person name roles) nothing) }
+        ensures ok { OnOk result ((s : State)
+            → with_library s self.new ≡ after (with_library s self.old) (events.Person name roles) nothing) }
         ensures place { OnOk result (self.new ≡ with_person self.old (record { name = name; roles = roles })) }
         ensures err { OnErr result (self.new ≡ self.old) }
     {
@@ -91,10 +92,12 @@ impl Known {
     pub fn load(&mut self, text: &str) -> Result<Name, LibraryFault>
         ensures ok { IfOk result (λ name. AlwaysLeads self.old (events.Load name text.now) self.new) }
         ensures place { IfOk result (λ name. AddsSpec self.old self.new name text.now) }
-        ensures refused { IfRefused result (λ refusal. AlwaysBreaks self.old (commands.Load text.now) (Some refusal) × (self.new ≡ self.old)) }
+        ensures refused { IfRefused result (λ refusal.
+            AlwaysBreaks self.old (commands.Load text.now) (Some refusal) × (self.new ≡ self.old)) }
 
         // What is answered is the only answer that the definitions allow.
-        ensures only { (s : State) (found : Option Refusal) → Breaks reader (with_library s self.old) (commands.Load text.now) found → Answers result found }
+        ensures only { (s : State) (found : Option Refusal)
+            → Breaks reader (with_library s self.old) (commands.Load text.now) found → Answers result found }
         ensures err { OnErr result (IsAllOrNothing self.old self.new) }
     {
         let name = self.library.load(text)?;
@@ -126,7 +129,8 @@ impl Known {
 
     /// The specification with this name and its number, or `None` where none of this name is loaded. It takes no memory.
     pub fn spec_named(&self, name: &Name) -> Option<(&Spec, usize)>
-        ensures { MatchOption result (get (state_of self.now).specs name.now ≡ None) (λ found. IsKept self.now name.now found.0.now found.1) }
+        ensures { MatchOption result (get (state_of self.now).specs name.now ≡ None)
+            (λ found. IsKept self.now name.now found.0.now found.1) }
     {
         self.library.spec(name)
     }

@@ -24,21 +24,22 @@ pub fn load_keeps_sites()
 
 /// And so what is held is held with it, where the state after it is well.
 pub fn load_keeps_held()
-    ensures { (old new : Holdings) (f : Forest) (s : State) (name text : List ℕ) → IsHeld old f s → AddsSpec old new name text
-        → IsWell reader (with_library s new) → IsHeld new f (with_library s new) }
+    ensures { (old new : Holdings) (f : Forest) (s : State) (name text : List ℕ) → IsHeld old f s
+        → AddsSpec old new name text → IsWell reader (with_library s new) → IsHeld new f (with_library s new) }
 {}
 
 /// A specification that `Known::spec_named` finds is loaded under that name, which is the one of its number, and it is within.
 pub fn kept_is_loaded()
-    ensures called { (known : Holdings) (f : Forest) (s : State) (name : List ℕ) (spec : Spec) (number : ℕ) → IsHeld known f s
-        → IsKept known name spec number → spec_called s name ≡ Some spec }
-    ensures named { (known : Holdings) (f : Forest) (s : State) (name : List ℕ) (spec : Spec) (number : ℕ) → IsHeld known f s
-        → IsKept known name spec number → names_of known number ≡ name }
-    ensures within { (known : Holdings) (name : List ℕ) (spec : Spec) (number : ℕ) → IsKept known name spec number → IsWithin spec }
+    ensures called { (known : Holdings) (f : Forest) (s : State) (name : List ℕ) (spec : Spec) (number : ℕ)
+        → IsHeld known f s → IsKept known name spec number → spec_called s name ≡ Some spec }
+    ensures named { (known : Holdings) (f : Forest) (s : State) (name : List ℕ) (spec : Spec) (number : ℕ)
+        → IsHeld known f s → IsKept known name spec number → names_of known number ≡ name }
+    ensures within { (known : Holdings) (name : List ℕ) (spec : Spec) (number : ℕ)
+        → IsKept known name spec number → IsWithin spec }
 {}
 
 /// The task of a name in a net that stands is the one with the number that `task_called` gives.
 pub fn task_is()
-    ensures { (known : Holdings) (f : Forest) (s : State) (i : Ident) (h : NetHere) (name : List ℕ) → IsNetHere known f s i h
-        → task_at s i name ≡ option_and_then (task_in (as_net_at known h)) (task_number h.net.now name) }
+    ensures { (known : Holdings) (f : Forest) (s : State) (i : Ident) (h : NetHere) (name : List ℕ)
+        → IsNetHere known f s i h → task_at s i name ≡ option_and_then (task_in (as_net_at known h)) (task_number h.net.now name) }
 {}

@@ -32,7 +32,8 @@ fn upstreams_of(alloc: Global, spec: &Spec) -> Result<UpstreamList, AllocError>
 
 /// The upstreams of the nets of the specification with this number, and none where there is none. An `Err` says that no memory was left.
 fn row_of(alloc: Global, library: &Library, number: usize) -> Result<UpstreamList, AllocError>
-    ensures { IfOk result (λ ups. (l : Loaded) → slice_get library.now.specs number ≡ Some l → IsWithin l.spec × AreUpstreams l.spec.nets ups) }
+    ensures { IfOk result (λ ups. (l : Loaded) → slice_get library.now.specs number ≡ Some l
+        → IsWithin l.spec × AreUpstreams l.spec.nets ups) }
 {
     match library.specs().get(number) {
         Some(loaded) => upstreams_of(alloc, &loaded.spec),
@@ -40,10 +41,10 @@ fn row_of(alloc: Global, library: &Library, number: usize) -> Result<UpstreamLis
     }
 }
 
-/// Puts the upstreams of the nets of the specification behind those that have a row behind the rows. An `Err` says that no memory was left.
+/// Puts behind the rows that of the specification whose number comes next. An `Err` says that no memory was left.
 fn push_row(alloc: Global, library: &Library, rows: &mut UpstreamRows) -> Result<(), AllocError>
-    ensures { OnOk result ((specs : List Loaded) (l : Loaded) → library.now.specs ≡ specs ++ l ∷ [] → AreKnown specs rows.old
-        → get (by_name specs) l.spec.name ≡ None → AreKnown library.now.specs rows.new) }
+    ensures { OnOk result ((specs : List Loaded) (l : Loaded) → library.now.specs ≡ specs ++ l ∷ []
+        → AreKnown specs rows.old → get (by_name specs) l.spec.name ≡ None → AreKnown library.now.specs rows.new) }
 {
     let row = row_of(alloc, library, rows.len())?;
     rows.push(row)
@@ -57,8 +58,8 @@ pub fn keep_upstreams(
     rows: &mut UpstreamRows,
 ) -> Result<(), AllocError>
     ensures same { OnOk result (library.new ≡ library.old) }
-    ensures ok { OnOk result ((specs : List Loaded) (l : Loaded) → library.old.specs ≡ specs ++ l ∷ [] → AreKnown specs rows.old
-        → get (by_name specs) l.spec.name ≡ None → AreKnown library.old.specs rows.new) }
+    ensures ok { OnOk result ((specs : List Loaded) (l : Loaded) → library.old.specs ≡ specs ++ l ∷ []
+        → AreKnown specs rows.old → get (by_name specs) l.spec.name ≡ None → AreKnown library.old.specs rows.new) }
     ensures err { OnErr result ((library.new ≡ kept.nothing) × (rows.new ≡ [])) }
 {
     let pushed = push_row(alloc, library, rows);
