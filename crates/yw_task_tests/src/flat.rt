@@ -1,6 +1,7 @@
 // What calls suppose of the boxes of a net, tested where a test calls them: its items have neither a net nor a run, and stand in order.
-ghost use Rattle.std.specs.Prelude.{◌≡◌, ◌+◌, ◌^◌, ◌<◌, IsTrue, length};
+ghost use Rattle.std.specs.Prelude.{◌≡◌, ◌+◌, ◌^◌, ◌<◌, IsTrue, length, nat_lt};
 ghost use Rattle.std.specs.List.{list_all};
+ghost use Rattle.yw_state.specs.Identity.{is_child};
 ghost use Rattle.yw_task.specs.Items.{AreBefore};
 ghost use Rattle.yw_task_tests.specs.Flat.{MayChange, are_flat, ascends, comes_before, is_before, is_flat_item};
 ghost use Rattle.yw_tree.specs.Boxed.{IsBoxedNet};
@@ -63,19 +64,35 @@ pub fn is_flat(state: &NetState) -> bool
     are_flat(state.items.as_slice(), 0)
 }
 
+fn is_child(id: &Ident, at: &Ident) -> bool
+    ensures { result ≡ is_child id.now at.now }
+{
+    id.is_under(at) && id.numbers().len() == at.numbers().len() + 1
+}
+
+fn are_below(numbers: &[u64], n: u64) -> bool
+    ensures { result ≡ list_all (λ k. nat_lt k n) numbers.now }
+{
+    numbers.iter().all(|number| *number < n)
+}
+
 fn is_before(node: &Node, at: &Ident, n: u64) -> bool
     ensures { result ≡ is_before at.now n node.now }
 {
-    node.id.is_under(at)
-        && node.id.numbers().len() == at.numbers().len() + 1
-        && node.id.numbers().iter().all(|number| *number < n)
+    is_child(&node.id, at) && are_below(node.id.numbers(), n)
+}
+
+fn all_before(nodes: &[Node], at: &Ident, n: u64) -> bool
+    ensures { result ≡ list_all (is_before at.now n) nodes.now }
+{
+    nodes.iter().all(|node| is_before(node, at, n))
 }
 
 /// The items have the net's identity with a number below this one.
 pub fn are_before(nodes: &[Node], at: &Ident, n: u64) -> bool
     ensures { IsTrue result → AreBefore at.now n nodes.now }
 {
-    nodes.iter().all(|node| is_before(node, at, n))
+    all_before(nodes, at, n)
 }
 
 /// A task of the net may be entered by its number, as far as the boxes show it.

@@ -1,15 +1,15 @@
 // Forests that grow by calls, part by part, so that their clauses say that they are well boxed.
-ghost use Rattle.std.specs.Prelude.{◌≡◌, ◌+◌, [], IfSome, IsSome, IsSomeAnd, IsTrue, None, is_some};
+ghost use Rattle.std.specs.Prelude.{◌≡◌, ◌+◌, ◌≤◌, ◌∷◌, [], IfSome, IsSomeAnd, IsTrue, None, false, is_some, length, true};
 ghost use Rattle.yw_base.specs.Identity.{is_number};
-ghost use Rattle.yw_state.specs.Identity.{child};
+ghost use Rattle.yw_state.specs.Identity.{case_number, is_case_ident};
 ghost use Rattle.yw_tree.specs.Boxed.{IsBoxedNet};
-ghost use Rattle.yw_tree.specs.Coming.{HasNoNet, HasTask, TargetStands};
+ghost use Rattle.yw_tree.specs.Cases.{case_at};
+ghost use Rattle.yw_tree.specs.Coming.{HasTask, TargetStands};
 ghost use Rattle.yw_tree.specs.Entries.{nodes};
 ghost use Rattle.yw_tree.specs.Forest.{IsForest, item_of};
-ghost use Rattle.yw_tree.specs.Places.{net_at, net_of_run, run_of};
+ghost use Rattle.yw_tree.specs.Places.{hung_at, net_at};
 ghost use Rattle.yw_tree.specs.Spots.{part_at};
-ghost use Rattle.yw_tree.specs.Ways.{net_of_item};
-ghost use Rattle.yw_tree_tests.specs.Grown.{Grown};
+ghost use Rattle.yw_tree_tests.specs.Grown.{Grown, HasRoom, IsBareItem, IsBareRun, IsBelow};
 
 use crate::shapes::NO_CHECKS;
 use std::alloc::Global;
@@ -69,9 +69,23 @@ fn grow_case(alloc: Global, forest: &mut Forest, n: u64, tasks: usize) -> bool
     if !is_number(n) || forest.case(n).is_some() {
         return false;
     }
-    let (Ok(id), Some(net)) = (Ident::of_number(alloc, n), new_net(alloc, tasks)) else {
+    let Ok(id) = Ident::of_number(alloc, n) else {
         return false;
     };
+    let Some(net) = new_net(alloc, tasks) else {
+        return false;
+    };
+    put_case(forest, n, id, net)
+}
+
+fn put_case(forest: &mut Forest, n: u64, id: Ident, net: NetState) -> bool
+    requires grown { Grown forest.old n }
+    requires id { id ≡ n ∷ [] }
+    requires empty { nodes net ≡ [] }
+    requires boxed { IsBoxedNet net }
+    requires fresh { case_at n forest.old.cases ≡ None }
+    ensures { IsTrue result → Grown forest.new (n + 1) }
+{
     let case = Case {
         id,
         net,
@@ -79,7 +93,10 @@ fn grow_case(alloc: Global, forest: &mut Forest, n: u64, tasks: usize) -> bool
         due: NO_CHECKS,
         run: None,
     };
-    forest.add_case(case).is_ok()
+    match forest.add_case(case) {
+        Ok(()) => true,
+        Err(_) => false,
+    }
 }
 
 /// The net at an identity has this task.
@@ -92,14 +109,24 @@ fn has_task(forest: &Forest, at: &Ident, t: usize) -> bool
     }
 }
 
+/// Something stands at the identity, with a net that has this task.
+fn has_room(forest: &Forest, at: &Ident, t: usize) -> bool
+    ensures { IsTrue result → HasRoom forest.now at.now t }
+{
+    is_there(forest, at) && has_task(forest, at, t)
+}
+
 /// The identity directly under this one, with this number.
 fn below(alloc: Global, at: &Ident, n: u64) -> Option<Ident>
-    ensures { IfSome result (λ id. id ≡ child at.now n) }
+    ensures { IfSome result (IsBelow at.now n) }
 {
     if at.numbers().len() >= MOST_NUMBERS || !is_number(n) {
         return None;
     }
-    at.child(alloc, n).ok()
+    match at.child(alloc, n) {
+        Ok(id) => Some(id),
+        Err(_) => None,
+    }
 }
 
 /// An item of this number comes to the net at an identity.
@@ -107,14 +134,51 @@ fn grow_item(alloc: Global, forest: &mut Forest, n: u64, at: &Ident, t: usize) -
     requires { Grown forest.old n }
     ensures { IsTrue result → Grown forest.new (n + 1) }
 {
-    if !is_there(forest, at) || !has_task(forest, at, t) {
+    if !has_room(forest, at, t) {
         return false;
     }
-    let Some(id) = below(alloc, at, n) else {
-        return false;
-    };
+    match below(alloc, at, n) {
+        Some(id) => put_item(alloc, forest, n, at, id, t),
+        None => false,
+    }
+}
+
+fn put_item(alloc: Global, forest: &mut Forest, n: u64, at: &Ident, id: Ident, t: usize) -> bool
+    requires grown { Grown forest.old n }
+    requires room { HasRoom forest.old at.now t }
+    requires is_below { IsBelow at.now n id }
+    ensures { IsTrue result → Grown forest.new (n + 1) }
+{
     let node = Node::ready(alloc, id, t, Items::new(alloc));
-    forest.add_item(at, node).is_ok()
+    match forest.add_item(at, node) {
+        Ok(()) => true,
+        Err(_) => false,
+    }
+}
+
+fn case_number(id: &[u64]) -> u64
+    requires { 1 ≤ length id.now }
+    ensures { result ≡ case_number id.now }
+{
+    id[0]
+}
+
+fn is_case(id: &[u64]) -> bool
+    ensures { result ≡ is_case_ident id.now }
+{
+    id.len() == 1
+}
+
+fn case_stands(forest: &Forest, n: u64) -> bool
+    ensures { result ≡ is_some (case_at n forest.now.cases) }
+{
+    forest.case(n).is_some()
+}
+
+fn item_stands(forest: &Forest, at: &Ident) -> bool
+    ensures { result ≡ is_some (item_of forest.now at.now) }
+{
+    forest.item(at).is_some()
 }
 
 /// A case or an item stands at the identity.
@@ -122,11 +186,13 @@ fn is_target(forest: &Forest, at: &Ident) -> bool
     ensures { IsTrue result → TargetStands forest.now at.now }
 {
     let numbers = at.numbers();
-    if numbers.len() == 1 {
-        forest.case(numbers[0]).is_some()
-    } else {
-        forest.item(at).is_some()
+    if numbers.is_empty() {
+        return false;
     }
+    if is_case(numbers) {
+        return case_stands(forest, case_number(numbers));
+    }
+    item_stands(forest, at)
 }
 
 /// A run of this number comes to the case or item at an identity.
@@ -137,40 +203,43 @@ fn grow_run(alloc: Global, forest: &mut Forest, n: u64, at: &Ident) -> bool
     if !is_there(forest, at) || !is_target(forest, at) || forest.is_busy(at) {
         return false;
     }
-    let Some(id) = below(alloc, at, n) else {
-        return false;
-    };
+    match below(alloc, at, n) {
+        Some(id) => put_run(alloc, forest, n, at, id),
+        None => false,
+    }
+}
+
+fn put_run(alloc: Global, forest: &mut Forest, n: u64, at: &Ident, id: Ident) -> bool
+    requires grown { Grown forest.old n }
+    requires there { is_some (part_at forest.old at.now) ≡ true }
+    requires target { TargetStands forest.old at.now }
+    requires idle { is_some (hung_at forest.old at.now) ≡ false }
+    requires is_below { IsBelow at.now n id }
+    ensures { IsTrue result → Grown forest.new (n + 1) }
+{
     if is_there(forest, &id) {
         return false;
     }
-    let Ok(run) = Box::new(alloc, Run::begin(id, Items::new(alloc))) else {
-        return false;
-    };
-    forest.add_run(at, run);
-    true
+    let run = Run::begin(id, Items::new(alloc));
+    match Box::new(alloc, run) {
+        Ok(run) => {
+            forest.add_run(at, run);
+            true
+        }
+        Err(_) => false,
+    }
 }
 
-/// A net of so many tasks comes to the item at an identity.
-fn grow_item_net(alloc: Global, forest: &mut Forest, n: u64, at: &Ident, tasks: usize) -> bool
-    requires { Grown forest.old n }
-    ensures { IsTrue result → Grown forest.new (n + 1) }
+/// A net without items in a box.
+fn boxed_net(alloc: Global, tasks: usize) -> Option<Box<NetState>>
+    ensures { IfSome result (λ net. (nodes net.value ≡ []) × IsBoxedNet net.value) }
 {
-    let Some(net) = new_net(alloc, tasks) else {
-        return false;
-    };
-    let Ok(net) = Box::new(alloc, net) else {
-        return false;
-    };
-    if !has_bare_item(forest, at) {
-        return false;
-    }
-    forest.attach_item_net(at, net);
-    true
+    Box::new(alloc, new_net(alloc, tasks)?).ok()
 }
 
 /// An item without a net stands at the identity.
 fn has_bare_item(forest: &Forest, at: &Ident) -> bool
-    ensures { IsTrue result → IsSome (item_of forest.now at.now) × (net_of_item (item_of forest.now at.now) ≡ None) }
+    ensures { IsTrue result → IsBareItem forest.now at.now }
 {
     match forest.item(at) {
         Some(node) => node.net.is_none(),
@@ -180,9 +249,7 @@ fn has_bare_item(forest: &Forest, at: &Ident) -> bool
 
 /// A run without a net stands at the identity.
 pub fn has_bare_run(forest: &Forest, at: &Ident) -> bool
-    ensures stands { IsTrue result → IsSome (run_of forest.now at.now) }
-    ensures vacant { IsTrue result → net_of_run (run_of forest.now at.now) ≡ None }
-    ensures alone { IsTrue result → IsSomeAnd (run_of forest.now at.now) HasNoNet }
+    ensures { IsTrue result → IsBareRun forest.now at.now }
 {
     match forest.run(at) {
         Some(run) => run.net.is_none(),
@@ -190,20 +257,32 @@ pub fn has_bare_run(forest: &Forest, at: &Ident) -> bool
     }
 }
 
+/// A net of so many tasks comes to the item at an identity.
+fn grow_item_net(alloc: Global, forest: &mut Forest, n: u64, at: &Ident, tasks: usize) -> bool
+    requires { Grown forest.old n }
+    ensures { IsTrue result → Grown forest.new (n + 1) }
+{
+    if !has_bare_item(forest, at) {
+        return false;
+    }
+    let Some(net) = boxed_net(alloc, tasks) else {
+        return false;
+    };
+    forest.attach_item_net(at, net);
+    true
+}
+
 /// A net of one task comes to the run at an identity.
 fn grow_run_net(alloc: Global, forest: &mut Forest, n: u64, at: &Ident) -> bool
     requires { Grown forest.old n }
     ensures { IsTrue result → Grown forest.new (n + 1) }
 {
-    let Some(net) = new_net(alloc, 1) else {
-        return false;
-    };
-    let Ok(net) = Box::new(alloc, net) else {
-        return false;
-    };
     if !has_bare_run(forest, at) {
         return false;
     }
+    let Some(net) = boxed_net(alloc, 1) else {
+        return false;
+    };
     forest.attach_run_net(at, net);
     true
 }
