@@ -1,5 +1,5 @@
 // A net of case 1 at which a test works, step by step.
-use crate::flat::{are_before, may_change};
+use crate::flat::{are_drawn, may_change};
 use crate::nets::{spec_of, task_called, top_of};
 use crate::values::{Give, row_of, value_of};
 use std::alloc::Global;
@@ -147,7 +147,7 @@ fn adds(alloc: Global, desk: &mut Desk, name: &str, give: Give, want: Want) -> b
     if desk.next < 1 || !may_change(net, &desk.state, &desk.at, t) {
         return false;
     }
-    if !are_before(&desk.state.items[t], &desk.at, desk.next) {
+    if !are_drawn(&desk.state, &desk.at, t, desk.next) {
         return false;
     }
     match add(

@@ -2,7 +2,7 @@
 ghost use Rattle.std.specs.Prelude.{◌≡◌, ◌+◌, ◌^◌, ◌<◌, IsTrue, length, nat_lt};
 ghost use Rattle.std.specs.List.{list_all};
 ghost use Rattle.yw_state.specs.Identity.{is_child};
-ghost use Rattle.yw_task.specs.Items.{AreBefore};
+ghost use Rattle.yw_task.specs.Items.{AreBefore, row_of};
 ghost use Rattle.yw_task_tests.specs.Flat.{MayChange, are_flat, ascends, comes_before, is_before, is_flat_item};
 ghost use Rattle.yw_tree.specs.Boxed.{IsBoxedNet};
 ghost use Rattle.yw_tree.specs.declared.Node.{out-Node};
@@ -89,10 +89,27 @@ fn all_before(nodes: &[Node], at: &Ident, n: u64) -> bool
 }
 
 /// The items have the net's identity with a number below this one.
-pub fn are_before(nodes: &[Node], at: &Ident, n: u64) -> bool
+fn are_before(nodes: &[Node], at: &Ident, n: u64) -> bool
     ensures { IsTrue result → AreBefore at.now n nodes.now }
 {
     all_before(nodes, at, n)
+}
+
+/// The items of a task.
+fn row_of(state: &NetState, t: usize) -> &[Node]
+    ensures { result.now ≡ row_of state.now t }
+{
+    match state.items.get(t) {
+        Some(list) => list.as_slice(),
+        None => &[],
+    }
+}
+
+/// The items of a task have the net's identity with a number below this one.
+pub fn are_drawn(state: &NetState, at: &Ident, t: usize, n: u64) -> bool
+    ensures { IsTrue result → AreBefore at.now n (row_of state.now t) }
+{
+    are_before(row_of(state, t), at, n)
 }
 
 /// A task of the net may be entered by its number, as far as the boxes show it.

@@ -26,7 +26,9 @@ const ANN: Act = Act::Start(0, "ann");
 /// Ann has completed the first item, which makes nothing.
 const BY_ANN: Act = Act::Complete(0, "ann", &[], &[]);
 
-static ROWS: [Row; 17] = [
+const ROW_COUNT: usize = 17;
+
+static ROWS: [Row; ROW_COUNT] = [
     // Two tasks in turn: the second can't be entered first, and no task twice.
     (
         Doc::Seq,
@@ -379,6 +381,17 @@ fn all_go(alloc: Global, desk: &mut Desk, steps: &[Step]) -> bool {
     true
 }
 
+fn row_at(k: usize) -> Option<&'static Row> {
+    ROWS.get(k)
+}
+
+fn plays_row(alloc: Global, k: usize) -> bool {
+    match row_at(k) {
+        Some(row) => plays(alloc, row),
+        None => false,
+    }
+}
+
 fn plays(alloc: Global, row: &Row) -> bool {
     match desk_of(alloc, text_of(row.0), row.1) {
         Some(mut desk) => {
@@ -390,7 +403,7 @@ fn plays(alloc: Global, row: &Row) -> bool {
 
 #[test]
 fn rows_are_played(rt: HostRuntime) {
-    for (k, row) in ROWS.iter().enumerate() {
-        assert!(rt; plays(rt.alloc(), row), "row {k}");
+    for k in 0..ROW_COUNT {
+        assert!(rt; plays_row(rt.alloc(), k), "row {k}");
     }
 }
