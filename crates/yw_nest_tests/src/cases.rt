@@ -93,7 +93,8 @@ pub fn spec(alloc: Global) -> Option<Spec>
 pub fn int_row(alloc: Global, n: i64, text: &str) -> Option<Row> {
     let mut row = Items::new(alloc);
     row.push(Value::Int(n)).ok()?;
-    row.push(Value::Text(Text::copy_of(alloc, text).ok()?)).ok()?;
+    row.push(Value::Text(Text::copy_of(alloc, text).ok()?))
+        .ok()?;
     Some(row)
 }
 

@@ -39,10 +39,10 @@ item_boxed t n h =
     let no_run = is_nothing (out-Node n).run p.1 in
     subst IsBoxedNode (roll-out-Node n)
     (made_node AtNet AtNode AtRun (out-Node n)
-      (subst (λ o. AreChildren (out-Node n).id (net_ids o ++ run_ids (out-Node n).run)) (sym no_net)
-        (subst (λ o. AreChildren (out-Node n).id ([] ++ run_ids o)) (sym no_run) (tt, tt)))
-      (subst (Held IsBoxedNet) (sym no_net) tt)
-      (subst (Held IsBoxedRun) (sym no_run) tt))
+    (subst (λ o. AreChildren (out-Node n).id (net_ids o ++ run_ids (out-Node n).run)) (sym no_net)
+    (subst (λ o. AreChildren (out-Node n).id ([] ++ run_ids o)) (sym no_run) (tt, tt)))
+    (subst (Held IsBoxedNet) (sym no_net) tt)
+    (subst (Held IsBoxedRun) (sym no_run) tt))
 
 -- ---- a list
 
@@ -69,9 +69,10 @@ rows_are t [] h = (tt, tt)
 rows_are t (v ∷ vs) h =
     let p = and_parts (list_all (is_flat_item t) v.items && ascends v.items) (are_flat (t + 1) vs) h in
     let q = and_parts (list_all (is_flat_item t) v.items) (ascends v.items) p.0 in
-    let r = rows_are (t + 1) vs p.1 in
-    ((tasks_are t v.items q.0, to_test (is_sorted lexical (map head v.items)) (sym (sorted_is v.items) ∙ q.1), r.0),
-     Each-append IsBoxedNode v.items (row_nodes vs) (each_boxed t v.items q.0) r.1)
+    let r = rows_are (t + 1) vs p.1 in (
+      (tasks_are t v.items q.0, to_test (is_sorted lexical (map head v.items)) (sym (sorted_is v.items) ∙ q.1), r.0),
+      Each-append IsBoxedNode v.items (row_nodes vs) (each_boxed t v.items q.0) r.1,
+    )
 
 pub flat_boxed : (s : NetState) → are_flat 0 (out-NetState s).items.items ≡ true → IsBoxedNet s
 flat_boxed s h =

@@ -204,7 +204,12 @@ fn completes(
     let (Some(t), Ok(who)) = (task_called(net, name), Name::read(alloc, item.1)) else {
         return false;
     };
-    let Some(node) = desk.state.items.get_mut(t).and_then(|list| list.get_mut(item.0)) else {
+    let Some(node) = desk
+        .state
+        .items
+        .get_mut(t)
+        .and_then(|list| list.get_mut(item.0))
+    else {
         return false;
     };
     if node.task >= net.tasks.len() {

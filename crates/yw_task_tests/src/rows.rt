@@ -26,9 +26,7 @@ const ANN: Act = Act::Start(0, "ann");
 /// Ann has completed the first item, which makes nothing.
 const BY_ANN: Act = Act::Complete(0, "ann", &[], &[]);
 
-const ROW_COUNT: usize = 17;
-
-static ROWS: [Row; ROW_COUNT] = [
+static TURNS: [Row; 2] = [
     // Two tasks in turn: the second can't be entered first, and no task twice.
     (
         Doc::Seq,
@@ -60,6 +58,9 @@ static ROWS: [Row; ROW_COUNT] = [
         ],
         (&[0, 1, 0], &[], &[]),
     ),
+];
+
+static CHOICES: [Row; 2] = [
     // An XOR-join takes from the place that is chosen, and from no other.
     (
         Doc::Xor,
@@ -69,7 +70,11 @@ static ROWS: [Row; ROW_COUNT] = [
             ("s", Act::Exit, Want::LeadsTo(&[2, 3])),
             ("x", ALL, Want::Breaks(Rule::NotEnabled, "")),
             ("x", MARKED, Want::Breaks(Rule::NotEnabled, "")),
-            ("x", Act::Enter(Taken::One(0)), Want::Breaks(Rule::NotEnabled, "")),
+            (
+                "x",
+                Act::Enter(Taken::One(0)),
+                Want::Breaks(Rule::NotEnabled, ""),
+            ),
             ("x", Act::Enter(Taken::One(2)), Want::Makes(1)),
         ],
         (&[0, 0, 0, 1], &[(1, 0, "1.3", Stage::Ready, &[])], &[]),
@@ -84,6 +89,9 @@ static ROWS: [Row; ROW_COUNT] = [
         ],
         (&[0, 0, 1, 0], &[(1, 0, "1.3", Stage::Ready, &[])], &[]),
     ),
+];
+
+static WAITING: [Row; 2] = [
     // An OR-join waits while q is active; k removes q, and one of two tokens in d1 stays.
     (
         Doc::Waits,
@@ -105,16 +113,76 @@ static ROWS: [Row; ROW_COUNT] = [
             &[],
         ),
     ),
+    // An OR-split leads to each place whose condition holds; the OR-join waits for the second token.
+    (
+        Doc::Splits,
+        &[Give::Int(20)],
+        &[
+            ("s", ALL, Want::Makes(1)),
+            ("s", Act::Exit, Want::LeadsTo(&[2, 3])),
+            ("p", ALL, Want::Makes(1)),
+            ("p", Act::Exit, Want::LeadsTo(&[5])),
+            ("j", MARKED, Want::Breaks(Rule::OrWaits, "")),
+            ("q", ALL, Want::Makes(1)),
+            ("q", Act::Exit, Want::LeadsTo(&[6])),
+            ("j", MARKED, Want::Makes(1)),
+        ],
+        (
+            &[0, 0, 0, 0, 0, 0, 0, 0],
+            &[(4, 0, "1.5", Stage::Ready, &[])],
+            &[Give::Int(20)],
+        ),
+    ),
+];
+
+static LEADING: [Row; 2] = [
+    // To the default where none does.
+    (
+        Doc::Splits,
+        &[Give::Int(0)],
+        &[
+            ("s", ALL, Want::Makes(1)),
+            ("s", Act::Exit, Want::LeadsTo(&[4])),
+        ],
+        (&[0, 0, 0, 0, 1, 0, 0, 0], &[], &[Give::Int(0)]),
+    ),
+    // The removal set is emptied before the token comes.
+    (
+        Doc::Removes,
+        &[],
+        &[
+            ("s", ALL, Want::Makes(1)),
+            ("s", Act::Exit, Want::LeadsTo(&[2, 3])),
+            ("a", ALL, Want::Makes(1)),
+            ("a", Act::Exit, Want::LeadsTo(&[2])),
+        ],
+        (&[0, 0, 1, 0], &[], &[]),
+    ),
+];
+
+static MAKING: [Row; 2] = [
     // Two items come for the list, one is added, and the next is refused.
     (
         Doc::Many,
         &[Give::Texts(&["p", "q"])],
         &[
-            ("m", Act::Add(Give::Text("r")), Want::Breaks(Rule::Stage, "")),
+            (
+                "m",
+                Act::Add(Give::Text("r")),
+                Want::Breaks(Rule::Stage, ""),
+            ),
             ("m", ALL, Want::Makes(2)),
-            ("m", Act::Add(Give::Int(7)), Want::Breaks(Rule::BadData, "value")),
+            (
+                "m",
+                Act::Add(Give::Int(7)),
+                Want::Breaks(Rule::BadData, "value"),
+            ),
             ("m", Act::Add(Give::Text("r")), Want::Done),
-            ("m", Act::Add(Give::Text("s")), Want::Breaks(Rule::MaxReached, "")),
+            (
+                "m",
+                Act::Add(Give::Text("s")),
+                Want::Breaks(Rule::MaxReached, ""),
+            ),
             ("m", ANN, Want::Done),
             ("m", BY_ANN, Want::Done),
         ],
@@ -140,7 +208,11 @@ static ROWS: [Row; ROW_COUNT] = [
             ("m", Act::Start(1, "ann"), Want::Done),
             ("m", Act::Complete(1, "ann", &[], &[]), Want::Done),
             ("m", Act::Exit, Want::LeadsTo(&[2])),
-            ("m", Act::Add(Give::Text("s")), Want::Breaks(Rule::Stage, "")),
+            (
+                "m",
+                Act::Add(Give::Text("s")),
+                Want::Breaks(Rule::Stage, ""),
+            ),
             ("z", ALL, Want::Makes(1)),
         ],
         (
@@ -149,6 +221,9 @@ static ROWS: [Row; ROW_COUNT] = [
             &[Give::Texts(&["p", "q"])],
         ),
     ),
+];
+
+static COUNTING: [Row; 3] = [
     // Too few elements, too many, and then enough: no number was used.
     (
         Doc::Many,
@@ -157,7 +232,11 @@ static ROWS: [Row; ROW_COUNT] = [
             ("m", ALL, Want::Breaks(Rule::Count, "")),
             ("m", Act::Set(Give::Texts(&["p"])), Want::Done),
             ("m", ALL, Want::Breaks(Rule::Count, "")),
-            ("m", Act::Set(Give::Texts(&["p", "q", "r", "s"])), Want::Done),
+            (
+                "m",
+                Act::Set(Give::Texts(&["p", "q", "r", "s"])),
+                Want::Done,
+            ),
             ("m", ALL, Want::Breaks(Rule::Count, "")),
             ("m", Act::Set(Give::Texts(&[])), Want::Done),
         ],
@@ -172,7 +251,11 @@ static ROWS: [Row; ROW_COUNT] = [
             ("m", ALL, Want::Breaks(Rule::Numbers, "")),
             ("m", Act::Draw(0xffff_ffff_fffe), Want::Done),
             ("m", ALL, Want::Makes(2)),
-            ("m", Act::Add(Give::Text("r")), Want::Breaks(Rule::Numbers, "")),
+            (
+                "m",
+                Act::Add(Give::Text("r")),
+                Want::Breaks(Rule::Numbers, ""),
+            ),
         ],
         (
             &[0, 0, 0],
@@ -183,6 +266,16 @@ static ROWS: [Row; ROW_COUNT] = [
             &[Give::Texts(&["p", "q"])],
         ),
     ),
+    // A list is undefined only where the net lacks its value, as none does that was launched.
+    (
+        Doc::Many,
+        &[],
+        &[("m", ALL, Want::Breaks(Rule::Mapping, "each"))],
+        (&[1, 0, 0], &[], &[]),
+    ),
+];
+
+static DIVIDING: [Row; 2] = [
     // A division by zero is refused where it would be assigned; bob's item is bob's.
     (
         Doc::Divides,
@@ -228,48 +321,9 @@ static ROWS: [Row; ROW_COUNT] = [
         ],
         (&[0, 1], &[], &[Give::Int(20)]),
     ),
-    // The removal set is emptied before the token comes.
-    (
-        Doc::Removes,
-        &[],
-        &[
-            ("s", ALL, Want::Makes(1)),
-            ("s", Act::Exit, Want::LeadsTo(&[2, 3])),
-            ("a", ALL, Want::Makes(1)),
-            ("a", Act::Exit, Want::LeadsTo(&[2])),
-        ],
-        (&[0, 0, 1, 0], &[], &[]),
-    ),
-    // An OR-split leads to each place whose condition holds; the OR-join waits for the second token.
-    (
-        Doc::Splits,
-        &[Give::Int(20)],
-        &[
-            ("s", ALL, Want::Makes(1)),
-            ("s", Act::Exit, Want::LeadsTo(&[2, 3])),
-            ("p", ALL, Want::Makes(1)),
-            ("p", Act::Exit, Want::LeadsTo(&[5])),
-            ("j", MARKED, Want::Breaks(Rule::OrWaits, "")),
-            ("q", ALL, Want::Makes(1)),
-            ("q", Act::Exit, Want::LeadsTo(&[6])),
-            ("j", MARKED, Want::Makes(1)),
-        ],
-        (
-            &[0, 0, 0, 0, 0, 0, 0, 0],
-            &[(4, 0, "1.5", Stage::Ready, &[])],
-            &[Give::Int(20)],
-        ),
-    ),
-    // To the default where none does.
-    (
-        Doc::Splits,
-        &[Give::Int(0)],
-        &[
-            ("s", ALL, Want::Makes(1)),
-            ("s", Act::Exit, Want::LeadsTo(&[4])),
-        ],
-        (&[0, 0, 0, 0, 1, 0, 0, 0], &[], &[Give::Int(0)]),
-    ),
+];
+
+static GIVING: [Row; 2] = [
     // What is undefined is named; where it is defined, each item is given it.
     (
         Doc::Undefined,
@@ -283,8 +337,16 @@ static ROWS: [Row; ROW_COUNT] = [
             ("g", ALL, Want::Makes(1)),
             ("h", ALL, Want::Makes(2)),
             ("s", Act::Set(Give::Int(0)), Want::Done),
-            ("h", Act::Add(Give::Text("x")), Want::Breaks(Rule::BadData, "value")),
-            ("h", Act::Add(Give::Int(9)), Want::Breaks(Rule::Mapping, "share")),
+            (
+                "h",
+                Act::Add(Give::Text("x")),
+                Want::Breaks(Rule::BadData, "value"),
+            ),
+            (
+                "h",
+                Act::Add(Give::Int(9)),
+                Want::Breaks(Rule::Mapping, "share"),
+            ),
             ("s", Act::Set(Give::Int(-2)), Want::Done),
             ("h", Act::Add(Give::Int(9)), Want::Done),
         ],
@@ -298,13 +360,6 @@ static ROWS: [Row; ROW_COUNT] = [
             ],
             &[Give::Int(-2), Give::Two(3, 4)],
         ),
-    ),
-    // A list is undefined only where the net lacks its value, as none does that was launched.
-    (
-        Doc::Many,
-        &[],
-        &[("m", ALL, Want::Breaks(Rule::Mapping, "each"))],
-        (&[1, 0, 0], &[], &[]),
     ),
     // What two of three items made is summed as the task exits: 4 and -1.
     (
@@ -326,11 +381,7 @@ static ROWS: [Row; ROW_COUNT] = [
             ),
             ("m", Act::Exit, Want::LeadsTo(&[1])),
         ],
-        (
-            &[0, 1],
-            &[],
-            &[Give::Texts(&["a", "b", "c"]), Give::Int(3)],
-        ),
+        (&[0, 1], &[], &[Give::Texts(&["a", "b", "c"]), Give::Int(3)]),
     ),
 ];
 
@@ -381,29 +432,65 @@ fn all_go(alloc: Global, desk: &mut Desk, steps: &[Step]) -> bool {
     true
 }
 
-fn row_at(k: usize) -> Option<&'static Row> {
-    ROWS.get(k)
-}
-
-fn plays_row(alloc: Global, k: usize) -> bool {
-    match row_at(k) {
-        Some(row) => plays(alloc, row),
-        None => false,
-    }
-}
-
 fn plays(alloc: Global, row: &Row) -> bool {
     match desk_of(alloc, text_of(row.0), row.1) {
-        Some(mut desk) => {
-            all_go(alloc, &mut desk, row.2) && is_end(alloc, &desk.state, &row.3)
-        }
+        Some(mut desk) => { all_go(alloc, &mut desk, row.2) && is_end(alloc, &desk.state, &row.3) }
         None => false,
     }
 }
 
 #[test]
-fn rows_are_played(rt: HostRuntime) {
-    for k in 0..ROW_COUNT {
-        assert!(rt; plays_row(rt.alloc(), k), "row {k}");
+fn tasks_go_in_turn(rt: HostRuntime) {
+    for (k, row) in TURNS.iter().enumerate() {
+        assert!(rt; plays(rt.alloc(), row), "row {k}");
+    }
+}
+
+#[test]
+fn a_join_takes_from_one_place(rt: HostRuntime) {
+    for (k, row) in CHOICES.iter().enumerate() {
+        assert!(rt; plays(rt.alloc(), row), "row {k}");
+    }
+}
+
+#[test]
+fn a_join_waits(rt: HostRuntime) {
+    for (k, row) in WAITING.iter().enumerate() {
+        assert!(rt; plays(rt.alloc(), row), "row {k}");
+    }
+}
+
+#[test]
+fn splits_and_removals_lead_on(rt: HostRuntime) {
+    for (k, row) in LEADING.iter().enumerate() {
+        assert!(rt; plays(rt.alloc(), row), "row {k}");
+    }
+}
+
+#[test]
+fn items_come_and_are_added(rt: HostRuntime) {
+    for (k, row) in MAKING.iter().enumerate() {
+        assert!(rt; plays(rt.alloc(), row), "row {k}");
+    }
+}
+
+#[test]
+fn items_are_counted_and_numbered(rt: HostRuntime) {
+    for (k, row) in COUNTING.iter().enumerate() {
+        assert!(rt; plays(rt.alloc(), row), "row {k}");
+    }
+}
+
+#[test]
+fn what_is_made_is_assigned(rt: HostRuntime) {
+    for (k, row) in DIVIDING.iter().enumerate() {
+        assert!(rt; plays(rt.alloc(), row), "row {k}");
+    }
+}
+
+#[test]
+fn what_is_given_is_defined(rt: HostRuntime) {
+    for (k, row) in GIVING.iter().enumerate() {
+        assert!(rt; plays(rt.alloc(), row), "row {k}");
     }
 }

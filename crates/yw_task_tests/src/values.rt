@@ -23,9 +23,7 @@ fn texts_of(alloc: Global, texts: &[&str]) -> Option<TextList> {
 }
 
 fn ints_of(alloc: Global, ints: &[i64]) -> Option<Value> {
-    Some(Value::Ints(Items::from_vec(
-        Vec::from_slice(alloc, ints).ok()?,
-    )))
+    Some(Value::Ints(Items::from_vec(Vec::from_slice(alloc, ints).ok()?)))
 }
 
 pub fn value_of(alloc: Global, give: Give) -> Option<Value> {
@@ -60,7 +58,8 @@ pub fn is_value(value: &Value, give: Give) -> bool {
         (Value::Text(text), Give::Text(want)) => text.as_str() == want,
         (Value::Texts(list), Give::Texts(texts)) => are_texts(list.as_slice(), texts),
         (Value::Ints(list), Give::One(want)) => list.as_slice() == [want].as_slice(),
-        (Value::Ints(list), Give::Two(first, second)) => list.as_slice() == [first, second].as_slice(),
+        (Value::Ints(list), Give::Two(first, second)) => list.as_slice()
+            == [first, second].as_slice(),
         _ => false,
     }
 }

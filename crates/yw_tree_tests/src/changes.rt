@@ -202,7 +202,11 @@ fn is_below(alloc: Global, forest: &Forest, at: &Ident, n: u64) -> bool {
 #[test]
 fn parts_come_at_each_depth(rt: HostRuntime) {
     for row in &DEPTHS {
-        assert!(rt; comes(rt.alloc(), row.0, row.1) == row.2, "under {} numbers", row.1);
+        assert!(rt;
+            comes(rt.alloc(), row.0, row.1) == row.2,
+            "under {} numbers",
+            row.1
+        );
     }
 }
 
