@@ -3,4 +3,16 @@
 #![tactic(auto)]
 
 #[cfg(test)]
+mod desk;
+#[cfg(test)]
 mod exits;
+#[cfg(test)]
+mod flat;
+#[cfg(test)]
+mod items;
+#[cfg(test)]
+mod nets;
+#[cfg(test)]
+mod rows;
+#[cfg(test)]
+mod values;

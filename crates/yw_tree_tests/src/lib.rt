@@ -3,7 +3,11 @@
 #![tactic(auto)]
 
 #[cfg(test)]
+mod changes;
+#[cfg(test)]
 mod depths;
+#[cfg(test)]
+mod grown;
 #[cfg(test)]
 mod kinds;
 #[cfg(test)]

@@ -4,7 +4,7 @@ use yw_base::{Ident, Items};
 use yw_state::Checks;
 use yw_tree::{Case, Forest, NetState, Node, Run};
 
-const NO_CHECKS: Checks = Checks {
+pub const NO_CHECKS: Checks = Checks {
     pre: false,
     select: false,
     post: false,

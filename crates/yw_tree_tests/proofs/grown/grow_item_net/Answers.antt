@@ -1,0 +1,5 @@
+use Rattle.yw_tree_tests.proofs.Growing.{grows_net}
+use Rattle.yw_tree_tests.proofs.grown.grow_item_net.Goals as goal
+
+pub returns : goal.returns
+returns c = λ yes. grows_net c.args.forest.now c.attach_item_net.new.self c.args.n c.args.at.now _ c.requires c.attach_item_net.ensures.sites c.attach_item_net.ensures.kept
