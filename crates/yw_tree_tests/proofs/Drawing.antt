@@ -1,19 +1,18 @@
 -- What comes to a forest under the number that is drawn next leaves all numbers below the one behind it.
-use Rattle.std.proofs.Common.{inl, inr, Bool, List, None, Option, Some, [], ap, arith, refl, subst, sym, true, ℕ, ◌++◌, ◌+◌, ◌<◌, ◌∙◌, ◌∷◌, ◌≡◌, ◌&&◌}
+use Rattle.std.proofs.Common.{inl, inr, Bool, List, Option, Some, [], ap, arith, refl, subst, sym, true, ℕ, ◌+◌, ◌<◌, ◌∙◌, ◌∷◌, ◌≡◌, ◌&&◌}
 use Rattle.std.proofs.lemmas.Bool.{and_parts, lt-ltb, ltb-true}
 use Rattle.std.specs.List.{list_all}
 use Rattle.std.specs.Prelude.{is_some, nat_lt}
 use Rattle.yw_state.proofs.MapLemmas.{by_name, insert_stands, update_stands}
 use Rattle.yw_state.proofs.Tests.{there}
 use Rattle.yw_state.specs.Identity.{Ident, child}
-use Rattle.yw_state.specs.Map.{get, insert, update}
-use Rattle.yw_state.specs.State.{Site, Sites}
+use Rattle.yw_state.specs.Map.{get, insert}
+use Rattle.yw_state.specs.State.{Site}
 use Rattle.yw_tree.specs.Becomes.{Gets, GetsNet}
 use Rattle.yw_tree.specs.Coming.{AreDrawn}
-use Rattle.yw_tree.specs.Forest.{IsForest, sites_of}
+use Rattle.yw_tree.specs.Forest.{sites_of}
 use Rattle.yw_tree.specs.declared.Forest.{Forest}
 use Rattle.yw_tree.specs.declared.NetState.{NetState}
-use Rattle.yw_tree_tests.specs.Grown.{Grown}
 
 abbrev below : ℕ → Ident → Bool
 below n j = list_all (λ k. nat_lt k n) j

@@ -1,14 +1,12 @@
 -- What grows stays well boxed, with numbers below the one that is drawn next.
-use Rattle.std.proofs.Common.{List, None, Option, Some, [], ap, arith, false, length, refl, subst, suc, sym, true, ℕ, ◌++◌, ◌+◌, ◌<◌, ◌∙◌, ◌∷◌, ◌≡◌, ◌≤◌}
+use Rattle.std.proofs.Common.{List, None, Option, Some, [], ap, arith, false, length, refl, subst, sym, true, ℕ, ◌++◌, ◌+◌, ◌∙◌, ◌∷◌, ◌≡◌, ◌≤◌}
 use Rattle.std.proofs.lemmas.Bool.{eqb-true}
 use Rattle.std.specs.List.{list_all}
 use Rattle.std.specs.Prelude.{IsSomeAnd, T, is_some, nat_lt}
-use Rattle.yw_base.specs.Identity.{is_identity}
 use Rattle.yw_sites.proofs.Prefix.{is_child_of}
 use Rattle.yw_sites.specs.Idents.{AreChildren}
 use Rattle.yw_state.proofs.Tests.{by_test}
 use Rattle.yw_state.specs.Identity.{Ident, child, is_case_ident, is_child, parent}
-use Rattle.yw_state.specs.Map.{get}
 use Rattle.yw_state.specs.State.{Site}
 use Rattle.yw_state.specs.Values.{Row}
 use Rattle.yw_state.specs.declared.part.Checks.{Checks}
@@ -22,15 +20,14 @@ use Rattle.yw_tree.specs.Begins.{BeginsItem, BeginsRun}
 use Rattle.yw_tree.specs.Boxed.{IsBoxedCase, IsBoxedNet}
 use Rattle.yw_tree.specs.Coming.{ComesAfter, HasTask, ItemMayCome, RunMayCome, TargetStands}
 use Rattle.yw_tree.specs.Entries.{nodes}
-use Rattle.yw_tree.specs.Forest.{IsForest, sites_of}
+use Rattle.yw_tree.specs.Forest.{IsForest}
 use Rattle.yw_tree.specs.Places.{hung_at, net_at}
 use Rattle.yw_tree.specs.Spots.{part_at}
-use Rattle.yw_tree.specs.declared.Case.{Case}
 use Rattle.yw_tree.specs.declared.Forest.{Forest}
 use Rattle.yw_tree.specs.declared.NetState.{NetState}
 use Rattle.yw_tree.specs.declared.Node.{Node, out-Node}
 use Rattle.yw_tree.specs.declared.Run.{Run, out-Run}
-use Rattle.yw_tree_tests.proofs.Drawing.{below_child, below_more, drawn_gets, drawn_gets_net}
+use Rattle.yw_tree_tests.proofs.Drawing.{below_child, drawn_gets, drawn_gets_net}
 use Rattle.yw_tree_tests.specs.Grown.{Grown, HasRoom, IsBelow}
 
 -- an identity of another length than 2 is directly under no case

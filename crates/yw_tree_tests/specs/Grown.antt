@@ -1,5 +1,5 @@
 -- A forest that grows call by call.
-use Rattle.std.specs.Prelude.{◌≡◌, ◌<◌, ℕ, Bool, true, None, IsSome, IsSomeAnd, is_some}
+use Rattle.std.specs.Prelude.{◌≡◌, ◌<◌, ℕ, true, None, IsSome, IsSomeAnd, is_some}
 use Rattle.yw_base.specs.Identity.{is_identity, number_end}
 use Rattle.yw_state.specs.Identity.{Ident, child}
 use Rattle.yw_tree.specs.Coming.{AreDrawn, HasNoNet, HasTask}

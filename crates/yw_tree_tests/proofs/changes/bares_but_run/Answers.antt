@@ -1,4 +1,4 @@
-use Rattle.std.proofs.Common.{◌≡◌, ◌∙◌, ap, length, sym}
+use Rattle.std.proofs.Common.{◌∙◌, ap, length}
 use Rattle.yw_tree_tests.proofs.Growing.{parent_not_case}
 use Rattle.yw_tree_tests.proofs.changes.bares_but_run.Goals as goal
 

@@ -1,4 +1,3 @@
-use Rattle.std.proofs.Common.{refl}
 use Rattle.yw_tree_tests.proofs.Growing.{grows, may_come}
 use Rattle.yw_tree_tests.proofs.grown.put_item.Goals as goal
 
