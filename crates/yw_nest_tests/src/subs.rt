@@ -1,10 +1,11 @@
 // The child net of a composite task's item begins and ends.
-ghost use Rattle.std.specs.Prelude.{◌≡◌, ◌∷◌, [], IfSome, IsSome, IsTrue, slice_get};
+ghost use Rattle.std.specs.Prelude.{◌≡◌, ◌∷◌, [], IfSome, IsSome, IsTrue, None, slice_get};
 ghost use Rattle.std.specs.Option.{option_copied};
 ghost use Rattle.yw_nest.specs.Items.{SubMayEnd, SubMayStart};
 ghost use Rattle.yw_state.specs.Identity.{parent};
 ghost use Rattle.yw_state.specs.Nets.{child_net};
 ghost use Rattle.yw_tree.specs.Forest.{IsForest};
+ghost use Rattle.yw_tree.specs.Places.{net_at};
 ghost use Rattle.yw_tree.specs.declared.NetState.{out-NetState};
 ghost use Rattle.yw_tree.specs.declared.Node.{out-Node};
 ghost use Rattle.yw_within.specs.Within.{IsWithin};
@@ -40,6 +41,16 @@ fn is_composite(task: &Task) -> bool
     }
 }
 
+/// No net stands at the identity.
+fn is_bare(forest: &Forest, j: &Ident) -> bool
+    ensures { IsTrue result → net_at forest.now j.now ≡ None }
+{
+    match forest.net(j) {
+        Some(_) => false,
+        None => true,
+    }
+}
+
 /// The item at `j` is of a composite task of the specification and has no net; `outer` is the identity of the net in which it stands.
 fn may_start(forest: &Forest, spec: &Spec, outer: &Ident, j: &Ident) -> bool
     requires within { IsWithin spec.now }
@@ -55,7 +66,10 @@ fn may_start(forest: &Forest, spec: &Spec, outer: &Ident, j: &Ident) -> bool
     let Some(task) = task_of(net, node) else {
         return false;
     };
-    is_composite(task) && forest.net(j).is_none()
+    if !is_composite(task) || !is_bare(forest, j) {
+        return false;
+    }
+    true
 }
 
 /// A net of the specification stands at the item at `j`; `outer` is the identity of the net in which it stands.
