@@ -1,4 +1,3 @@
-use Rattle.std.proofs.Common.{refl}
 use Rattle.yw_tree_tests.proofs.Growing.{grows, may_come}
 use Rattle.yw_nest_tests.proofs.cases.put_item.Goals as goal
 
