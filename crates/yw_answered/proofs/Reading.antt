@@ -12,8 +12,7 @@ use Rattle.yw_expr.specs.declared.scope.Binding.{Binding}
 use Rattle.yw_model.proofs.Answering.{says}
 use Rattle.yw_model.proofs.Judging.{verdict_finds}
 use Rattle.yw_model.proofs.Lacking.{decided, follows, here}
-use Rattle.yw_model.proofs.Loading.{unbuilt_unfit}
-use Rattle.yw_model.specs.Accepted.{JudgesSaid, check_refusal, document_in, is_built_spec}
+use Rattle.yw_model.specs.Accepted.{JudgesSaid, check_refusal, document_in}
 use Rattle.yw_model.specs.Run.{CannotLack}
 use Rattle.yw_model.specs.Texts.{ReadsCondition, ReadsSpec, fault_text, reader}
 use Rattle.yw_read.specs.declared.raw.RawSpec.{RawSpec}
@@ -21,10 +20,9 @@ use Rattle.yw_read.specs.declared.raw.ReadFault.{ReadFault}
 use Rattle.yw_read.specs.declared.raw.ReadFault.TheVariants.{NotToml, Shape, Memory}
 use Rattle.yw_said.proofs.SomeSpec.{says_some}
 use Rattle.yw_spec.specs.declared.spec.Spec.{Spec}
-use Rattle.yw_state.proofs.Tests.{by_test}
 use Rattle.yw_state.specs.Broken.{placed, placeless}
 use Rattle.yw_state.specs.declared.rule.Refusal.{Refusal}
-use Rattle.yw_state.specs.declared.rule.Rule.TheVariants.{NotBuilt, SpecShape, SpecText}
+use Rattle.yw_state.specs.declared.rule.Rule.TheVariants.{SpecShape, SpecText}
 use Rattle.yw_answered.proofs.Parsing.{is_meant}
 use Rattle.yw_answered.specs.Answered.{ReadsAll}
 
@@ -35,13 +33,12 @@ module _ (text : List ℕ) where
   IsRead = (said : Result Spec Refusal) × ReadsSpec text said
 
   unfit : (said : Result RawSpec ReadFault) (refusal : Refusal) → document_in text ≡ said → JudgesSaid said (Some refusal) → IsRead
-  unfit said refusal is judged = (Err refusal, (Some refusal, subst (λ (d : Result RawSpec ReadFault). JudgesSaid d (Some refusal)) (sym is) judged, refl))
+  unfit said refusal is judged = (Err refusal, subst (λ (d : Result RawSpec ReadFault). JudgesSaid d (Some refusal)) (sym is) judged)
 
   accepted : (raw : RawSpec) → document_in text ≡ Ok raw → IsVerdict raw None → IsRead
   accepted raw is verdict =
-      by_test (is_built_spec raw)
-      (λ built. let some = says_some raw verdict in (Ok some.0, record { raw = raw; says = is; accepted = verdict; built = built; is_spec = some.1 }))
-      (λ unbuilt. (Err (placeless NotBuilt), unbuilt_unfit text raw is verdict unbuilt))
+      let some = says_some raw verdict in
+      (Ok some.0, record { raw = raw; says = is; accepted = verdict; is_spec = some.1 })
 
   judged : (raw : RawSpec) → document_in text ≡ Ok raw → (broken : Option Broken) → IsVerdict raw broken → IsRead
   judged raw is None verdict = accepted raw is verdict

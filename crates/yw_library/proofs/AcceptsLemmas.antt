@@ -38,7 +38,7 @@ document_said text said utf8 is = document text utf8 ∙ is
 
 -- what is wrong with what a text says is wrong with the text
 unfit_by : (text : List ℕ) (said : Result RawSpec ReadFault) (refusal : Refusal) → document_in text ≡ said → JudgesSaid said (Some refusal) → IsUnfit text refusal
-unfit_by text said refusal is judged = (Some refusal, subst (λ (d : Result RawSpec ReadFault). JudgesSaid d (Some refusal)) (sym is) judged, refl)
+unfit_by text said refusal is judged = subst (λ (d : Result RawSpec ReadFault). JudgesSaid d (Some refusal)) (sym is) judged
 
 pub unread-unfit : (A : Type 0) (text : List ℕ) (fault : ReadFault) → is_utf8 text ≡ true → reading.Answers {A = RawSpec} (Err fault) (spec_in text)
     → IfRefused {A = A} (Err (unread fault)) (IsUnfit text)

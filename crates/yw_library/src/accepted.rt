@@ -5,7 +5,6 @@ ghost use Rattle.yw_model.specs.Texts.{IsAccepted, IsUnfit};
 ghost use Rattle.yw_library.specs.Accepts.{IfRefused, unchecked, unread};
 
 use crate::LibraryFault;
-use crate::built::is_built_spec;
 use std::alloc::Global;
 use yw_base::Text;
 use yw_check::{CheckFault, check};
@@ -50,8 +49,7 @@ fn unchecked(fault: CheckFault) -> LibraryFault
     }
 }
 
-/// The specification that a text says, where it is accepted and uses what is built alone. Else the first rule
-/// that it breaks: `SpecText`, `SpecShape`, `SpecCheck` or `NotBuilt`.
+/// The specification that a text says, where it is accepted. Else the first rule that it breaks: `SpecText`, `SpecShape` or `SpecCheck`.
 pub fn accepted(alloc: Global, text: &str) -> Result<Spec, LibraryFault>
     ensures ok { IfOk result (IsAccepted text.now) }
     ensures refused { IfRefused result (IsUnfit text.now) }
@@ -60,10 +58,8 @@ pub fn accepted(alloc: Global, text: &str) -> Result<Spec, LibraryFault>
         Ok(raw) => raw,
         Err(fault) => return Err(unread(alloc, fault)),
     };
-    let built = is_built_spec(&raw);
     match check(alloc, raw) {
-        Ok(spec) if built => Ok(spec),
-        Ok(_) => Err(LibraryFault::Refused(placeless(alloc, Rule::NotBuilt))),
+        Ok(spec) => Ok(spec),
         Err(fault) => Err(unchecked(fault)),
     }
 }

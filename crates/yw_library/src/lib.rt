@@ -2,7 +2,6 @@
 #![tactic(auto)]
 
 mod accepted;
-mod built;
 mod copies;
 mod fault;
 mod items;

@@ -184,8 +184,8 @@ impl Library {
     /// `Refused` comes exactly where the text breaks a rule, with the first: `SpecText` where it is no TOML
     /// document; `SpecShape` where the document hasn't the shape of a specification, with the path of the first
     /// fault; `SpecCheck` where one of the twelve checks fails, with the first that does and what it names;
-    /// `NotBuilt` where it uses what isn't built; `SpecExists` where one of its name is loaded. `Memory` comes
-    /// only where no memory was left. An `Err` changes nothing. All this is so in each state with this library in it.
+    /// `SpecExists` where one of its name is loaded. `Memory` comes only where no memory was left. An `Err` changes
+    /// nothing. All this is so in each state with this library in it.
     /// The rules and their order are our own.
     pub fn load(&mut self, text: &str) -> Result<Name, LibraryFault>
         ensures ok { IfOk result (λ name. AlwaysLeads self.old (events.Load name text.now) self.new) }

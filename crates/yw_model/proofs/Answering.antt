@@ -23,12 +23,12 @@ use Rattle.yw_lines.specs.declared.word.Word.{Word}
 use Rattle.yw_lines.specs.declared.word.Word.TheVariants as words
 use Rattle.yw_model.specs.Accepted.{document_in}
 use Rattle.yw_base.specs.Spelling.{is_name}
-use Rattle.yw_lines.specs.Fields.{field, only_if, has_members, line_text_of, list_of, name_of, one_of, roles_of}
+use Rattle.yw_lines.specs.Fields.{any_value_of, field, givens_of, has_members, identity_of, line_text_of, list_of, name_of, one_of, only_if, roles_of}
 use Rattle.yw_state.specs.Allowed.{are_roles}
 use Rattle.yw_lines.specs.Lines.{line_limit}
 use Rattle.yw_lines.specs.Meaning.{meaning, text_meaning, value_meaning, word_meaning}
 use Rattle.yw_model.specs.Run.{built_words, CanBeAsked, Step, MeaningAnswers, Answers}
-use Rattle.yw_lines.specs.Shapes.{◌>>=◌, person_shape, load_shape}
+use Rattle.yw_lines.specs.Shapes.{◌>>=◌, add_shape, advance_shape, cancel_shape, complete_shape, enter_shape, launch_shape, load_shape, person_shape, start_shape}
 use Rattle.yw_lines.specs.Values.{each_of}
 use Rattle.yw_lines.specs.Words.{word_in}
 use Rattle.yw_state.specs.State.{State}
@@ -36,10 +36,17 @@ use Rattle.yw_lines.proofs.MeaningLemmas.{meaning-take}
 
 -- ---- what a line asks, as it is written
 
--- names are names, roles are roles, and a text is no longer than a line; no other command can be asked
+-- names are names, roles are roles, and a text is no longer than a line; no command can be asked whose word isn't built
 abbrev pub IsAsWritten : Command → Type 0
 IsAsWritten (commands.Person name roles) = (is_name name ≡ true) × (list_all is_name roles ≡ true) × (are_roles roles ≡ true)
 IsAsWritten (commands.Load toml) = nat_le (length toml) line_limit ≡ true
+IsAsWritten (commands.Launch spec values) = Unit {0}
+IsAsWritten (commands.Enter who net task) = Unit {0}
+IsAsWritten (commands.Start who j) = Unit {0}
+IsAsWritten (commands.Complete who j out) = Unit {0}
+IsAsWritten (commands.Add who net task value) = Unit {0}
+IsAsWritten (commands.Cancel net) = Unit {0}
+IsAsWritten (commands.Advance net) = Unit {0}
 IsAsWritten command = ⊥
 
 abbrev pub AsksAsWritten : Asked → Type 0
@@ -116,21 +123,60 @@ unfolding load_shape
 load_read d = bound (field line_text_of (codes "toml") d) _ (λ toml is.
     counted (has_members 2 d) _ (of_kind (λ text. nat_le (length text) line_limit) as_str (get (codes "toml") d) toml is))
 
+launch_read : (d : Data) → MayBeRead (launch_shape d)
+unfolding launch_shape
+launch_read d =
+    bound (field name_of (codes "spec") d) _ (λ spec named. bound (field givens_of (codes "data") d) _ (λ values is.
+    counted (has_members 3 d) _ tt))
+
+enter_read : (d : Data) → MayBeRead (enter_shape d)
+unfolding enter_shape
+enter_read d =
+    bound (field name_of (codes "who") d) _ (λ who named. bound (field identity_of (codes "case") d) _ (λ net is.
+    bound (field name_of (codes "task") d) _ (λ task called. counted (has_members 4 d) _ tt)))
+
+start_read : (d : Data) → MayBeRead (start_shape d)
+unfolding start_shape
+start_read d =
+    bound (field name_of (codes "who") d) _ (λ who named. bound (field identity_of (codes "item") d) _ (λ j is.
+    counted (has_members 3 d) _ tt))
+
+complete_read : (d : Data) → MayBeRead (complete_shape d)
+unfolding complete_shape
+complete_read d =
+    bound (field name_of (codes "who") d) _ (λ who named. bound (field identity_of (codes "item") d) _ (λ j is.
+    bound (field givens_of (codes "out") d) _ (λ out are. counted (has_members 4 d) _ tt)))
+
+add_read : (d : Data) → MayBeRead (add_shape d)
+unfolding add_shape
+add_read d =
+    bound (field name_of (codes "who") d) _ (λ who named. bound (field identity_of (codes "case") d) _ (λ net is.
+    bound (field name_of (codes "task") d) _ (λ task called. bound (field any_value_of (codes "value") d) _ (λ value given.
+    counted (has_members 5 d) _ tt))))
+
+cancel_read : (d : Data) → MayBeRead (cancel_shape d)
+unfolding cancel_shape
+cancel_read d = bound (field identity_of (codes "case") d) _ (λ net is. counted (has_members 2 d) _ tt)
+
+advance_read : (d : Data) → MayBeRead (advance_shape d)
+unfolding advance_shape
+advance_read d = bound (field identity_of (codes "case") d) _ (λ net is. counted (has_members 2 d) _ tt)
+
 word_read : (d : Data) (o : Option Word) → IsReadable (word_meaning built_words d o)
 word_read d None = tt
 word_read d (Some words.Person) = person_read d
 word_read d (Some words.Load) = load_read d
 word_read d (Some words.Rule) = tt
-word_read d (Some words.Launch) = tt
-word_read d (Some words.Enter) = tt
-word_read d (Some words.Start) = tt
-word_read d (Some words.Complete) = tt
-word_read d (Some words.Add) = tt
+word_read d (Some words.Launch) = launch_read d
+word_read d (Some words.Enter) = enter_read d
+word_read d (Some words.Start) = start_read d
+word_read d (Some words.Complete) = complete_read d
+word_read d (Some words.Add) = add_read d
 word_read d (Some words.Raise) = tt
 word_read d (Some words.Suspend) = tt
 word_read d (Some words.Continue) = tt
-word_read d (Some words.Cancel) = tt
-word_read d (Some words.Advance) = tt
+word_read d (Some words.Cancel) = cancel_read d
+word_read d (Some words.Advance) = advance_read d
 word_read d (Some words.List) = tt
 word_read d (Some words.Show) = tt
 word_read d (Some words.Ended) = tt
@@ -157,16 +203,16 @@ pub can_be_asked : (c : Command) → IsAsWritten c → CanBeAsked c
 can_be_asked (commands.Person name roles) h = h.2
 can_be_asked (commands.Load toml) h = tt
 can_be_asked (commands.Rule spec net task kind at side when conclusion) h = absurd h
-can_be_asked (commands.Launch spec values) h = absurd h
-can_be_asked (commands.Enter who net task) h = absurd h
-can_be_asked (commands.Start who id) h = absurd h
-can_be_asked (commands.Complete who id out) h = absurd h
-can_be_asked (commands.Add who net task value) h = absurd h
+can_be_asked (commands.Launch spec values) h = tt
+can_be_asked (commands.Enter who net task) h = tt
+can_be_asked (commands.Start who id) h = tt
+can_be_asked (commands.Complete who id out) h = tt
+can_be_asked (commands.Add who net task value) h = tt
 can_be_asked (commands.Raise at kind) h = absurd h
 can_be_asked (commands.Suspend at) h = absurd h
 can_be_asked (commands.Continue at) h = absurd h
-can_be_asked (commands.Cancel net) h = absurd h
-can_be_asked (commands.Advance net) h = absurd h
+can_be_asked (commands.Cancel net) h = tt
+can_be_asked (commands.Advance net) h = tt
 
 -- ---- what a text says
 

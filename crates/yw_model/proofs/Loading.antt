@@ -1,6 +1,6 @@
 -- What a load and a person break, and what their events lead to.
-use Rattle.std.proofs.Common.{◌≡◌, inl, inr, ℕ, List, Bool, true, false, None, Some, Result, Ok, refl, sym, ap, ◌∙◌, subst}
-use Rattle.std.specs.Prelude.{IsTrue, cond, not, ◌&&◌}
+use Rattle.std.proofs.Common.{◌≡◌, inl, inr, ℕ, List, Bool, true, false, None, Some, Ok, refl, sym, ap, ◌∙◌, subst}
+use Rattle.std.specs.Prelude.{IsTrue, not, ◌&&◌}
 use Rattle.std.specs.Str.{bytes_eq}
 use Rattle.std.proofs.lemmas.Slice.Eq.{bytes_eq-Decides}
 use Rattle.yw_spec.specs.declared.spec.Spec.{Spec}
@@ -14,12 +14,8 @@ use Rattle.yw_state.specs.Texts.{Said, nothing, a_spec}
 use Rattle.yw_state.specs.declared.command.Command.TheVariants as commands
 use Rattle.yw_state.specs.declared.event.Event.TheVariants as events
 use Rattle.yw_state.specs.declared.rule.Refusal.{Refusal}
-use Rattle.yw_state.specs.declared.rule.Rule.TheVariants.{NotBuilt, SpecExists}
-use Rattle.yw_read.specs.declared.raw.RawSpec.{RawSpec}
-use Rattle.yw_read.specs.declared.raw.ReadFault.{ReadFault}
-use Rattle.yw_accept.specs.Verdict.{IsVerdict}
-use Rattle.yw_model.specs.Accepted.{document_in, is_built_spec, JudgesSaid}
-use Rattle.yw_model.specs.Texts.{IsAccepted, IsUnfit, reader, text_refusal}
+use Rattle.yw_state.specs.declared.rule.Rule.TheVariants.{SpecExists}
+use Rattle.yw_model.specs.Texts.{IsAccepted, IsUnfit, reader}
 use Rattle.yw_model.proofs.ReadingOnce.{accepted_fit, reads_one}
 
 -- ---- persons
@@ -45,14 +41,6 @@ person_roles s t name roles l = l.allowed.0
 pub unfit_breaks : (s : State) (text : List ℕ) (refusal : Refusal) → IsUnfit text refusal → Breaks reader s (commands.Load text) (Some refusal)
 unfolding checks
 unfit_breaks s text refusal unfit = inl (refusal, unfit, refl)
-
--- so is one that uses what isn't built
-pub unbuilt_unfit : (text : List ℕ) (raw : RawSpec) → document_in text ≡ Ok raw → IsVerdict raw None → is_built_spec raw ≡ false → IsUnfit text (placeless NotBuilt)
-unbuilt_unfit text raw says accepted unbuilt = (
-  None,
-  subst (λ (said : Result RawSpec ReadFault). JudgesSaid said None) (sym says) (None, accepted, refl),
-  sym (ap (λ (said : Result RawSpec ReadFault). text_refusal said None) says ∙ ap (λ (b : Bool). cond b None (Some (placeless NotBuilt))) unbuilt),
-)
 
 module _ (s : State) (text : List ℕ) (spec : Spec) (a : IsAccepted text spec) where
   pub known_breaks : has_key s.specs spec.name ≡ true → Breaks reader s (commands.Load text) (Some (placeless SpecExists))

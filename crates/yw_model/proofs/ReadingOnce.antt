@@ -1,5 +1,5 @@
 -- A text is read in one way.
-use Rattle.std.proofs.Common.{◌≡◌, ◌⊎◌, inl, inr, ℕ, List, Bool, true, cond, Option, None, Some, Result, Ok, Err, refl, sym, ap, ◌∙◌, subst}
+use Rattle.std.proofs.Common.{◌≡◌, ◌⊎◌, inl, inr, ℕ, List, Option, None, Some, Result, Ok, Err, refl, sym, ap, ◌∙◌, subst}
 use Rattle.std.specs.Prelude.{option_map}
 use Rattle.yw_lex.specs.Tokens.{AreTokens, StopsAt}
 use Rattle.yw_lex.specs.declared.token.Token.{Token}
@@ -19,12 +19,10 @@ use Rattle.yw_read.specs.declared.raw.ReadFault.TheVariants.{NotToml, Shape, Mem
 use Rattle.yw_accept.proofs.Once.{verdict-once}
 use Rattle.yw_accept.specs.Built.{IsSpec}
 use Rattle.yw_said.proofs.OnceSpec.{one_spec}
-use Rattle.yw_state.specs.Broken.{placeless}
-use Rattle.yw_state.specs.declared.rule.Rule.TheVariants.{NotBuilt}
 use Rattle.yw_state.specs.Texts.{IsOne}
 use Rattle.yw_state.specs.declared.rule.Refusal.{Refusal}
-use Rattle.yw_model.specs.Accepted.{check_refusal, document_in, is_built_spec, JudgesSaid}
-use Rattle.yw_model.specs.Texts.{IsAccepted, IsUnfit, ReadsCondition, ReadsSpec, fault_text, reader, text_refusal}
+use Rattle.yw_model.specs.Accepted.{check_refusal, document_in, JudgesSaid}
+use Rattle.yw_model.specs.Texts.{IsAccepted, IsUnfit, ReadsCondition, ReadsSpec, fault_text, reader}
 
 same_ok : {A E : Type 0} (x y : A) → ◌≡◌ {A = Result A E} (Ok x) (Ok y) → x ≡ y
 same_ok x y e = cc
@@ -96,15 +94,12 @@ judged_once (Err NotToml) r q e f = e ∙ sym f
 judged_once (Err (Shape path)) r q e f = e ∙ sym f
 judged_once (Err Memory) r q e f = absurd e
 
--- an accepted document that uses what is built alone has none
-not_refused : (raw : RawSpec) (refusal : Refusal) → is_built_spec raw ≡ true → Some refusal ≡ text_refusal (Ok raw) None → ⊥
-not_refused raw refusal built e = let none : text_refusal (Ok raw) None ≡ None = ap (λ (b : Bool). cond b None (Some (placeless NotBuilt))) built in cc
-
+-- an accepted document has none
 pub accepted_fit : (text : List ℕ) (spec : Spec) (refusal : Refusal) → IsAccepted text spec → IsUnfit text refusal → ⊥
-accepted_fit text spec refusal a (fault, judged, e) =
-    let there : JudgesSaid (Ok a.raw) fault = subst (λ (said : Result RawSpec ReadFault). JudgesSaid said fault) a.says judged in
-    let none : fault ≡ None = judged_once (Ok a.raw) fault None there (None, a.accepted, refl) in
-    not_refused a.raw refusal a.built (e ∙ ap (λ (said : Result RawSpec ReadFault). text_refusal said fault) a.says ∙ ap (text_refusal (Ok a.raw)) none)
+accepted_fit text spec refusal a judged =
+    let there : JudgesSaid (Ok a.raw) (Some refusal) = subst (λ (said : Result RawSpec ReadFault). JudgesSaid said (Some refusal)) a.says judged in
+    let none : Some refusal ≡ None = judged_once (Ok a.raw) (Some refusal) None there (None, a.accepted, refl) in
+    cc
 
 spec_once : (text : List ℕ) (a b : Result Spec Refusal) → ReadsSpec text a → ReadsSpec text b → a ≡ b
 spec_once text (Ok a) (Ok b) p q =
@@ -112,8 +107,8 @@ spec_once text (Ok a) (Ok b) p q =
     ap Ok (one_spec p.raw a b p.accepted p.is_spec (subst (λ (raw : RawSpec). IsSpec raw b) raws q.is_spec))
 spec_once text (Ok a) (Err r) p q = absurd (accepted_fit text a r p q)
 spec_once text (Err r) (Ok b) p q = absurd (accepted_fit text b r q p)
-spec_once text (Err r) (Err q) (f, j, e) (g, k, h) =
-    let same : Some r ≡ Some q = e ∙ ap (text_refusal (document_in text)) (judged_once (document_in text) f g j k) ∙ sym h in
+spec_once text (Err r) (Err q) j k =
+    let same : Some r ≡ Some q = judged_once (document_in text) (Some r) (Some q) j k in
     let refusals : r ≡ q = cc in
     ap Err refusals
 

@@ -1,14 +1,9 @@
 -- Which texts are accepted as specifications, and the first fault of the others. The three kinds of fault and their order
 -- are our own.
-use Rattle.std.specs.Prelude.{◌≡◌, ◌==◌, ◌&&◌, ℕ, List, length, Bool, not, is_none, Option, Some, Result, Ok, Err, option_map, if◌then◌else◌}
-use Rattle.std.specs.List.{list_all}
+use Rattle.std.specs.Prelude.{◌≡◌, ℕ, List, Option, Some, Result, Ok, Err, option_map, if◌then◌else◌}
 use Rattle.std.specs.Str.{is_utf8}
-use Rattle.yw_base.specs.Gates.{is_or}
 use Rattle.yw_read.specs.Reading.{spec_in}
-use Rattle.yw_read.specs.TaskKinds.{is_composite}
-use Rattle.yw_read.specs.declared.raw.RawNet.{RawNet}
 use Rattle.yw_read.specs.declared.raw.RawSpec.{RawSpec}
-use Rattle.yw_read.specs.declared.raw.RawTask.{RawTask}
 use Rattle.yw_read.specs.declared.raw.ReadFault.{ReadFault}
 use Rattle.yw_read.specs.declared.raw.ReadFault.TheVariants.{NotToml, Shape, Memory}
 use Rattle.yw_accept.specs.declared.broken.Broken.{Broken}
@@ -35,17 +30,3 @@ JudgesSaid (Err Memory) found = ⊥
 -- the first fault of a text, or none where it is accepted
 abbrev pub IsJudged : List ℕ → Option Refusal → Type 0
 IsJudged text found = JudgesSaid (document_in text) found
-
--- ---- what specifications may use of what is built
-
--- it has neither a net nor a removal set, is no OR-join and no OR-split, and hands nothing over
-abbrev pub is_built_task : RawTask → Bool
-is_built_task task =
-    not (is_composite task.kind) && length task.remove == 0 && not (is_or task.join) && not (is_or task.split)
-    && length task.ins == 0 && length task.outs == 0 && length task.set == 0 && is_none task.each
-
-abbrev pub is_built_net : RawNet → Bool
-is_built_net net = list_all is_built_task net.task
-
-unfoldable pub is_built_spec : RawSpec → Bool
-is_built_spec raw = list_all is_built_net raw.net

@@ -22,12 +22,20 @@ use Rattle.yw_lines.specs.declared.word.Word.TheVariants as words
 
 -- the words whose commands are built
 abbrev pub built_words : List Word
-built_words = words.Person ∷ words.Load ∷ []
+built_words =
+    words.Person ∷ words.Load ∷ words.Launch ∷ words.Enter ∷ words.Start ∷ words.Complete ∷ words.Add ∷ words.Cancel ∷ words.Advance ∷ []
 
 -- the commands that a line can ask for: those of built words, with roles as a line gives them
 abbrev pub CanBeAsked : Command → Type 0
 CanBeAsked (commands.Person name roles) = are_roles roles ≡ true
 CanBeAsked (commands.Load toml) = Unit {0}
+CanBeAsked (commands.Launch spec values) = Unit {0}
+CanBeAsked (commands.Enter who net task) = Unit {0}
+CanBeAsked (commands.Start who j) = Unit {0}
+CanBeAsked (commands.Complete who j out) = Unit {0}
+CanBeAsked (commands.Add who net task value) = Unit {0}
+CanBeAsked (commands.Cancel net) = Unit {0}
+CanBeAsked (commands.Advance net) = Unit {0}
 CanBeAsked command = ⊥
 
 -- What one accepted command does: its events in order, and whether all is quiet after them.

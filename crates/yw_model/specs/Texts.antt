@@ -1,6 +1,6 @@
 -- How texts are read here: which are specifications, and which spell conditions. By this the definitions of events speak of texts. The
 -- kinds of faults and their order are our own.
-use Rattle.std.specs.Prelude.{◌≡◌, ◌⊎◌, ℕ, List, ◌++◌, true, Option, Some, None, Result, Ok, Err, codes, if◌then◌else◌}
+use Rattle.std.specs.Prelude.{◌≡◌, ◌⊎◌, ℕ, List, ◌++◌, Some, None, Result, Ok, Err, codes}
 use Rattle.std.specs.Fmt.{decimal}
 use Rattle.yw_base.specs.declared.value.Sort.TheVariants as sorts
 use Rattle.yw_expr.specs.Parsing.{Means}
@@ -11,34 +11,24 @@ use Rattle.yw_expr.specs.declared.fault.ExprFault.TheVariants as faults
 use Rattle.yw_expr.specs.declared.scope.Binding.{Binding}
 use Rattle.yw_spec.specs.declared.spec.Spec.{Spec}
 use Rattle.yw_read.specs.declared.raw.RawSpec.{RawSpec}
-use Rattle.yw_read.specs.declared.raw.ReadFault.{ReadFault}
 use Rattle.yw_accept.specs.Built.{IsSpec}
 use Rattle.yw_accept.specs.Verdict.{IsVerdict}
-use Rattle.yw_state.specs.Broken.{placeless}
 use Rattle.yw_state.specs.Texts.{Reader}
 use Rattle.yw_state.specs.declared.rule.Refusal.{Refusal}
-use Rattle.yw_state.specs.declared.rule.Rule.TheVariants.{NotBuilt}
-use Rattle.yw_model.specs.Accepted.{document_in, is_built_spec, IsJudged}
+use Rattle.yw_model.specs.Accepted.{document_in, IsJudged}
 
 -- ---- specifications
 
--- The text is accepted, and says this specification, which uses what is built alone.
+-- The text is accepted, and says this specification.
 pub record IsAccepted (text : List ℕ) (spec : Spec) : Type 0 where
   pub raw : RawSpec
   pub says : document_in text ≡ Ok raw
   pub accepted : IsVerdict raw None
-  pub built : is_built_spec raw ≡ true
   pub is_spec : IsSpec raw spec
-
--- after the faults of a text that it uses what isn't built
-abbrev pub text_refusal : Result RawSpec ReadFault → Option Refusal → Option Refusal
-text_refusal said (Some refusal) = Some refusal
-text_refusal (Err fault) None = None
-text_refusal (Ok raw) None = if is_built_spec raw then None else Some (placeless NotBuilt)
 
 -- this is the first that is wrong with the text
 abbrev pub IsUnfit : List ℕ → Refusal → Type 0
-IsUnfit text refusal = (fault : Option Refusal) × IsJudged text fault × (Some refusal ≡ text_refusal (document_in text) fault)
+IsUnfit text refusal = IsJudged text (Some refusal)
 
 abbrev pub ReadsSpec : List ℕ → Result Spec Refusal → Type 0
 ReadsSpec text (Ok spec) = IsAccepted text spec

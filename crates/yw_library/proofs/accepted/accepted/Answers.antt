@@ -3,7 +3,6 @@ use Rattle.std.proofs.lemmas.Str.{is_utf8-from_IsUtf8}
 use Rattle.yw_state.specs.declared.rule.Refusal.{Refusal}
 use Rattle.yw_spec.specs.declared.spec.Spec.{Spec}
 use Rattle.yw_model.specs.Texts.{IsUnfit}
-use Rattle.yw_model.proofs.Loading.{unbuilt_unfit}
 use Rattle.yw_library.specs.Accepts.{IfRefused}
 use Rattle.yw_library.specs.declared.fault.LibraryFault.{LibraryFault}
 use Rattle.yw_library.proofs.AcceptsLemmas.{document_said, unread-unfit, unchecked-unfit}
@@ -22,16 +21,8 @@ returns-in-Ok-check-clause-ok c =
       raw = c.in-Ok.raw;
       says = document_said text (Ok c.in-Ok.raw) (is_utf8-from_IsUtf8 text c.utf8.text) c.in-Ok.ensures.says;
       accepted = c.in-Ok-check.ensures.judges.0;
-      built = sym c.is_built_spec-built.ensures ∙ c.if-built.true;
       is_spec = c.in-Ok-check.ensures.judges.1;
     }
-
-pub returns-in-Ok-2-clause-refused : goal.returns-in-Ok-2-clause-refused
-returns-in-Ok-2-clause-refused c =
-    let text = c.args.text.now in
-    let said = document_said text (Ok c.in-Ok.raw) (is_utf8-from_IsUtf8 text c.utf8.text) c.in-Ok.ensures.says in
-    subst (λ (r : Refusal). IsUnfit text r) (sym c.placeless.ensures)
-    (unbuilt_unfit text c.in-Ok.raw said c.in-Ok-2.ensures.judges.0 (sym c.is_built_spec-built.ensures ∙ c.if-built.false))
 
 pub returns-in-Err-check-clause-refused : goal.returns-in-Err-check-clause-refused
 returns-in-Err-check-clause-refused c =
