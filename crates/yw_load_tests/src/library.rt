@@ -83,7 +83,7 @@ fn faults_of_texts(rt: HostRuntime) {
     for row in texts() {
         assert!(rt; is_loaded(rt.alloc(), row.0, row.1, row.2), "not {}", row.1);
     }
-    assert!(rt; is_loaded(rt.alloc(), loan(), "NotBuilt", ""));
+    assert!(rt; is_loaded(rt.alloc(), loan(), "loan", ""));
 }
 
 /// The second document is told so behind the first, and then so many are loaded.
@@ -102,16 +102,14 @@ fn a_name_is_loaded_once(rt: HostRuntime) {
     assert!(rt; is_loaded_behind(rt.alloc(), seq(), deep(), "deep", 2));
 }
 
-/// The keys of one net, and the name that is loaded or the rule.
-type Net = (&'static str, &'static str);
-
-fn nets() -> &'static [Net] {
+/// The keys of one net: an XOR-split, a net in a net, a removal set, an OR-join, an OR-split, what tasks are given, what they make, what they
+/// set, and several items.
+fn nets() -> &'static [&'static str] {
     &NETS
 }
 
-const NETS: [Net; 9] = [
-    (
-        r#"conditions = ["x"]
+const NETS: [&str; 9] = [
+    r#"conditions = ["x"]
 vars = [{name="v",sort="int"}]
 flows = [["i","a"],["a","b"],["a","c"],["b","x"],["c","x"],["x","d"],["d","o"]]
 [[net.task]]
@@ -127,10 +125,7 @@ kind = "empty"
 [[net.task]]
 name = "d"
 join = "xor""#,
-        "s",
-    ),
-    (
-        r#"flows = [["i","a"],["a","o"]]
+    r#"flows = [["i","a"],["a","o"]]
 [[net.task]]
 name = "a"
 kind = "sub"
@@ -142,17 +137,11 @@ output = "o"
 flows = [["i","b"],["b","o"]]
 [[net.task]]
 name = "b""#,
-        "NotBuilt",
-    ),
-    (
-        r#"flows = [["i","a"],["a","o"]]
+    r#"flows = [["i","a"],["a","o"]]
 [[net.task]]
 name = "a"
 remove = ["a"]"#,
-        "NotBuilt",
-    ),
-    (
-        r#"flows = [["i","a"],["a","b"],["a","c"],["b","d"],["c","d"],["d","o"]]
+    r#"flows = [["i","a"],["a","b"],["a","c"],["b","d"],["c","d"],["d","o"]]
 [[net.task]]
 name = "a"
 [[net.task]]
@@ -162,10 +151,7 @@ name = "c"
 [[net.task]]
 name = "d"
 join = "or""#,
-        "NotBuilt",
-    ),
-    (
-        r#"vars = [{name="v",sort="int"}]
+    r#"vars = [{name="v",sort="int"}]
 flows = [["i","a"],["a","b"],["a","c"],["b","d"],["c","d"],["d","o"]]
 [[net.task]]
 name = "a"
@@ -177,72 +163,40 @@ name = "b"
 name = "c"
 [[net.task]]
 name = "d""#,
-        "NotBuilt",
-    ),
-    (
-        r#"flows = [["i","a"],["a","o"]]
+    r#"flows = [["i","a"],["a","o"]]
 [[net.task]]
 name = "a"
 ins = [{name="p",sort="int",value="1"}]"#,
-        "NotBuilt",
-    ),
-    (
-        r#"flows = [["i","a"],["a","o"]]
+    r#"flows = [["i","a"],["a","o"]]
 [[net.task]]
 name = "a"
 outs = [{name="p",sort="int"}]"#,
-        "NotBuilt",
-    ),
-    (
-        r#"vars = [{name="v",sort="int"}]
+    r#"vars = [{name="v",sort="int"}]
 flows = [["i","a"],["a","o"]]
 [[net.task]]
 name = "a"
 set = [{var="v",value="1"}]"#,
-        "NotBuilt",
-    ),
-    (
-        r#"vars = [{name="v",sort="ints"}]
+    r#"vars = [{name="v",sort="ints"}]
 flows = [["i","a"],["a","o"]]
 [[net.task]]
 name = "a"
 ins = [{name="p",sort="int"}]
 each = "v"
 item = "p""#,
-        "NotBuilt",
-    ),
 ];
 
-fn net_is_loaded(alloc: Global, row: &Net) -> bool {
-    match one_net(alloc, row.0) {
-        Ok(document) => is_loaded(alloc, document.as_str(), row.1, ""),
+fn net_is_loaded(alloc: Global, keys: &str) -> bool {
+    match one_net(alloc, keys) {
+        Ok(document) => is_loaded(alloc, document.as_str(), "s", ""),
         Err(AllocError) => false,
     }
 }
 
 #[test]
-fn what_is_built(rt: HostRuntime) {
-    for row in nets() {
-        assert!(rt; net_is_loaded(rt.alloc(), row), "of {}", row.0);
+fn all_that_is_accepted_is_loaded(rt: HostRuntime) {
+    for keys in nets() {
+        assert!(rt; net_is_loaded(rt.alloc(), keys), "not {}", keys);
     }
-}
-
-/// A net with these keys, of the name of one that is loaded.
-fn is_not_built_behind(alloc: Global, first: &str, second: &str) -> bool {
-    match (one_net(alloc, first), one_net(alloc, second)) {
-        (Ok(first), Ok(second)) => {
-            is_loaded_behind(alloc, first.as_str(), second.as_str(), "NotBuilt", 1)
-        }
-        _ => false,
-    }
-}
-
-#[test]
-fn a_known_name_comes_behind_what_is_not_built(rt: HostRuntime) {
-    let plain = "flows = [[\"i\",\"a\"],[\"a\",\"o\"]]\n[[net.task]]\nname = \"a\"";
-    let removes =
-        "flows = [[\"i\",\"a\"],[\"a\",\"o\"]]\n[[net.task]]\nname = \"a\"\nremove = [\"a\"]";
-    assert!(rt; is_not_built_behind(rt.alloc(), plain, removes));
 }
 
 fn three_specs(alloc: Global) -> Result<Library, LibraryFault> {

@@ -17,7 +17,17 @@ use yw_state::{Asked, Command, Refusal, Rule};
 use yw_wire::{WireFault, read_command, reply_done, reply_refused};
 
 /// The words whose commands are built.
-const BUILT: [Word; 2] = [Word::Person, Word::Load];
+const BUILT: [Word; 9] = [
+    Word::Person,
+    Word::Load,
+    Word::Launch,
+    Word::Enter,
+    Word::Start,
+    Word::Complete,
+    Word::Add,
+    Word::Cancel,
+    Word::Advance,
+];
 
 /// What is to be said, and whether an entry is appended before it.
 #[derive(Drop)]
