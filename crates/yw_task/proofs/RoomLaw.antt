@@ -1,16 +1,15 @@
 -- A net that gets lists without items: what a map shows of it stays.
-use Rattle.std.proofs.Common.{List, Some, [], ap, append_assoc, arith, length, length-append, map, refl, subst, suc, sym, zero, ℕ, ◌++◌, ◌+◌, ◌-◌, ◌<◌, ◌∙◌, ◌∷◌, ◌≡◌, ◌≤◌}
+use Rattle.std.proofs.Common.{List, Some, [], ap, arith, length, length-append, map, refl, subst, suc, sym, zero, ℕ, ◌++◌, ◌+◌, ◌-◌, ◌∙◌, ◌∷◌, ◌≡◌, ◌≤◌}
 use Rattle.std.specs.FinMap.Entries.{find}
 use Rattle.std.specs.Prelude.{Vec, slice_get}
 use Rattle.std.specs.declared.alloc.Global.{Global}
-use Rattle.yw_sites.proofs.Each.{Each-append, nil_right}
 use Rattle.yw_sites.specs.Entries.{Entries}
 use Rattle.yw_sites.specs.Idents.{Each}
 use Rattle.yw_state.specs.Identity.{Ident}
 use Rattle.yw_state.specs.Map.{lexical}
 use Rattle.yw_state.specs.State.{NetPart, Sites}
 use Rattle.yw_task.specs.Items.{row_of}
-use Rattle.yw_task.specs.Room.{AreEmpty, EmptyBehind, GetsList}
+use Rattle.yw_task.specs.Room.{AreEmpty, GetsList}
 use Rattle.yw_tree.proofs.Equations.{net_entries_is}
 use Rattle.yw_tree.proofs.Induct.{below_every_net}
 use Rattle.yw_tree.proofs.Keys.{ids_are, kids}
@@ -30,27 +29,6 @@ pub record SomeBehind (t : ℕ) (old new : List (Vec Node Global)) : Type 0 wher
   pub all : new ≡ old ++ more
   pub empty : AreEmpty more
   pub few : length more ≤ t + 1 - length old
-
-pub none_behind : (t : ℕ) (old : List (Vec Node Global)) → SomeBehind t old old
-none_behind t old = record { more = []; all = sym (nil_right old); empty = tt; few = omega arith }
-
-pub one_behind : (t : ℕ) (old mid new : List (Vec Node Global)) (v : Vec Node Global) → SomeBehind t old mid → length mid ≤ t → v.items ≡ [] → new ≡ mid ++ (v ∷ []) → SomeBehind t old new
-one_behind t old mid new v h short empty is =
-    let one : List (Vec Node Global) = v ∷ [] in
-    let now = ap length h.all ∙ length-append old h.more in
-    let then = length-append h.more one in
-    record {
-      more = h.more ++ one;
-      all = is ∙ ap (λ z. z ++ one) h.all ∙ append_assoc old h.more one;
-      empty = Each-append (λ (w : Vec Node Global). w.items ≡ []) h.more one h.empty (empty, tt);
-      few = omega (arith, now, then, short);
-    }
-
-pub all_behind : (t : ℕ) (old new : List (Vec Node Global)) → SomeBehind t old new → t < length new → EmptyBehind t old new
-all_behind t old new h far =
-    let now = ap length h.all ∙ length-append old h.more in
-    let few = h.few in
-    record { more = h.more; all = h.all; empty = h.empty; number = omega (arith, now, few, far) }
 
 -- ---- empty lists
 

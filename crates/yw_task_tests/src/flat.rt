@@ -118,6 +118,5 @@ pub fn may_change(net: &Net, state: &NetState, at: &Ident, t: usize) -> bool
 {
     t < net.tasks.len()
         && is_flat(state)
-        && t < state.items.len()
         && at.numbers().len() < MOST_NUMBERS
 }
