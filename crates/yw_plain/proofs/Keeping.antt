@@ -38,12 +38,12 @@ keeps =
       comes = λ j k given. record { run = refl; suspended = refl; due = refl };
     }
 
-puts : (s : State) (e : Event) → is_plain_event e ≡ true → Puts NoRules PlainSite s e
-puts s (events.Load name text) is = λ l none. none
-puts s (events.Launch n spec vals) is = λ net. record { run = refl; suspended = refl; due = refl }
-puts s (events.Start j who) is = λ x at is. record { run = is.run; suspended = is.suspended; due = is.due }
-puts s (events.StartSub j) is = λ i n x found at is. record { run = is.run; suspended = is.suspended; due = is.due }
-puts s e is = tt
+puts : (s : State) (e : Event) → Puts NoRules PlainSite s e
+puts s (events.Load name text) = λ l none. none
+puts s (events.Launch n spec vals) = λ net. record { run = refl; suspended = refl; due = refl }
+puts s (events.Start j who) = λ x at is. record { run = is.run; suspended = is.suspended; due = is.due }
+puts s (events.StartSub j) = λ i n x found at is. record { run = is.run; suspended = is.suspended; due = is.due }
+puts s e = tt
 
 of_plain : (s : State) → IsPlain s → Plain s
 of_plain s plain =
@@ -54,4 +54,4 @@ to_plain s plain =
     record { rules = plain.0; run = λ j x at. (plain.1 j x at).run; suspended = λ j x at. (plain.1 j x at).suspended; due = λ j x at. (plain.1 j x at).due }
 
 pub event_keeps : (s : State) (e : Event) (said : Said) → IsPlain s → is_plain_event e ≡ true → IsPlain (after s e said)
-event_keeps s e said plain is = to_plain (after s e said) (event-holds NoRules PlainSite keeps s e said (of_plain s plain) (puts s e is) is)
+event_keeps s e said plain is = to_plain (after s e said) (event-holds NoRules PlainSite keeps s e said (of_plain s plain) (puts s e) is)

@@ -1,6 +1,10 @@
-//! States without rules, runs, suspensions and checks, as each is that is reached until rule trees and exlets are built. Each law is the contract
-//! of a function that does nothing: it holds of all states.
+//! States without rules, runs, suspensions and checks, as each is that is reached until rule trees and exlets are built, and states without
+//! worklets. Each law is the contract of a function that does nothing: it holds of all states.
 #![tactic(auto)]
+
+mod worklets;
+
+pub use worklets::{no_worklet_no_net, no_worklet_stays, opening_has_no_worklet};
 
 ghost use Rattle.std.specs.Prelude.{◌≡◌, true};
 ghost use Rattle.yw_plain.specs.Plain.{IsPlain, PlainWords, is_plain_event};
