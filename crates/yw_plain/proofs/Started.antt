@@ -1,5 +1,5 @@
--- A state that is well and has no worklet has none behind an event of neither a rule tree nor an exlet that is allowed: an item that executes then
--- did so before, or was started by somebody, or is of a composite task.
+-- A state that is well and has no worklet has none behind an event of neither a rule tree nor an exlet that is allowed: an item that executes
+-- then did so before, or was started by somebody, or is of a composite task.
 use Rattle.std.specs.Prelude.{◌≡◌, ◌<◌, ◌==◌, ℕ, true, false, List, Option, Some, None, is_some, is_none, option_and_then, option_map, slice_get, refl}
 use Rattle.std.specs.Str.{bytes_eq}
 use Rattle.std.proofs.Common.{sym, ◌∙◌, ap, subst, inl, inr, arith}
@@ -178,24 +178,25 @@ module _ (s : State) where
     -- ---- before and after
 
     at_first : HasNoWorklet s → Holds Known GoesOn s
-    at_first none =
-        (λ name l e. e,
-        λ j x at.
-        record {
-          net = λ n m e stood.
-              let same : n ≡ m = some_same n m (sym e ∙ sym (ap (option_and_then (λ (y : Site). y.net)) at) ∙ stood) in
-              (ap (λ (q : NetPart). q.spec) same, ap (λ (q : NetPart). q.net) same);
-          item = λ p e runs.
-              let stood : item_part s j ≡ Some p = ap (option_and_then (λ (y : Site). y.item)) at ∙ e in
-              record {
-                before = p;
-                stood = stood;
-                task = refl;
-                started = λ y found atomic.
-                    let same : y.part ≡ p = some_same y.part p (sym (is_item s j y found).part ∙ stood) in
-                    ap (λ (q : ItemPart). is_some q.who) (sym same) ∙ none.started j y found atomic (ap (λ (q : ItemPart). is_executing q.stage) same ∙ runs);
-              };
-        })
+    at_first none = (
+      λ name l e. e,
+      λ j x at.
+          record {
+            net = λ n m e stood.
+                let same : n ≡ m = some_same n m (sym e ∙ sym (ap (option_and_then (λ (y : Site). y.net)) at) ∙ stood) in
+                (ap (λ (q : NetPart). q.spec) same, ap (λ (q : NetPart). q.net) same);
+            item = λ p e runs.
+                let stood : item_part s j ≡ Some p = ap (option_and_then (λ (y : Site). y.item)) at ∙ e in
+                record {
+                  before = p;
+                  stood = stood;
+                  task = refl;
+                  started = λ y found atomic.
+                      let same : y.part ≡ p = some_same y.part p (sym (is_item s j y found).part ∙ stood) in
+                      ap (λ (q : ItemPart). is_some q.who) (sym same) ∙ none.started j y found atomic (ap (λ (q : ItemPart). is_executing q.stage) same ∙ runs);
+                };
+          },
+    )
 
     module _ (t : State) (holds : Holds Known GoesOn t) where
       -- the net is the same as before

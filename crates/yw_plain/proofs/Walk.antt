@@ -1,5 +1,5 @@
--- What is so of each site that stands stays so behind an event of neither a rule tree nor an exlet, where it is so of what the event puts there.
--- Beside it goes what is so of specifications and rules.
+-- What is so of each site that stands stays so behind an event of neither a rule tree nor an exlet, where it is so of what the event puts
+-- there. Beside it goes what is so of specifications and rules.
 use Rattle.std.specs.Prelude.{◌≡◌, ◌+◌, ℕ, Bool, true, false, List, [], ◌∷◌, fold, length, Option, Some, None, refl, unwrap_or, if◌then◌else◌}
 use Rattle.std.specs.List.{range_with_len, zip}
 use Rattle.std.specs.Ordering.{eq_by_cmp}
@@ -66,11 +66,13 @@ module _ (R : Map lexical Loaded → Map lexical_each (List TreeRule) → Type 0
   abbrev pub Holds : State → Type 0
   Holds s = R s.specs s.rules × Each s.sites
 
-  where_some-holds : {A : Type 0} (o : Option A) (s : State) (f : A → State) → Holds s → ((x : A) → o ≡ Some x → Holds (f x)) → Holds (After.where_some o s f)
+  where_some-holds : {A : Type 0} (o : Option A) (s : State) (f : A → State)
+      → Holds s → ((x : A) → o ≡ Some x → Holds (f x)) → Holds (After.where_some o s f)
   where_some-holds None s f holds each = holds
   where_some-holds (Some x) s f holds each = each x refl
 
-  where_spec-holds : (s : State) (name : List ℕ) (f : Spec → Net → State) → Holds s → ((spec : Spec) (net : Net) → Holds (f spec net)) → Holds (After.where_spec s name f)
+  where_spec-holds : (s : State) (name : List ℕ) (f : Spec → Net → State)
+      → Holds s → ((spec : Spec) (net : Net) → Holds (f spec net)) → Holds (After.where_spec s name f)
   where_spec-holds s name f holds each =
       where_some-holds (spec_called s name) s _ holds (λ spec found. where_some-holds (top_called s name) s (f spec) holds (λ net top. each spec net))
 
@@ -78,7 +80,8 @@ module _ (R : Map lexical Loaded → Map lexical_each (List TreeRule) → Type 0
   if-holds true s t there here = there
   if-holds false s t there here = here
 
-  fold-holds : {A : Type 0} (f : State → A → State) → ((s : State) (a : A) → Holds s → Holds (f s a)) → (xs : List A) (s : State) → Holds s → Holds (fold f s xs)
+  fold-holds : {A : Type 0} (f : State → A → State)
+      → ((s : State) (a : A) → Holds s → Holds (f s a)) → (xs : List A) (s : State) → Holds s → Holds (fold f s xs)
   fold-holds f each [] s holds = holds
   fold-holds f each (a ∷ rest) s holds = fold-holds f each rest (f s a) (each s a holds)
 
@@ -87,10 +90,13 @@ module _ (R : Map lexical Loaded → Map lexical_each (List TreeRule) → Type 0
 
   -- ---- what is changed, and items that come
 
-  -- It stays so where a check becomes due, where a net gets other values or tokens or goes, and where an item is completed; and it is so of an item that comes.
+  -- It stays so where a check becomes due, where a net gets other values or tokens or goes, and where an item is completed; and it is so of an
+  -- item that comes.
   pub record Keeps : Type 0 where
-    pub due : (s : State) (j : Ident) (kind : TreeKind) (x : Site) → R s.specs s.rules → P j x → P j (record x { due = After.due_where (has_rule s j kind) kind x.due })
-    pub net : (f : NetPart → NetPart) → ((n : NetPart) → (f n).spec ≡ n.spec) → ((n : NetPart) → (f n).net ≡ n.net) → (j : Ident) (x : Site) → P j x → P j (After.with_net f x)
+    pub due : (s : State) (j : Ident) (kind : TreeKind) (x : Site)
+        → R s.specs s.rules → P j x → P j (record x { due = After.due_where (has_rule s j kind) kind x.due })
+    pub net : (f : NetPart → NetPart)
+        → ((n : NetPart) → (f n).spec ≡ n.spec) → ((n : NetPart) → (f n).net ≡ n.net) → (j : Ident) (x : Site) → P j x → P j (After.with_net f x)
     pub gone : (j : Ident) (x : Site) → P j x → P j (without_net x)
     pub completed : (out : Row) (j : Ident) (x : Site) → P j x → P j (After.with_item (After.completed out) x)
     pub comes : (j : Ident) (k : ℕ) (given : Row) → P j (After.new_item k given)
@@ -101,7 +107,8 @@ module _ (R : Map lexical Loaded → Map lexical_each (List TreeRule) → Type 0
   Puts s (events.Launch n spec vals) = (net : NetPart) → P (case_ident n) (After.stands net After.empty_site)
   Puts s (events.Start j who) = (x : Site) → Stands s j x → P j x → P j (After.with_item (After.begun (Some who)) x)
   Puts s (events.StartSub j) =
-      (i : ItemAt) (n : NetPart) (x : Site) → item_at s j ≡ Some i → Stands s j x → P j x → P j (After.stands n (After.with_item (After.begun i.part.who) x))
+      (i : ItemAt) (n : NetPart) (x : Site)
+      → item_at s j ≡ Some i → Stands s j x → P j x → P j (After.stands n (After.with_item (After.begun i.part.who) x))
   Puts s e = Unit {0}
 
   module _ (keeps : Keeps) where
@@ -132,10 +139,12 @@ module _ (R : Map lexical Loaded → Map lexical_each (List TreeRule) → Type 0
 
     complete-holds : (s : State) (j : Ident) (out : Row) → Holds s → Holds (After.complete s j out)
     complete-holds s j out holds =
-        make_due-holds (After.change s j (After.with_item (After.completed out))) j Post (change-holds s j _ holds (λ x at. keeps.completed out j x (holds.1 j x at)))
+        make_due-holds (After.change s j (After.with_item (After.completed out))) j Post
+        (change-holds s j _ holds (λ x at. keeps.completed out j x (holds.1 j x at)))
 
     -- values and tokens change
-    net-holds : (s : State) (i : Ident) (f : NetPart → NetPart) → ((n : NetPart) → (f n).spec ≡ n.spec) → ((n : NetPart) → (f n).net ≡ n.net) → Holds s → Holds (After.change s i (After.with_net f))
+    net-holds : (s : State) (i : Ident) (f : NetPart → NetPart)
+        → ((n : NetPart) → (f n).spec ≡ n.spec) → ((n : NetPart) → (f n).net ≡ n.net) → Holds s → Holds (After.change s i (After.with_net f))
     net-holds s i f spec net holds = change-holds s i _ holds (λ x at. keeps.net f spec net i x (holds.1 i x at))
 
     tokens-holds : (s : State) (i : Ident) (f : List ℕ → ℕ → List ℕ) (cs : List ℕ) → Holds s → Holds (After.on_each s i f cs)
@@ -148,7 +157,8 @@ module _ (R : Map lexical Loaded → Map lexical_each (List TreeRule) → Type 0
     load-holds s name text (a_spec spec) holds puts = (puts (record { text = text; spec = spec }) holds.0, holds.1)
     load-holds s name text (a_test test) holds puts = holds
 
-    launch-holds : (s : State) (n : ℕ) (name : List ℕ) (vals : Row) → Holds s → Puts s (events.Launch n name vals) → Holds (After.launch s n name vals)
+    launch-holds : (s : State) (n : ℕ) (name : List ℕ) (vals : Row)
+        → Holds s → Puts s (events.Launch n name vals) → Holds (After.launch s n name vals)
     launch-holds s n name vals holds puts =
         where_spec-holds s name _ holds (λ spec net.
         let own : NetPart = After.new_net name spec.top net vals in
@@ -165,7 +175,8 @@ module _ (R : Map lexical Loaded → Map lexical_each (List TreeRule) → Type 0
     add-holds s i value n x holds =
         where_some-holds (given_values x.task x.within.part.vals (Some value)) s _ holds (λ given found. add_items-holds x i n (given ∷ []) s holds)
 
-    start_sub-holds : (s : State) (j : Ident) (x : ItemAt) → item_at s j ≡ Some x → Holds s → Puts s (events.StartSub j) → Holds (After.start_sub s j x)
+    start_sub-holds : (s : State) (j : Ident) (x : ItemAt)
+        → item_at s j ≡ Some x → Holds s → Puts s (events.StartSub j) → Holds (After.start_sub s j x)
     start_sub-holds s j x found holds puts =
         where_some-holds _ s _ holds (λ e numbered. change-holds s j _ holds (λ y at. puts x _ y found at (holds.1 j y at)))
 

@@ -4,14 +4,14 @@
 
 mod worklets;
 
-pub use worklets::{no_worklet_no_net, no_worklet_stays, opening_has_no_worklet};
-
 ghost use Rattle.std.specs.Prelude.{◌≡◌, true};
 ghost use Rattle.yw_plain.specs.Plain.{IsPlain, PlainWords, is_plain_event};
 ghost use Rattle.yw_state.specs.Events.{after};
 ghost use Rattle.yw_state.specs.State.{State, opening};
 ghost use Rattle.yw_state.specs.Texts.{Said};
 ghost use Rattle.yw_state.specs.declared.event.Event.{Event};
+
+pub use worklets::{no_worklet_no_net, no_worklet_stays, opening_has_no_worklet};
 
 /// The state before anything was done is plain.
 pub fn opening_is_plain()
