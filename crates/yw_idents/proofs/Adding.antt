@@ -1,5 +1,5 @@
 -- Identities that are added one after another.
-use Rattle.std.proofs.Common.{List, Some, [], ap, append_assoc, get_or, length, map, refl, subst, sym, take, ℕ, ◌++◌, ◌+◌, ◌<◌, ◌∙◌, ◌∷◌, ◌≡◌, ◌≤◌}
+use Rattle.std.proofs.Common.{List, [], ap, append_assoc, get_or, length, refl, sym, take, ℕ, ◌++◌, ◌+◌, ◌<◌, ◌∙◌, ◌∷◌, ◌≡◌, ◌≤◌}
 use Rattle.std.proofs.lemmas.List.{map-append, take_all, take_more}
 use Rattle.std.specs.Borrow.{Bor}
 use Rattle.std.specs.Prelude.{Err, Ok, OnOk, Result, Vec}
@@ -15,9 +15,6 @@ use Rattle.yw_tree.specs.declared.Node.{Node, out-Node}
 use Rattle.yw_tree.specs.declared.Run.{Run, out-Run}
 
 -- ---- one after another
-
-pub none_added : (bs : List (Bor Ident)) → Adds bs bs []
-none_added bs = sym (nil_right (lent bs))
 
 pub one_added : (bs cs : List (Bor Ident)) (b : Bor Ident) → cs ≡ bs ++ b ∷ [] → Adds bs cs (b.now ∷ [])
 one_added bs cs b e = ap lent e ∙ map-append (λ (c : Bor Ident). c.now) bs (b ∷ [])
@@ -36,18 +33,6 @@ module _ (names : ℕ → List ℕ) where
 
   listed_both : (xs ys : List Node) → listed (xs ++ ys) ≡ listed xs ++ listed ys
   listed_both xs ys = ap idents_of (flat-append names xs ys) ∙ idents_both (flat (node_entries names) xs) (flat (node_entries names) ys)
-
-  -- one item more of a list
-  pub next_item : (bs cs ds : List (Bor Ident)) (ns : List Node) (i : ℕ) (n : Node) → i < length ns → n ≡ get_or ns i n
-      → Adds bs cs (listed (take i ns)) → Adds cs ds (idents_of (node_entries names n)) → Adds bs ds (listed (take (i + 1) ns))
-  next_item bs cs ds ns i n l at old new =
-      let one : listed (n ∷ []) ≡ idents_of (node_entries names n) = ap idents_of (nil_right (node_entries names n)) in
-      let more : listed (take (i + 1) ns) ≡ listed (take i ns) ++ idents_of (node_entries names n) =
-      ap listed (take_more ns i n l ∙ ap (λ x. take i ns ++ x ∷ []) (sym at)) ∙ listed_both (take i ns) (n ∷ []) ∙ ap (λ z. listed (take i ns) ++ z) one in
-      both_added bs cs ds (listed (take i ns)) (idents_of (node_entries names n)) old new ∙ ap (λ z. lent bs ++ z) (sym more)
-
-  pub all_items : (bs cs : List (Bor Ident)) (ns : List Node) (i : ℕ) → length ns ≤ i → Adds bs cs (listed (take i ns)) → Adds bs cs (listed ns)
-  all_items bs cs ns i l h = h ∙ ap (λ z. lent bs ++ listed z) (take_all i ns l)
 
   rows_both : (xs ys : List (Vec Node Global)) → row_nodes (xs ++ ys) ≡ row_nodes xs ++ row_nodes ys
   rows_both [] ys = refl

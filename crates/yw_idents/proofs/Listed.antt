@@ -1,16 +1,16 @@
 -- The identities of a case's entries are those of all that stands in the case.
-use Rattle.std.proofs.Common.{List, None, Option, Some, [], ap, cond, false, map, refl, subst, sym, true, ℕ, ◌++◌, ◌∙◌, ◌∷◌, ◌≡◌, ◌≤◌, length, arith}
+use Rattle.std.proofs.Common.{List, None, Some, [], ap, cond, false, refl, subst, sym, true, ℕ, ◌++◌, ◌∙◌, ◌∷◌, ◌≡◌, ◌≤◌, length, arith}
 use Rattle.std.proofs.lemmas.List.Elements.{All-cons, All-nil, Contains-append_right, Contains-get_or}
-use Rattle.std.specs.FinMap.Entries.{find, is_sorted}
+use Rattle.std.specs.FinMap.Entries.{is_sorted}
 use Rattle.std.specs.List.{All, Contains}
 use Rattle.std.specs.Ordering.{eq_by_cmp, nat_cmp}
 use Rattle.std.specs.Prelude.{T}
 use Rattle.yw_base.specs.Identity.{under}
 use Rattle.yw_idents.specs.Idents.{AreAllIn, idents_of}
-use Rattle.yw_sites.proofs.Each.{Each-front, each_mid, each_rest}
+use Rattle.yw_sites.proofs.Each.{Each-front, each_rest}
 use Rattle.yw_sites.proofs.Prefix.{under_refl}
 use Rattle.yw_sites.proofs.Swaps.{at, at_apart, at_skip, at_stop, at_under}
-use Rattle.yw_sites.specs.Entries.{AllUnder, Entries, Entry}
+use Rattle.yw_sites.specs.Entries.{AllUnder, Entries}
 use Rattle.yw_sites.specs.Idents.{Each}
 use Rattle.yw_state.proofs.MapEntries.{get-of_entries}
 use Rattle.yw_state.proofs.MapLemmas.{by_name, tied}

@@ -1,4 +1,5 @@
-//! What the identities of a case's entries are in a state that has the forest's map. Each law is the contract of a function that does nothing.
+//! What the identities of a case's entries are in a state that has the forest's map. Each law is the contract of a function that does
+//! nothing.
 ghost use Rattle.std.specs.Prelude.{◌≡◌, ℕ, List, None, Some};
 ghost use Rattle.yw_idents.specs.Idents.{AreAllIn, idents_of};
 ghost use Rattle.yw_state.specs.Identity.{Ident, case_number};

@@ -79,8 +79,8 @@ fn push_hung<'a>(run: &'a Option<Box<Run>>, into: &mut Vec<&'a Ident>) -> Result
     }
 }
 
-/// The identities of all that stands in a case, its own first, each before those of what is below it. An `Err` says that no memory was left. That
-/// a case is walked as a list is our own.
+/// The identities of all that stands in a case, its own first, each before those of what is below it. An `Err` says that no memory was
+/// left. That a case is looked at as a list is our own.
 pub fn idents_in<'a>(alloc: Global, case: &'a Case) -> Result<Vec<&'a Ident>, AllocError>
     ensures { IfOk result (λ idents. (names : ℕ → List ℕ) → lent idents.items ≡ idents_of (case_entries names case.now)) }
 {

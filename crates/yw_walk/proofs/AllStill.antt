@@ -1,5 +1,5 @@
 -- An identity is still where the case isn't at its end, the item doesn't go on, and no task is left or entered; and a case is quiet where each is.
-use Rattle.std.proofs.Common.{Bool, List, None, Option, Some, [], ap, false, refl, subst, sym, true, ℕ, ◌∙◌, ◌∷◌, ◌≡◌}
+use Rattle.std.proofs.Common.{Bool, List, None, Option, Some, ap, false, subst, sym, ℕ, ◌≡◌}
 use Rattle.std.proofs.lemmas.List.Elements.{All-contains}
 use Rattle.std.specs.List.{All, Contains}
 use Rattle.std.specs.Prelude.{not, ◌&&◌}
@@ -10,7 +10,7 @@ use Rattle.yw_known.specs.Names.{names_of}
 use Rattle.yw_library.specs.Holdings.{Holdings}
 use Rattle.yw_plain.proofs.Words.{words}
 use Rattle.yw_plain.specs.Plain.{IsPlain}
-use Rattle.yw_state.specs.Automatic.{Comes, IsQuiet}
+use Rattle.yw_state.specs.Automatic.{IsQuiet}
 use Rattle.yw_state.specs.Identity.{Ident, case_number}
 use Rattle.yw_state.specs.Joins.{at_output}
 use Rattle.yw_state.specs.Options.{is_some_and}
@@ -24,7 +24,7 @@ use Rattle.yw_tree.specs.Cases.{case_at}
 use Rattle.yw_tree.specs.Entries.{case_entries}
 use Rattle.yw_tree.specs.declared.Case.{Case}
 use Rattle.yw_tree.specs.declared.Forest.{Forest}
-use Rattle.yw_walk.specs.Finds.{ComesPlainly, FindsAmong, FindsAt, FindsBelow, FindsFinish, FindsNext, FindsStep, FindsTask, IsWalked, NoneEntered, NoneLeft}
+use Rattle.yw_walk.specs.Finds.{ComesPlainly, FindsAmong, FindsAt, FindsItemOrTasks, FindsFinish, FindsNext, FindsStep, FindsTasks, StandsFor, NoneEntered, NoneLeft}
 
 pub still_there : (s : State) → IsPlain s → (j : Ident) → case_ends s j ≡ false → item_goes_on s j ≡ false → NoneLeft s j → NoneEntered s j → IsStill s j
 still_there s plain j case item left entered =
@@ -41,12 +41,12 @@ still_there s plain j case item left entered =
 
 module _ (known : Holdings) (f : Forest) (j : Ident) (next : ℕ) (ends : Bool) where
   -- where the item doesn't go on, by the tasks
-  pub below_there : FindsStep known f j ends None → (o : Option Event) → FindsTask known f j next o → FindsBelow known f j next ends o
+  pub below_there : FindsStep known f j ends None → (o : Option Event) → FindsTasks known f j next o → FindsItemOrTasks known f j next ends o
   below_there step None tasks = λ s w out. let t = tasks s w in (step s w.held w.plain out, t.0, t.1)
   below_there step (Some e) tasks = λ s w out. tasks s w
 
   -- and where the case isn't at its end, by what is below
-  pub at_there : ((s : State) → IsHeld known f s → at_output s j ≡ ends) → FindsFinish j ends None → (o : Option Event) → FindsBelow known f j next ends o → FindsAt known f j next o
+  pub at_there : ((s : State) → IsHeld known f s → at_output s j ≡ ends) → FindsFinish j ends None → (o : Option Event) → FindsItemOrTasks known f j next ends o → FindsAt known f j next o
   at_there out finish None below = λ s w.
       let b = below s w (out s w.held) in
       still_there s w.plain j (finish s w.plain (out s w.held)) b.0 b.1 b.2
@@ -69,7 +69,7 @@ none_stand s n none =
     (case, quiet s n case)
 
 module _ (known : Holdings) (f : Forest) (n next : ℕ) where
-  listed : (s : State) → IsWalked known f next s → (c : Case) → Some c ≡ case_at n f.cases → (js : List Ident) → ((names : ℕ → List ℕ) → js ≡ idents_of (case_entries names c)) → AreAllIn s n js
+  listed : (s : State) → StandsFor known f next s → (c : Case) → Some c ≡ case_at n f.cases → (js : List Ident) → ((names : ℕ → List ℕ) → js ≡ idents_of (case_entries names c)) → AreAllIn s n js
   listed s w c at js are = subst (AreAllIn s n) (sym (are (names_of known))) (all_listed (names_of known) f w.held.boxed s w.held.sites n c (sym at))
 
   -- by a look at each identity that stands in the case

@@ -1,14 +1,13 @@
 -- A task that may be entered by no person is entered by the event that is made of it.
-use Rattle.std.proofs.Common.{Bool, List, None, Option, Some, [], ap, arith, false, length, map, min, refl, subst, suc, sym, true, ⊎_elim, ℕ, ◌+◌, ◌<◌, ◌∙◌, ◌∷◌, ◌≡◌, ◌≤◌}
+use Rattle.std.proofs.Common.{List, None, Option, Some, [], ap, false, length, map, refl, subst, suc, sym, true, ⊎_elim, ℕ, ◌+◌, ◌∙◌, ◌∷◌, ◌≡◌, ◌≤◌}
 use Rattle.std.proofs.lemmas.Bool.{and_parts, leb-true}
 use Rattle.std.proofs.lemmas.Option.{slice_get_within}
-use Rattle.std.specs.Prelude.{IsTrue, nat_le, not, option_and_then, option_map, slice_get, unwrap_or, ◌&&◌}
-use Rattle.yw_base.specs.Gates.{is_or}
+use Rattle.std.specs.Prelude.{nat_le, not, option_map, slice_get, unwrap_or, ◌&&◌}
 use Rattle.yw_base.specs.Identity.{number_end}
 use Rattle.yw_base.specs.declared.value.Value.{Value}
 use Rattle.yw_enabled.proofs.Coming.{enter_comes}
 use Rattle.yw_enabled.proofs.FreeItems.{task_is}
-use Rattle.yw_enabled.specs.Entered.{EntersFirst, EntersFrom, StaysOut}
+use Rattle.yw_enabled.specs.Entered.{EntersFirst, EntersFrom}
 use Rattle.yw_enabled.specs.Free.{MayDraw}
 use Rattle.yw_expr.specs.Meaning.{val}
 use Rattle.yw_known.specs.declared.here.NetHere.{NetHere}
@@ -18,28 +17,27 @@ use Rattle.yw_spec.specs.declared.spec.Net.{Net}
 use Rattle.yw_spec.specs.declared.spec.Place.{Place}
 use Rattle.yw_spec.specs.declared.task.Many.{Many}
 use Rattle.yw_spec.specs.declared.task.Task.{Task}
-use Rattle.yw_state.proofs.Tests.{map_some, never, nowhere, some_same, then_some, there_and}
-use Rattle.yw_state.specs.Allowed.{exit_values}
+use Rattle.yw_state.proofs.Tests.{map_some, never, some_same, then_some, there_and}
 use Rattle.yw_state.specs.Automatic.{Comes}
 use Rattle.yw_state.specs.Identity.{Ident, case_number}
-use Rattle.yw_state.specs.Joins.{Waits, has_tokens}
+use Rattle.yw_state.specs.Joins.{has_tokens}
 use Rattle.yw_state.specs.Judged.{is_manual}
 use Rattle.yw_state.specs.Nets.{is_atomic}
 use Rattle.yw_state.specs.Options.{all_of, is_some_and}
 use Rattle.yw_state.specs.Passing.{elements_for, entry_values, given_values, within_bounds}
-use Rattle.yw_state.specs.State.{NetAt, State, TaskAt}
+use Rattle.yw_state.specs.State.{State, TaskAt}
 use Rattle.yw_state.specs.Values.{Row}
 use Rattle.yw_state.specs.Words.{active, clear}
 use Rattle.yw_state.specs.declared.event.Event.{Event}
 use Rattle.yw_state.specs.declared.event.Event.TheVariants as events
-use Rattle.yw_still.specs.Still.{can_be_entered, is_entering, may_be_made, task_numbered}
+use Rattle.yw_still.specs.Still.{can_be_entered, may_be_made, task_numbered}
 use Rattle.yw_task.proofs.EnterAsk.{net_with}
 use Rattle.yw_task.specs.Giving.{elements, entry_rows}
 use Rattle.yw_tree.specs.declared.Forest.{Forest}
 use Rattle.yw_tree.specs.declared.NetState.{NetState, out-NetState}
 use Rattle.yw_walk.proofs.Leaving.{task_there}
 use Rattle.yw_walk.proofs.Numbered.{are_numbered}
-use Rattle.yw_walk.specs.Finds.{AtomicIsManual, ComesPlainly, FindsEntered, IsEntry, NoneEntered}
+use Rattle.yw_walk.specs.Finds.{ComesPlainly, FindsEntered, IsEntry}
 use Rattle.yw_walk.specs.Places.{places_numbered}
 use Rattle.yw_within.proofs.Finding.{element_at}
 use Rattle.yw_within.specs.Within.{HoldsWithin}

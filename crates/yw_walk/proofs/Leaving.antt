@@ -1,5 +1,5 @@
 -- A task that may be left is left by the event that is made of it.
-use Rattle.std.proofs.Common.{List, None, Option, Some, ap, false, refl, subst, sym, true, ℕ, ◌<◌, ◌∙◌, ◌≡◌, length}
+use Rattle.std.proofs.Common.{List, None, Some, ap, refl, subst, sym, true, ℕ, ◌∙◌, ◌≡◌}
 use Rattle.std.proofs.lemmas.Option.{slice_get_within}
 use Rattle.std.specs.Prelude.{option_and_then, option_map, slice_get}
 use Rattle.yw_enabled.proofs.Coming.{exit_comes}
@@ -28,7 +28,7 @@ use Rattle.yw_tree.specs.Shows.{items_in}
 use Rattle.yw_tree.specs.declared.Forest.{Forest}
 use Rattle.yw_tree.specs.declared.NetState.{NetState, out-NetState}
 use Rattle.yw_walk.proofs.Numbered.{are_numbered}
-use Rattle.yw_walk.specs.Finds.{ComesPlainly, FindsLeft, IsExit, NoneLeft}
+use Rattle.yw_walk.specs.Finds.{ComesPlainly, FindsLeft, IsExit}
 use Rattle.yw_walk.specs.Places.{places_numbered}
 use Rattle.yw_within.proofs.Finding.{element_at}
 use Rattle.yw_within.specs.Within.{HoldsWithin}

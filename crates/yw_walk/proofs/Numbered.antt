@@ -1,11 +1,11 @@
 -- Places of a net have one number each.
-use Rattle.std.proofs.Common.{List, Option, Some, [], ap, get_or, length, map, refl, sym, true, ℕ, ◌∙◌, ◌∷◌, ◌≡◌}
+use Rattle.std.proofs.Common.{List, Some, [], ap, get_or, length, refl, sym, true, ℕ, ◌∙◌, ◌∷◌, ◌≡◌}
 use Rattle.std.proofs.lemmas.Bool.{and_parts}
 use Rattle.std.proofs.lemmas.List.Quantifiers.{position-Some}
 use Rattle.std.proofs.lemmas.Option.{slice_get_read}
 use Rattle.std.proofs.lemmas.Slice.Eq.{bytes_eq-Decides}
-use Rattle.std.specs.List.{cons_option, filter_map}
-use Rattle.std.specs.Prelude.{option_and_then, option_map, slice_get, ◌&&◌}
+use Rattle.std.specs.List.{cons_option}
+use Rattle.std.specs.Prelude.{option_map, slice_get}
 use Rattle.std.specs.Str.{bytes_eq}
 use Rattle.yw_spec.specs.declared.spec.Net.{Net}
 use Rattle.yw_spec.specs.declared.spec.Place.{Place}

@@ -1,7 +1,7 @@
 -- What comes of itself of a case and of an item, in a plain state.
-use Rattle.std.proofs.Common.{Bool, List, None, Option, Some, [], ap, false, refl, subst, sym, true, ℕ, ◌∙◌, ◌∷◌, ◌≡◌}
+use Rattle.std.proofs.Common.{Bool, None, Option, Some, [], ap, false, refl, subst, sym, true, ℕ, ◌∙◌, ◌∷◌, ◌≡◌}
 use Rattle.std.proofs.lemmas.Bool.{and_from, and_parts}
-use Rattle.std.specs.Prelude.{is_none, is_some, not, option_and_then, option_map, ◌&&◌, ◌||◌}
+use Rattle.std.specs.Prelude.{is_none, is_some, not, option_map, ◌&&◌, ◌||◌}
 use Rattle.yw_enabled.specs.Items.{ItemFree, ItemGoes, StepsAs, event_of}
 use Rattle.yw_enabled.specs.declared.items.ItemStep.{ItemStep}
 use Rattle.yw_enabled.specs.declared.items.ItemStep.TheVariants.{CompleteEmpty, CompleteSub, CompleteWorklet, StartSub}
@@ -12,27 +12,25 @@ use Rattle.yw_known.specs.declared.here.ItemHere.{ItemHere}
 use Rattle.yw_library.specs.Holdings.{Holdings}
 use Rattle.yw_plain.proofs.Words.{words}
 use Rattle.yw_plain.specs.Plain.{IsPlain, is_plain_event}
-use Rattle.yw_sites.proofs.HeldAlong.{and_none}
 use Rattle.yw_spec.specs.declared.spec.Net.{Net}
 use Rattle.yw_spec.specs.declared.task.Kind.{Kind}
 use Rattle.yw_spec.specs.declared.task.Kind.TheVariants as kinds
 use Rattle.yw_spec.specs.declared.task.Task.{Task}
-use Rattle.yw_state.proofs.Tests.{and_left, and_right, by_option, never, then_some, there_and}
+use Rattle.yw_state.proofs.Tests.{and_left, and_right, never, then_some, there_and}
 use Rattle.yw_state.specs.Allowed.{Allowed, allows}
 use Rattle.yw_state.specs.Automatic.{case_of, is_automatic}
-use Rattle.yw_state.specs.Identity.{Ident, case_ident, case_number, is_case_ident, parent}
+use Rattle.yw_state.specs.Identity.{Ident, case_ident, case_number}
 use Rattle.yw_state.specs.Joins.{at_output, marked}
 use Rattle.yw_state.specs.Nets.{child_net, is_atomic}
-use Rattle.yw_state.specs.Options.{is_some_and}
-use Rattle.yw_state.specs.State.{ItemAt, ItemPart, NetAt, NetPart, State, TaskAt, is_item, item_at, item_part, net_at, net_of, net_part, task_in}
+use Rattle.yw_state.specs.State.{ItemAt, NetAt, NetPart, State, item_at, net_at, net_of, net_part}
 use Rattle.yw_state.specs.Texts.{nothing}
 use Rattle.yw_state.specs.Well.{NetsStand, has_worklet, is_composite, wants_net}
-use Rattle.yw_state.specs.Words.{busy, clear, is_executing}
+use Rattle.yw_state.specs.Words.{is_executing}
 use Rattle.yw_state.specs.declared.event.Event.TheVariants as events
-use Rattle.yw_still.specs.Still.{case_ends, item_begins, item_ends, item_goes_on}
+use Rattle.yw_still.specs.Still.{item_goes_on}
 use Rattle.yw_tree.specs.declared.Forest.{Forest}
-use Rattle.yw_tree.specs.declared.Node.{Node, out-Node}
-use Rattle.yw_walk.specs.Finds.{ComesPlainly, FindsStep}
+use Rattle.yw_tree.specs.declared.Node.{out-Node}
+use Rattle.yw_walk.specs.Finds.{ComesPlainly}
 use Rattle.yw_walk.specs.NoWorklet.{HasNoWorklet}
 
 -- ---- a case
@@ -48,25 +46,7 @@ module _ (s : State) (plain : IsPlain s) where
   pub finishes_at : (j : Ident) (n : ℕ) → j ≡ n ∷ [] → at_output s j ≡ true → ComesPlainly s (case_number j) (events.Finish n)
   finishes_at j n one ends = subst (λ z. ComesPlainly s (case_number z) (events.Finish n)) (sym one) (finishes n (ap (at_output s) (sym one) ∙ ends))
 
--- no net is at its end there, or no case's
-pub goes_on : (s : State) (j : Ident) → at_output s j ≡ false → case_ends s j ≡ false
-goes_on s j ends = ap (λ b. is_case_ident j && clear s j && not (busy s j) && b) ends ∙ and_none _
-
-pub no_case_ends : (s : State) (j : Ident) → is_case_ident j ≡ false → case_ends s j ≡ false
-no_case_ends s j e = ap (λ b. b && clear s j && not (busy s j) && at_output s j) e
-
 -- ---- an item
-
-abbrev with_task : ItemPart → NetAt → Option ItemAt
-with_task x w = option_map (λ (t : TaskAt). let y : ItemAt = record { part = x; of_task = t } in y) (task_in w x.task)
-
-pub no_item_goes : (s : State) (j : Ident) → is_item s j ≡ false → item_goes_on s j ≡ false
-no_item_goes s j e =
-    by_option (item_part s j)
-    (λ none.
-    let at : item_at s j ≡ None = ap (option_and_then (λ (x : ItemPart). option_and_then (with_task x) (net_at s (parent j)))) none in
-    ap (λ o. clear s j && is_some_and o (λ (x : ItemAt). item_begins s j x || item_ends s j x)) at ∙ and_none (clear s j))
-    (λ x some. never (sym e ∙ ap is_some some))
 
 step_case : (step : ItemStep) (j : Ident) → case_of (event_of step j) ≡ Some (case_number j)
 step_case StartSub j = refl

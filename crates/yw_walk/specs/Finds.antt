@@ -1,6 +1,6 @@
 -- What comes of itself at one identity, and in a case: found, or nothing.
 use Rattle.std.specs.List.{All, Contains}
-use Rattle.std.specs.Prelude.{◌≡◌, ℕ, Bool, IsTrue, List, MatchOption, Option, Some, None, true, false}
+use Rattle.std.specs.Prelude.{◌≡◌, ◌↔◌, ℕ, Bool, IsTrue, List, MatchOption, Option, Some, true, false}
 use Rattle.yw_base.specs.Gates.{is_or}
 use Rattle.yw_enabled.specs.Entered.{EntersFrom}
 use Rattle.yw_enabled.specs.Free.{MayDraw, StandsFree}
@@ -75,8 +75,8 @@ FindsEntered h i next found =
 
 -- ---- an identity
 
--- The state is held, and plain, and this number is drawn next.
-pub record IsWalked (known : Holdings) (f : Forest) (next : ℕ) (s : State) : Type 0 where
+-- What is known, the forest and the number that is drawn next stand for this state, which has neither rules nor exlets.
+pub record StandsFor (known : Holdings) (f : Forest) (next : ℕ) (s : State) : Type 0 where
   pub held : IsHeld known f s
   pub plain : IsPlain s
   pub drawn : s.next ≡ next
@@ -92,27 +92,32 @@ FindsStep known f j ends found =
     (s : State) → IsHeld known f s → IsPlain s → at_output s j ≡ ends → MatchOption found (item_goes_on s j ≡ false) (ComesPlainly s (case_number j))
 
 -- a task of the net there is left or entered by this event, or none may be
-abbrev pub FindsTask : Holdings → Forest → Ident → ℕ → Option Event → Type 0
-FindsTask known f j next found =
-    (s : State) → IsWalked known f next s → MatchOption found (NoneLeft s j × NoneEntered s j) (ComesPlainly s (case_number j))
+abbrev pub FindsTasks : Holdings → Forest → Ident → ℕ → Option Event → Type 0
+FindsTasks known f j next found =
+    (s : State) → StandsFor known f next s → MatchOption found (NoneLeft s j × NoneEntered s j) (ComesPlainly s (case_number j))
 
 -- the item goes on by this event, or a task of the net there is left or entered by it; or nothing of this is so
-abbrev pub FindsBelow : Holdings → Forest → Ident → ℕ → Bool → Option Event → Type 0
-FindsBelow known f j next ends found =
-    (s : State) → IsWalked known f next s → at_output s j ≡ ends
+abbrev pub FindsItemOrTasks : Holdings → Forest → Ident → ℕ → Bool → Option Event → Type 0
+FindsItemOrTasks known f j next ends found =
+    (s : State) → StandsFor known f next s → at_output s j ≡ ends
     → MatchOption found ((item_goes_on s j ≡ false) × NoneLeft s j × NoneEntered s j) (ComesPlainly s (case_number j))
 
 -- this event comes of itself there, or nothing does
 abbrev pub FindsAt : Holdings → Forest → Ident → ℕ → Option Event → Type 0
-FindsAt known f j next found = (s : State) → IsWalked known f next s → MatchOption found (IsStill s j) (ComesPlainly s (case_number j))
+FindsAt known f j next found = (s : State) → StandsFor known f next s → MatchOption found (IsStill s j) (ComesPlainly s (case_number j))
 
 -- at one of these identities this event comes of itself, or each of them is still
 abbrev pub FindsAmong : Holdings → Forest → List Ident → ℕ → Option Event → Type 0
 FindsAmong known f js next found =
-    (s : State) → IsWalked known f next s → MatchOption found (All (IsStill s) js) (λ e. (j : Ident) × Contains js j × ComesPlainly s (case_number j) e)
+    (s : State) → StandsFor known f next s
+    → MatchOption found (All (IsStill s) js) (λ e. (j : Ident) × Contains js j × ComesPlainly s (case_number j) e)
 
 -- ---- a case
 
 -- this event comes of itself in the case, or each identity in it is still, and so it is quiet
 abbrev pub FindsNext : Holdings → Forest → ℕ → ℕ → Option Event → Type 0
-FindsNext known f n next found = (s : State) → IsWalked known f next s → MatchOption found (CaseIsStill s n × IsQuiet s n) (ComesPlainly s n)
+FindsNext known f n next found = (s : State) → StandsFor known f next s → MatchOption found (CaseIsStill s n × IsQuiet s n) (ComesPlainly s n)
+
+-- whether the case is quiet
+abbrev pub TellsQuiet : Holdings → Forest → ℕ → ℕ → Bool → Type 0
+TellsQuiet known f n next quiet = (s : State) → StandsFor known f next s → IsTrue quiet ↔ IsQuiet s n

@@ -7,4 +7,6 @@ use Rattle.yw_state.specs.Words.{is_executing}
 
 -- An executing item of an atomic task was started by somebody.
 pub record HasNoWorklet (s : State) : Type 0 where
-  pub started : (j : Ident) (x : ItemAt) → item_at s j ≡ Some x → is_atomic x.of_task.task ≡ true → is_executing x.part.stage ≡ true → is_some x.part.who ≡ true
+  pub started :
+      (j : Ident) (x : ItemAt) → item_at s j ≡ Some x → is_atomic x.of_task.task ≡ true → is_executing x.part.stage ≡ true
+      → is_some x.part.who ≡ true

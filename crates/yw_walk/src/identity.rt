@@ -1,6 +1,6 @@
 // What comes of itself at one identity.
 ghost use Rattle.std.specs.Prelude.{IfOk};
-ghost use Rattle.yw_walk.specs.Finds.{FindsAt, FindsBelow, FindsTask};
+ghost use Rattle.yw_walk.specs.Finds.{FindsAt, FindsItemOrTasks, FindsTasks};
 
 use crate::items::{finish_of, step_at};
 use crate::nets::{ends_at, net_at};
@@ -11,15 +11,15 @@ use yw_known::Known;
 use yw_state::Event;
 use yw_tree::Forest;
 
-/// What comes of itself of the tasks of the net at an identity: one is left, or else one is entered. None where no net stands there.
-fn task_at(
+/// What comes of itself of the tasks of the net at an identity: one is left, or else one is entered.
+fn tasks_at(
     alloc: Global,
     known: &Known,
     forest: &Forest,
     at: &Ident,
     next: u64,
 ) -> Result<Option<Event>, AllocError>
-    ensures { IfOk result (FindsTask known.now forest.now at.now next) }
+    ensures { IfOk result (FindsTasks known.now forest.now at.now next) }
 {
     let Some(here) = net_at(known, forest, at) else {
         return Ok(None);
@@ -31,7 +31,7 @@ fn task_at(
 }
 
 /// What comes of itself of the item at an identity, or of the tasks of the net there.
-fn below(
+fn item_or_tasks_at(
     alloc: Global,
     known: &Known,
     forest: &Forest,
@@ -39,17 +39,16 @@ fn below(
     next: u64,
     ends: bool,
 ) -> Result<Option<Event>, AllocError>
-    ensures { IfOk result (FindsBelow known.now forest.now id.now next ends) }
+    ensures { IfOk result (FindsItemOrTasks known.now forest.now id.now next ends) }
 {
     match step_at(alloc, known, forest, id, ends)? {
         Some(event) => Ok(Some(event)),
-        None => task_at(alloc, known, forest, id, next),
+        None => tasks_at(alloc, known, forest, id, next),
     }
 }
 
-/// What comes of itself at an identity: the case there is finished, the item goes on, or a task of the net is left, or else entered. None where all
-/// is still. `next` is the number that is drawn next. An `Err` says that no memory was left. That a case is looked at identity by identity is our
-/// own.
+/// What comes of itself at an identity: the case there is finished, the item goes on, or a task of the net is left, or else entered. `None`
+/// where all is still. `next` is the number that is drawn next. An `Err` says that no memory was left.
 pub fn event_at(
     alloc: Global,
     known: &Known,
@@ -62,6 +61,6 @@ pub fn event_at(
     let ends = ends_at(known, forest, id);
     match finish_of(id, ends) {
         Some(event) => Ok(Some(event)),
-        None => below(alloc, known, forest, id, next, ends),
+        None => item_or_tasks_at(alloc, known, forest, id, next, ends),
     }
 }

@@ -10,7 +10,7 @@ use yw_known::{Known, item_here};
 use yw_state::Event;
 use yw_tree::Forest;
 
-/// The end of the case at an identity; `ends` says that a net stands there that is at its end. None where no case stands there, or it isn't.
+/// The end of the case at an identity, where `ends` says that its net is at its end. `None` of other identities, and where it isn't.
 pub fn finish_of(id: &Ident, ends: bool) -> Option<Event>
     ensures { FindsFinish id.now ends result }
 {
@@ -32,8 +32,8 @@ fn event_of(step: ItemStep, item: Ident) -> Event
     }
 }
 
-/// How the item at an identity goes on; `ends` says that a net stands there that is at its end. None where no item stands there, or it doesn't.
-/// An `Err` says that no memory was left.
+/// How the item at an identity goes on, where `ends` says whether a net stands there that is at its end. `None` where no item stands there, and
+/// where it doesn't go on. An `Err` says that no memory was left.
 pub fn step_at(
     alloc: Global,
     known: &Known,

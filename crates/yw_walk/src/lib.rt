@@ -1,5 +1,5 @@
-//! The next event that comes of itself in a case, by a look at each identity that stands in it, in states without rules and exlets. The README of
-//! the crate says which clause proves what.
+//! The next event that comes of itself in a case, by a look at each identity that stands in it, in states without rules and exlets. The
+//! README of the crate says which clause proves what.
 #![tactic(auto)]
 
 mod identity;
@@ -9,4 +9,4 @@ mod next;
 mod places;
 mod tasks;
 
-pub use next::next_event;
+pub use next::{is_quiet, next_event};

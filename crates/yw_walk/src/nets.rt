@@ -11,8 +11,8 @@ use yw_enabled::is_at_output;
 use yw_known::{Known, NetHere};
 use yw_tree::Forest;
 
-/// The net of the case, item or run at an identity, as `yw_known::net_here` has it. That it is within and the upstream its own is said of each
-/// that is found, and not of those alone that a state has.
+/// The net of the case, item or run at an identity, as `yw_known::net_here` has it. That it is within and the upstream its own is said here
+/// without a state.
 pub fn net_at<'a>(known: &'a Known, forest: &'a Forest, at: &Ident) -> Option<NetHere<'a>>
     ensures here { (s : State) → IsHeld known.now forest.now s
         → MatchOption result (net_part s at.now ≡ None) (IsNetHere known.now forest.now s at.now) }

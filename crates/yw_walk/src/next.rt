@@ -1,7 +1,7 @@
 // The next event that comes of itself in a case.
 ghost use Rattle.std.specs.Prelude.{IfOk};
 ghost use Rattle.yw_idents.specs.Idents.{lent};
-ghost use Rattle.yw_walk.specs.Finds.{FindsAmong, FindsNext};
+ghost use Rattle.yw_walk.specs.Finds.{FindsAmong, FindsNext, TellsQuiet};
 
 use crate::identity::event_at;
 use std::alloc::{AllocError, Global};
@@ -29,10 +29,12 @@ fn first_at(
     Ok(None)
 }
 
-/// The next event that comes of itself in a case, in a state without rules and exlets: in the order in which things stand in the case, each before
-/// what is below it, and at one identity first the end of the case, then a step of the item, then a task of the net there that is left, then one that
-/// is entered. `None` exactly where the case is quiet, and where there is none of this number. `next` is the number that is drawn next. An `Err` says
-/// that no memory was left. That the server takes these events by itself, and their order, is our own.
+/// The next event that comes of itself in a case, in a state without rules and exlets: `None` exactly where the case is quiet, as it is where
+/// no case has this number. `next` is the number that is drawn next. An `Err` says that no memory was left.
+///
+/// The identities of the case are looked at in turn, each before those of what is below it; at one identity first whether the case is at its
+/// end, then how the item goes on, then which task of the net is left, and then which is entered. That the server does all this by itself,
+/// and the order, are our own.
 pub fn next_event(
     alloc: Global,
     known: &Known,
@@ -45,5 +47,21 @@ pub fn next_event(
     match forest.case(n) {
         Some(case) => first_at(alloc, known, forest, &idents_in(alloc, case)?, next),
         None => Ok(None),
+    }
+}
+
+/// Whether nothing comes of itself in a case, in a state without rules and exlets: the same look. An `Err` says that no memory was left.
+pub fn is_quiet(
+    alloc: Global,
+    known: &Known,
+    forest: &Forest,
+    n: u64,
+    next: u64,
+) -> Result<bool, AllocError>
+    ensures { IfOk result (TellsQuiet known.now forest.now n next) }
+{
+    match next_event(alloc, known, forest, n, next)? {
+        Some(_event) => Ok(false),
+        None => Ok(true),
     }
 }

@@ -30,12 +30,8 @@ fn exit_of(alloc: Global, here: &NetHere<'_>, at: &Ident, t: usize) -> Result<Ev
     })
 }
 
-/// The first task of the net at an identity that may be left, as it is left. None where none may. An `Err` says that no memory was left.
-pub fn exit_at(
-    alloc: Global,
-    here: &NetHere<'_>,
-    at: &Ident,
-) -> Result<Option<Event>, AllocError>
+/// The exit of the first task of the net at an identity that may be left; `None` where none may. An `Err` says that no memory was left.
+pub fn exit_at(alloc: Global, here: &NetHere<'_>, at: &Ident) -> Result<Option<Event>, AllocError>
     ensures { IfOk result (FindsLeft here.now at.now) }
 {
     match first_left(alloc, here.net, here.state)? {
@@ -81,8 +77,8 @@ fn entry_of(
     })
 }
 
-/// The first task of the net at an identity, of those that aren't atomic, that may be entered, as it is entered: its items are numbered from `next`
-/// on, the number that is drawn next. None where none may. An `Err` says that no memory was left.
+/// The entry of the first task of the net at an identity that may be entered by no person; `None` where none may. Its items are numbered from
+/// `next` on, the number that is drawn next. An `Err` says that no memory was left.
 pub fn entry_at(
     alloc: Global,
     here: &NetHere<'_>,

@@ -1,8 +1,6 @@
-use Rattle.std.proofs.Common.{List, ap, length, slice_index_or, subst, sym, ℕ, ◌<◌, ◌∙◌, ◌≡◌, ◌≤◌, rules}
+use Rattle.std.proofs.Common.{length, slice_index_or, subst, ◌<◌, ◌≡◌, ◌≤◌}
 use Rattle.yw_idents.proofs.Adding.{all_rows, item_added, next_row, ok_then, one_added, run_added}
 use Rattle.yw_idents.proofs.listing.+idents.Goals as goal
-use Rattle.yw_idents.specs.Idents.{Adds, idents_of}
-use Rattle.yw_tree.specs.Entries.{node_entries, run_entries}
 use Rattle.yw_tree.specs.declared.NetState.{out-NetState}
 
 pub push_net-loop-list-preserved : goal.push_net-loop-list-preserved

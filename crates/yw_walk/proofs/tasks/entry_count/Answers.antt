@@ -1,4 +1,4 @@
-use Rattle.std.proofs.Common.{ap, min, sym, ◌∙◌}
+use Rattle.std.proofs.Common.{ap, min, ◌∙◌}
 use Rattle.std.proofs.Math.Nat.{min-eq_left}
 use Rattle.yw_base.specs.Values.{value_of}
 use Rattle.yw_walk.proofs.Entering.{list_counts}

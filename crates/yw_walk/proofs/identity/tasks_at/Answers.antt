@@ -1,7 +1,7 @@
 use Rattle.std.proofs.Common.{Some, subst}
 use Rattle.yw_enabled.proofs.Results.{ok_then}
 use Rattle.yw_walk.proofs.NetThere.{left_there, tasks_there}
-use Rattle.yw_walk.proofs.identity.task_at.Goals as goal
+use Rattle.yw_walk.proofs.identity.tasks_at.Goals as goal
 use Rattle.yw_walk.specs.Finds.{FindsLeft}
 
 pub returns-in-Some-2 : goal.returns-in-Some-2
