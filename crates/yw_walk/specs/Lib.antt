@@ -1,0 +1,3 @@
+pub mod NoWorklet
+pub mod Places
+pub mod Finds
