@@ -1,0 +1,48 @@
+-- The first broken check of a table, by that of its parts.
+use Rattle.std.proofs.Common.{List, None, Option, Some, [], false, inl, inr, refl, subst, sym, true, ◌++◌, ◌∷◌, ◌≡◌}
+use Rattle.yw_breaks.specs.Tables.{IsMoving, Joins}
+use Rattle.yw_state.proofs.Tests.{nowhere}
+use Rattle.yw_state.specs.Broken.{Check, First, checks, fact, fact_at, fault, placeless, test, test_at}
+use Rattle.yw_state.specs.Identity.{Ident}
+use Rattle.yw_state.specs.State.{State}
+use Rattle.yw_state.specs.Texts.{Reader}
+use Rattle.yw_state.specs.declared.command.Command.{Command}
+use Rattle.yw_state.specs.declared.rule.Refusal.{Refusal}
+use Rattle.yw_state.specs.declared.rule.Rule.TheVariants.{NotQuiet}
+
+-- what is broken in front is the first
+pub in_front : (front rest : List Check) (refusal : Refusal) → First front (Some refusal) → First (front ++ rest) (Some refusal)
+in_front [] rest refusal f = nowhere (sym f)
+in_front (test true r ∷ cs) rest refusal f = f
+in_front (test false r ∷ cs) rest refusal f = in_front cs rest refusal f
+in_front (fact P r ∷ cs) rest refusal (inl f) = inl f
+in_front (fact P r ∷ cs) rest refusal (inr f) = inr (f.0, in_front cs rest refusal f.1)
+in_front (test_at (Some at) r ∷ cs) rest refusal f = f
+in_front (test_at None r ∷ cs) rest refusal f = in_front cs rest refusal f
+in_front (fact_at P r ∷ cs) rest refusal (inl f) = inl f
+in_front (fact_at P r ∷ cs) rest refusal (inr f) = inr (f.0, in_front cs rest refusal f.1)
+in_front (fault P ∷ cs) rest refusal (inl f) = inl f
+in_front (fault P ∷ cs) rest refusal (inr f) = inr (f.0, in_front cs rest refusal f.1)
+
+-- where nothing is, what is broken first behind it is the first
+pub behind : (front rest : List Check) (found : Option Refusal) → First front None → First rest found → First (front ++ rest) found
+behind [] rest found f g = g
+behind (test true r ∷ cs) rest found f g = nowhere f
+behind (test false r ∷ cs) rest found f g = behind cs rest found f g
+behind (fact P r ∷ cs) rest found (inl f) g = nowhere f.1
+behind (fact P r ∷ cs) rest found (inr f) g = inr (f.0, behind cs rest found f.1 g)
+behind (test_at (Some at) r ∷ cs) rest found f g = nowhere f
+behind (test_at None r ∷ cs) rest found f g = behind cs rest found f g
+behind (fact_at P r ∷ cs) rest found (inl f) g = nowhere f.2
+behind (fact_at P r ∷ cs) rest found (inr f) g = inr (f.0, behind cs rest found f.1 g)
+behind (fault P ∷ cs) rest found (inl f) g = nowhere f.2
+behind (fault P ∷ cs) rest found (inr f) g = inr (f.0, behind cs rest found f.1 g)
+
+-- a table with the check that the case is quiet between its parts
+pub joined : (reader : Reader) (s : State) (c : Command) (j : Ident) (front rest : List Check)
+    → checks reader s c ≡ front ++ (fact (IsMoving s j) NotQuiet ∷ rest) → Joins reader s c j front rest
+joined reader s c j front rest whole = record {
+  in_front = λ refusal f. subst (λ cs. First cs (Some refusal)) (sym whole) (in_front front (fact (IsMoving s j) NotQuiet ∷ rest) refusal f);
+  moving = λ f moves. subst (λ cs. First cs (Some (placeless NotQuiet))) (sym whole) (behind front (fact (IsMoving s j) NotQuiet ∷ rest) (Some (placeless NotQuiet)) f (inl (moves, refl)));
+  behind = λ found f quiet g. subst (λ cs. First cs found) (sym whole) (behind front (fact (IsMoving s j) NotQuiet ∷ rest) found f (inr (λ moves. moves quiet, g)));
+}

@@ -1,0 +1,24 @@
+-- Each table is its two parts, with the check that the case is quiet between them.
+use Rattle.std.proofs.Common.{List, refl, ℕ}
+use Rattle.yw_breaks.proofs.Joining.{joined}
+use Rattle.yw_breaks.specs.Tables.{Joins, complete_front, complete_rest, enter_front, enter_rest, start_front, start_rest}
+use Rattle.yw_state.specs.Broken.{checks}
+use Rattle.yw_state.specs.Identity.{Ident}
+use Rattle.yw_state.specs.State.{State}
+use Rattle.yw_state.specs.Texts.{Reader}
+use Rattle.yw_state.specs.declared.command.Command.TheVariants as commands
+use Rattle.yw_state.specs.declared.command.Given.{Given}
+
+module _ (reader : Reader) (s : State) where
+  pub start_joins : (who : List ℕ) (j : Ident) → Joins reader s (commands.Start who j) j (start_front s who j) (start_rest s who j)
+  unfolding checks
+  start_joins who j = joined reader s (commands.Start who j) j (start_front s who j) (start_rest s who j) refl
+
+  pub enter_joins : (who : List ℕ) (i : Ident) (t : List ℕ) → Joins reader s (commands.Enter who i t) i (enter_front s who i t) (enter_rest s who i t)
+  unfolding checks
+  enter_joins who i t = joined reader s (commands.Enter who i t) i (enter_front s who i t) (enter_rest s who i t) refl
+
+  pub complete_joins : (who : List ℕ) (j : Ident) (gs : List Given)
+      → Joins reader s (commands.Complete who j gs) j (complete_front s who j gs) (complete_rest s who j gs)
+  unfolding checks
+  complete_joins who j gs = joined reader s (commands.Complete who j gs) j (complete_front s who j gs) (complete_rest s who j gs) refl

@@ -1,0 +1,45 @@
+-- The checks of each command in two parts: those before the check that the case is quiet, and those behind it. They are pieces of the tables
+-- of `yw_state`.
+use Rattle.std.specs.Prelude.{◌≡◌, ◌∷◌, ◌&&◌, ℕ, [], List, None, Option, Some, codes, drop, if◌then◌else◌, is_none, length, nat_le, not, option_and_then, take}
+use Rattle.yw_base.specs.declared.value.Value.{Value}
+use Rattle.yw_state.specs.Automatic.{IsQuiet}
+use Rattle.yw_state.specs.Broken.{Breaks, Check, First, complete_checks, enter_checks, placeless, start_checks}
+use Rattle.yw_state.specs.Identity.{Ident, case_number}
+use Rattle.yw_state.specs.State.{State}
+use Rattle.yw_state.specs.Texts.{Reader}
+use Rattle.yw_state.specs.declared.command.Command.{Command}
+use Rattle.yw_state.specs.declared.command.Given.{Given}
+use Rattle.yw_state.specs.declared.rule.Refusal.{Refusal}
+use Rattle.yw_state.specs.declared.rule.Rule.TheVariants.{NotQuiet}
+
+-- ---- the parts
+
+abbrev pub start_front : State → List ℕ → Ident → List Check
+start_front s who j = take 2 (start_checks s who j)
+
+abbrev pub start_rest : State → List ℕ → Ident → List Check
+start_rest s who j = drop 3 (start_checks s who j)
+
+abbrev pub enter_front : State → List ℕ → Ident → List ℕ → List Check
+enter_front s who i t = take 2 (enter_checks s who i t)
+
+abbrev pub enter_rest : State → List ℕ → Ident → List ℕ → List Check
+enter_rest s who i t = drop 3 (enter_checks s who i t)
+
+abbrev pub complete_front : State → List ℕ → Ident → List Given → List Check
+complete_front s who j gs = take 2 (complete_checks s who j gs)
+
+abbrev pub complete_rest : State → List ℕ → Ident → List Given → List Check
+complete_rest s who j gs = drop 3 (complete_checks s who j gs)
+
+-- ---- the whole
+
+-- something is still to come of itself in the case
+abbrev pub IsMoving : State → Ident → Type 0
+IsMoving s j = IsQuiet s (case_number j) → ⊥
+
+-- What the parts find is what the command breaks first: what is broken before, else that the case isn't quiet, else what is broken behind.
+pub record Joins (reader : Reader) (s : State) (c : Command) (j : Ident) (front rest : List Check) : Type 0 where
+  pub in_front : (refusal : Refusal) → First front (Some refusal) → Breaks reader s c (Some refusal)
+  pub moving : First front None → IsMoving s j → Breaks reader s c (Some (placeless NotQuiet))
+  pub behind : (found : Option Refusal) → First front None → IsQuiet s (case_number j) → First rest found → Breaks reader s c found

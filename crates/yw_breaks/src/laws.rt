@@ -1,0 +1,26 @@
+//! How the parts of a table make the whole. Each law is the contract of a function that does nothing: it holds of all states.
+ghost use Rattle.std.specs.Prelude.{ℕ, List};
+ghost use Rattle.yw_breaks.specs.Tables.{Joins, complete_front, complete_rest, enter_front, enter_rest, start_front, start_rest};
+ghost use Rattle.yw_model.specs.Texts.{reader};
+ghost use Rattle.yw_state.specs.Identity.{Ident};
+ghost use Rattle.yw_state.specs.State.{State};
+ghost use Rattle.yw_state.specs.declared.command.Command.TheVariants as commands;
+ghost use Rattle.yw_state.specs.declared.command.Given.{Given};
+
+/// The table of a start.
+pub fn start_joins()
+    ensures { (s : State) (who : List ℕ) (j : Ident)
+        → Joins reader s (commands.Start who j) j (start_front s who j) (start_rest s who j) }
+{}
+
+/// The table of an entry.
+pub fn enter_joins()
+    ensures { (s : State) (who : List ℕ) (i : Ident) (t : List ℕ)
+        → Joins reader s (commands.Enter who i t) i (enter_front s who i t) (enter_rest s who i t) }
+{}
+
+/// The table of a completion.
+pub fn complete_joins()
+    ensures { (s : State) (who : List ℕ) (j : Ident) (gs : List Given)
+        → Joins reader s (commands.Complete who j gs) j (complete_front s who j gs) (complete_rest s who j gs) }
+{}
