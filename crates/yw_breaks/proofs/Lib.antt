@@ -1,3 +1,6 @@
 pub mod Joining
 pub mod Whole
 pub mod Roles
+pub mod Rows
+pub mod Held
+pub mod Starts

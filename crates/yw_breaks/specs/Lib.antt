@@ -1,2 +1,4 @@
 pub mod Tables
 pub mod Persons
+pub mod Finds
+pub mod Start

@@ -12,6 +12,16 @@ use Rattle.yw_state.specs.declared.command.Given.{Given}
 use Rattle.yw_state.specs.declared.rule.Refusal.{Refusal}
 use Rattle.yw_state.specs.declared.rule.Rule.TheVariants.{NotQuiet}
 
+-- ---- in front
+
+-- of a command on an item
+abbrev pub item_front : State → List ℕ → Ident → List Check
+item_front s who j = take 2 (start_checks s who j)
+
+-- of a command on a net
+abbrev pub net_front : State → List ℕ → Ident → List Check
+net_front s who i = take 2 (enter_checks s who i [])
+
 -- ---- the parts
 
 abbrev pub start_front : State → List ℕ → Ident → List Check

@@ -1,5 +1,12 @@
 //! The first rule that a command with a case breaks, found in the boxes.
 #![tactic(auto)]
 
+mod cases;
+mod front;
 pub mod laws;
 mod persons;
+mod refusals;
+mod start;
+
+pub use cases::{advance_breaks, cancel_breaks};
+pub use start::{start_front, start_rest};

@@ -1,0 +1,27 @@
+// Refusals without a place.
+ghost use Rattle.std.specs.Prelude.{◌≡◌, option_map};
+ghost use Rattle.yw_state.specs.Broken.{placeless};
+
+use std::alloc::Global;
+use yw_base::Text;
+use yw_state::{Refusal, Rule};
+
+/// A rule without a place. It takes no memory.
+pub fn placeless(alloc: Global, rule: Rule) -> Refusal
+    ensures { result ≡ placeless rule }
+{
+    Refusal {
+        rule,
+        at: Text::new(alloc),
+    }
+}
+
+/// The refusal by a rule, if one is broken. It takes no memory.
+pub fn refusal(alloc: Global, rule: Option<Rule>) -> Option<Refusal>
+    ensures { result ≡ option_map placeless rule }
+{
+    match rule {
+        Some(rule) => Some(placeless(alloc, rule)),
+        None => None,
+    }
+}
