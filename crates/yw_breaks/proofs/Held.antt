@@ -1,5 +1,5 @@
 -- What a state that is held has of persons, items and nets.
-use Rattle.std.proofs.Common.{List, None, Option, Some, ap, false, refl, sym, true, ℕ, ◌∙◌, ◌≡◌}
+use Rattle.std.proofs.Common.{List, None, Option, Some, [], ap, false, refl, sym, true, ℕ, ◌∙◌, ◌≡◌}
 use Rattle.std.specs.Prelude.{is_some, not, option_and_then, option_map, unwrap_or}
 use Rattle.yw_base.specs.Identity.{is_identity}
 use Rattle.yw_breaks.specs.Persons.{has_role, is_stranger, lacks_role}

@@ -1,5 +1,7 @@
 -- The first broken check of a table, by that of its parts.
 use Rattle.std.proofs.Common.{List, None, Option, Some, [], false, inl, inr, refl, subst, sym, true, ◌++◌, ◌∷◌, ◌≡◌}
+use Rattle.std.specs.Option.{option_or}
+use Rattle.std.specs.Prelude.{option_map}
 use Rattle.yw_breaks.specs.Tables.{IsMoving, Joins}
 use Rattle.yw_state.proofs.Tests.{nowhere}
 use Rattle.yw_state.specs.Broken.{Check, First, checks, fact, fact_at, fault, placeless, test, test_at}
@@ -8,7 +10,9 @@ use Rattle.yw_state.specs.State.{State}
 use Rattle.yw_state.specs.Texts.{Reader}
 use Rattle.yw_state.specs.declared.command.Command.{Command}
 use Rattle.yw_state.specs.declared.rule.Refusal.{Refusal}
+use Rattle.yw_state.specs.declared.rule.Rule.{Rule}
 use Rattle.yw_state.specs.declared.rule.Rule.TheVariants.{NotQuiet}
+use Rattle.yw_task.specs.Completes.{or_else}
 
 -- what is broken in front is the first
 pub in_front : (front rest : List Check) (refusal : Refusal) → First front (Some refusal) → First (front ++ rest) (Some refusal)
@@ -37,6 +41,18 @@ behind (fact_at P r ∷ cs) rest found (inl f) g = nowhere f.2
 behind (fact_at P r ∷ cs) rest found (inr f) g = inr (f.0, behind cs rest found f.1 g)
 behind (fault P ∷ cs) rest found (inl f) g = nowhere f.2
 behind (fault P ∷ cs) rest found (inr f) g = inr (f.0, behind cs rest found f.1 g)
+
+-- where all that is found in front has no place
+pub then_rest : (front rest : List Check) (o : Option Rule) (found : Option Refusal) → First front (option_map placeless o) → (o ≡ None → First rest found)
+    → First (front ++ rest) (or_else found o)
+then_rest front rest (Some r) found f g = in_front front rest (placeless r) f
+then_rest front rest None found f g = behind front rest found f (g refl)
+
+-- nor what is found behind
+pub then_or : (front rest : List Check) (o p : Option Rule) → First front (option_map placeless o) → First rest (option_map placeless p)
+    → First (front ++ rest) (option_map placeless (option_or o p))
+then_or front rest (Some r) p f g = in_front front rest (placeless r) f
+then_or front rest None p f g = behind front rest (option_map placeless p) f g
 
 -- a table with the check that the case is quiet between its parts
 pub joined : (reader : Reader) (s : State) (c : Command) (j : Ident) (front rest : List Check)

@@ -1,6 +1,10 @@
 pub mod Joining
 pub mod Whole
-pub mod Roles
+pub mod Results
 pub mod Rows
+pub mod Roles
 pub mod Held
+pub mod Fronts
+pub mod Named
 pub mod Starts
+pub mod Launches

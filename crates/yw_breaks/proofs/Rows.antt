@@ -18,6 +18,10 @@ pub test_row : (a b : Bool) → a ≡ b → (r : Rule) (cs : List Check) (o : Op
 test_row a true e r cs o f = subst (λ (x : Bool). First (test x r ∷ cs) (Some (placeless r))) (sym e) refl
 test_row a false e r cs o f = subst (λ (x : Bool). First (test x r ∷ cs) o) (sym e) f
 
+-- a test that is broken
+pub broken_row : (a : Bool) → a ≡ true → (r : Rule) (cs : List Check) → First (test a r ∷ cs) (Some (placeless r))
+broken_row a e r cs = subst (λ (x : Bool). First (test x r ∷ cs) (Some (placeless r))) (sym e) refl
+
 -- a test that isn't broken
 pub idle_row : (a : Bool) → a ≡ false → (r : Rule) (cs : List Check) (o : Option Refusal) → First cs o → First (test a r ∷ cs) o
 idle_row a e r cs o f = subst (λ (x : Bool). First (test x r ∷ cs) o) (sym e) f

@@ -1,9 +1,10 @@
 -- What a start breaks first behind the check that the case is quiet.
-use Rattle.std.proofs.Common.{List, None, Option, ap, refl, subst, ℕ, ◌∙◌, ◌≡◌, ◌∷◌, [], false}
-use Rattle.std.specs.Prelude.{get_or, not, option_map, unwrap_or}
+use Rattle.std.proofs.Common.{Bool, List, None, Option, Some, ap, refl, subst, ℕ, ◌∙◌, ◌≡◌, ◌∷◌, [], false}
+use Rattle.std.specs.Prelude.{drop, not, option_map, take, unwrap_or, if◌then◌else◌}
 use Rattle.yw_breaks.proofs.Held.{no_item, role_is}
+use Rattle.yw_breaks.proofs.Joining.{then_or}
 use Rattle.yw_breaks.proofs.Rows.{idle_row, rule_row}
-use Rattle.yw_breaks.specs.Persons.{has_role, lacks_role}
+use Rattle.yw_breaks.specs.Persons.{has_role, lacks_role, worker_rule}
 use Rattle.yw_breaks.specs.Start.{start_rule}
 use Rattle.yw_breaks.specs.Tables.{start_rest}
 use Rattle.yw_known.specs.Held.{IsHeld}
@@ -13,7 +14,7 @@ use Rattle.yw_known.specs.declared.here.ItemHere.{ItemHere}
 use Rattle.yw_library.specs.Holdings.{Holdings}
 use Rattle.yw_plain.proofs.Words.{words}
 use Rattle.yw_plain.specs.Plain.{IsPlain}
-use Rattle.yw_state.specs.Broken.{First, placeless}
+use Rattle.yw_state.specs.Broken.{First, placeless, test}
 use Rattle.yw_state.specs.Identity.{Ident}
 use Rattle.yw_state.specs.Map.{get}
 use Rattle.yw_state.specs.Nets.{is_atomic}
@@ -39,9 +40,10 @@ starts_first known f s who j x h plain here =
     let n = x.item.now in
     let shown : First (start_shown s who j) (option_map placeless (start_fault n)) =
     subst (λ i. First (start_shown s who i) (option_map placeless (start_fault n))) here.identity (asks_start n (names_of known) f s y who here.stands (ap (item_at s) here.identity ∙ here.at)) in
-    rule_row (is_some_and (item_at s j) by_itself) (not (is_atomic x.task.now)) (ap (λ o. is_some_and o by_itself) here.at) rules.ByItself _ _
-    (rule_row (is_some_and (item_at s j) (lacks s who)) (lacks_role known who x.task.now) (ap (λ o. is_some_and o (lacks s who)) here.at ∙ role_is known f s h who x.task.now) rules.Role _ _
-    (idle_row (word.held s j) ((words s plain).held j) rules.Held _ _ shown))
+    then_or (take 2 (start_rest s who j)) (drop 2 (start_rest s who j)) (worker_rule known who x.task.now) (start_fault n)
+    (rule_row (is_some_and (item_at s j) by_itself) (not (is_atomic x.task.now)) (ap (λ o. is_some_and o by_itself) here.at) rules.ByItself (test (is_some_and (item_at s j) (lacks s who)) rules.Role ∷ []) (if lacks_role known who x.task.now then Some rules.Role else None)
+    (rule_row (is_some_and (item_at s j) (lacks s who)) (lacks_role known who x.task.now) (ap (λ o. is_some_and o (lacks s who)) here.at ∙ role_is known f s h who x.task.now) rules.Role [] None refl))
+    (idle_row (word.held s j) ((words s plain).held j) rules.Held (start_shown s who j) (option_map placeless (start_fault n)) shown)
 
 -- without an item, nothing
 pub starts_none : (s : State) (who : List ℕ) (j : Ident) → IsPlain s → is_item s j ≡ false → First (start_rest s who j) None

@@ -1,4 +1,6 @@
 pub mod Tables
-pub mod Persons
 pub mod Finds
+pub mod Persons
+pub mod Nets
 pub mod Start
+pub mod Launch

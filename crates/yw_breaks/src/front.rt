@@ -1,6 +1,7 @@
 // What is tried before the case must be quiet.
 ghost use Rattle.std.specs.Prelude.{◌≡◌, is_none, option_map};
 ghost use Rattle.yw_breaks.specs.Finds.{Finds};
+ghost use Rattle.yw_breaks.specs.Persons.{front_rule};
 ghost use Rattle.yw_breaks.specs.Tables.{item_front, net_front};
 ghost use Rattle.yw_known.specs.Held.{IsHeld};
 ghost use Rattle.yw_library.specs.Holdings.{Holdings};
@@ -21,24 +22,35 @@ fn is_item(forest: &Forest, id: &Ident) -> bool
     forest.item(id).is_some()
 }
 
-/// `UnknownPerson` or `UnknownItem`.
+/// `UnknownPerson` where nobody has the name, else this rule where what is named isn't there.
+fn front_rule(is_stranger: bool, is_missing: bool, rule: Rule) -> Option<Rule>
+    ensures { result ≡ front_rule is_stranger is_missing rule }
+{
+    if is_stranger {
+        return Some(Rule::UnknownPerson);
+    }
+    is_missing.then_some(rule)
+}
+
+/// `UnknownPerson` where nobody has this name, `UnknownItem` where no item has this identity.
 pub fn item_front(known: &Known, forest: &Forest, who: &Name, item: &Ident) -> Option<Rule>
     ensures { Finds known.now forest.now (λ s. item_front s who.now item.now) (option_map placeless result) }
 {
-    if is_stranger(known.library(), who) {
-        return Some(Rule::UnknownPerson);
-    }
-    (!is_item(forest, item)).then_some(Rule::UnknownItem)
+    let is_stranger = is_stranger(known.library(), who);
+    front_rule(is_stranger, !is_item(forest, item), Rule::UnknownItem)
 }
 
-/// `UnknownPerson` or `UnknownCase`.
+/// No net stands at this identity.
+fn is_vacant(known: &Known, forest: &Forest, at: &Ident) -> bool
+    ensures { (s : State) → IsHeld known.now forest.now s → result ≡ is_none (net_part s at.now) }
+{
+    net_here(known, forest, at).is_none()
+}
+
+/// `UnknownPerson` where nobody has this name, `UnknownCase` where no net stands at this identity.
 pub fn net_front(known: &Known, forest: &Forest, who: &Name, at: &Ident) -> Option<Rule>
     ensures { Finds known.now forest.now (λ s. net_front s who.now at.now) (option_map placeless result) }
 {
-    if is_stranger(known.library(), who) {
-        return Some(Rule::UnknownPerson);
-    }
-    net_here(known, forest, at)
-        .is_none()
-        .then_some(Rule::UnknownCase)
+    let is_stranger = is_stranger(known.library(), who);
+    front_rule(is_stranger, is_vacant(known, forest, at), Rule::UnknownCase)
 }

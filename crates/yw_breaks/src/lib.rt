@@ -3,10 +3,13 @@
 
 mod cases;
 mod front;
+mod launch;
 pub mod laws;
+mod nets;
 mod persons;
 mod refusals;
 mod start;
 
 pub use cases::{advance_breaks, cancel_breaks};
+pub use launch::launch_breaks;
 pub use start::{start_front, start_rest};

@@ -3,12 +3,14 @@ ghost use Rattle.std.specs.Prelude.{◌≡◌, find};
 ghost use Rattle.std.specs.List.{list_any};
 ghost use Rattle.std.specs.Option.{option_copied};
 ghost use Rattle.std.specs.Str.{bytes_eq};
-ghost use Rattle.yw_breaks.specs.Persons.{has_role, is_stranger, lacks_role, roles_of};
+ghost use Rattle.yw_breaks.specs.Persons.{has_role, is_stranger, lacks_role, roles_of, worker_rule};
 ghost use Rattle.yw_library.specs.declared.items.Person.{Person as PersonIs};
+ghost use Rattle.yw_state.specs.Nets.{is_atomic};
 
 use yw_base::{Name, NameList};
 use yw_library::{Library, Person};
-use yw_spec::Task;
+use yw_spec::{Kind, Task};
+use yw_state::Rule;
 
 /// The person with this name. It goes over the persons.
 fn person_named<'a>(persons: &'a [Person], who: &Name) -> Option<&'a Person>
@@ -36,6 +38,16 @@ pub fn is_stranger(library: &Library, who: &Name) -> bool
     roles_of(library, who).is_none()
 }
 
+/// Persons do the task's items.
+fn is_atomic(task: &Task) -> bool
+    ensures { result ≡ is_atomic task.now }
+{
+    match task.kind {
+        Kind::Atomic => true,
+        Kind::Empty | Kind::Sub(_) => false,
+    }
+}
+
 /// The role is one of these.
 fn is_among(roles: &[Name], role: &Name) -> bool
     ensures { result ≡ list_any (bytes_eq role.now) roles.now }
@@ -52,4 +64,14 @@ pub fn lacks_role(library: &Library, who: &Name, task: &Task) -> bool
         (Some(_), None) => true,
         (Some(role), Some(roles)) => !is_among(roles.as_slice(), role),
     }
+}
+
+/// `ByItself` where persons don't do the task's items, `Role` where the person lacks its role.
+pub fn worker_rule(library: &Library, who: &Name, task: &Task) -> Option<Rule>
+    ensures { result ≡ worker_rule library.now who.now task.now }
+{
+    if !is_atomic(task) {
+        return Some(Rule::ByItself);
+    }
+    lacks_role(library, who, task).then_some(Rule::Role)
 }

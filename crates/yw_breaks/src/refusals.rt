@@ -1,5 +1,6 @@
 // Refusals without a place.
 ghost use Rattle.std.specs.Prelude.{◌≡◌, option_map};
+ghost use Rattle.yw_breaks.specs.Launch.{number_rule};
 ghost use Rattle.yw_state.specs.Broken.{placeless};
 
 use std::alloc::Global;
@@ -24,4 +25,14 @@ pub fn refusal(alloc: Global, rule: Option<Rule>) -> Option<Refusal>
         Some(rule) => Some(placeless(alloc, rule)),
         None => None,
     }
+}
+
+/// The first number that is too large, 2^48.
+const NUMBER_END: u64 = 0x1_0000_0000_0000;
+
+/// `Numbers` where no number is left, of which this is drawn next.
+pub fn number_rule(next: u64) -> Option<Rule>
+    ensures { result ≡ number_rule next }
+{
+    (next >= NUMBER_END).then_some(Rule::Numbers)
 }

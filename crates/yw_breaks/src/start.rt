@@ -4,15 +4,13 @@ ghost use Rattle.yw_breaks.specs.Finds.{Finds, FindsPlain};
 ghost use Rattle.yw_breaks.specs.Start.{start_rule};
 ghost use Rattle.yw_breaks.specs.Tables.{start_front, start_rest};
 ghost use Rattle.yw_state.specs.Broken.{placeless};
-ghost use Rattle.yw_state.specs.Nets.{is_atomic};
 
 use crate::front::item_front;
-use crate::persons::lacks_role;
+use crate::persons::worker_rule;
 use crate::refusals::refusal;
 use std::alloc::{AllocError, Global};
 use yw_base::{Ident, Name};
 use yw_known::{ItemHere, Known, item_here};
-use yw_spec::{Kind, Task};
 use yw_state::{Refusal, Rule};
 use yw_task::ask_start;
 use yw_tree::Forest;
@@ -25,27 +23,14 @@ pub fn start_front(known: &Known, forest: &Forest, who: &Name, item: &Ident) -> 
     item_front(known, forest, who, item)
 }
 
-/// Persons do the task's items.
-fn is_atomic(task: &Task) -> bool
-    ensures { result ≡ is_atomic task.now }
-{
-    match task.kind {
-        Kind::Atomic => true,
-        Kind::Empty | Kind::Sub(_) => false,
-    }
-}
-
 /// The rule that a start of this item breaks.
 fn start_rule(known: &Known, who: &Name, here: &ItemHere<'_>) -> Option<Rule>
     ensures { result ≡ start_rule known.now who.now here.now }
 {
-    if !is_atomic(here.task) {
-        return Some(Rule::ByItself);
+    match worker_rule(known.library(), who, here.task) {
+        Some(rule) => Some(rule),
+        None => ask_start(here.item),
     }
-    if lacks_role(known.library(), who, here.task) {
-        return Some(Rule::Role);
-    }
-    ask_start(here.item)
 }
 
 /// The first rule that a start breaks, of those that are tried behind, in a state without rules, suspensions and runs: `ByItself` where the
