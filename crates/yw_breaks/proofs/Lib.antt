@@ -7,4 +7,6 @@ pub mod Held
 pub mod Fronts
 pub mod Named
 pub mod Starts
+pub mod Counts
+pub mod Enters
 pub mod Launches

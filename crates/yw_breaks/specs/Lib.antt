@@ -3,4 +3,5 @@ pub mod Finds
 pub mod Persons
 pub mod Nets
 pub mod Start
+pub mod Enter
 pub mod Launch

@@ -2,6 +2,7 @@
 #![tactic(auto)]
 
 mod cases;
+mod enter;
 mod front;
 mod launch;
 pub mod laws;
@@ -11,5 +12,6 @@ mod refusals;
 mod start;
 
 pub use cases::{advance_breaks, cancel_breaks};
+pub use enter::{enter_front, enter_rest};
 pub use launch::launch_breaks;
 pub use start::{start_front, start_rest};
