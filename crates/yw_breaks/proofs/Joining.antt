@@ -42,6 +42,20 @@ behind (fact_at P r ∷ cs) rest found (inr f) g = inr (f.0, behind cs rest foun
 behind (fault P ∷ cs) rest found (inl f) g = nowhere f.2
 behind (fault P ∷ cs) rest found (inr f) g = inr (f.0, behind cs rest found f.1 g)
 
+-- where nothing is broken, nothing is in front
+pub front_none : (front rest : List Check) → First (front ++ rest) None → First front None
+front_none [] rest f = refl
+front_none (test true r ∷ cs) rest f = f
+front_none (test false r ∷ cs) rest f = front_none cs rest f
+front_none (fact P r ∷ cs) rest (inl f) = inl f
+front_none (fact P r ∷ cs) rest (inr f) = inr (f.0, front_none cs rest f.1)
+front_none (test_at (Some at) r ∷ cs) rest f = f
+front_none (test_at None r ∷ cs) rest f = front_none cs rest f
+front_none (fact_at P r ∷ cs) rest (inl f) = inl f
+front_none (fact_at P r ∷ cs) rest (inr f) = inr (f.0, front_none cs rest f.1)
+front_none (fault P ∷ cs) rest (inl f) = inl f
+front_none (fault P ∷ cs) rest (inr f) = inr (f.0, front_none cs rest f.1)
+
 -- where all that is found in front has no place
 pub then_rest : (front rest : List Check) (o : Option Rule) (found : Option Refusal) → First front (option_map placeless o) → (o ≡ None → First rest found)
     → First (front ++ rest) (or_else found o)

@@ -1,6 +1,5 @@
 pub mod Joining
 pub mod Whole
-pub mod Results
 pub mod Rows
 pub mod Roles
 pub mod Held
@@ -10,3 +9,5 @@ pub mod Starts
 pub mod Counts
 pub mod Enters
 pub mod Launches
+pub mod Completes
+pub mod Adds

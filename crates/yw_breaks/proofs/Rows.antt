@@ -1,5 +1,5 @@
 -- The first broken check of a table, found a row at a time.
-use Rattle.std.proofs.Common.{Bool, List, None, Option, Some, false, refl, subst, sym, true, ℕ, ◌∷◌, ◌≡◌}
+use Rattle.std.proofs.Common.{Bool, List, None, Option, Some, [], false, refl, subst, sym, true, ℕ, ◌∷◌, ◌≡◌}
 use Rattle.std.specs.Option.{option_or}
 use Rattle.std.specs.Prelude.{option_map, if◌then◌else◌}
 use Rattle.yw_state.specs.Broken.{Check, First, placed, placeless, test, test_at}
@@ -31,3 +31,12 @@ pub place_row : (a b : Option (List ℕ)) → a ≡ b → (r : Rule) (cs : List 
     → First (test_at a r ∷ cs) (option_or (option_map (placed r) b) o)
 place_row a (Some at) e r cs o f = subst (λ (x : Option (List ℕ)). First (test_at x r ∷ cs) (Some (placed r at))) (sym e) refl
 place_row a None e r cs o f = subst (λ (x : Option (List ℕ)). First (test_at x r ∷ cs) o) (sym e) f
+
+-- the last place
+pub last_place : (a b : Option (List ℕ)) → a ≡ b → (r : Rule) → First (test_at a r ∷ []) (option_map (placed r) b)
+last_place a (Some at) e r = subst (λ (x : Option (List ℕ)). First (test_at x r ∷ []) (Some (placed r at))) (sym e) refl
+last_place a None e r = subst (λ (x : Option (List ℕ)). First (test_at x r ∷ []) None) (sym e) refl
+
+-- a place that there isn't
+pub idle_place : (a : Option (List ℕ)) → a ≡ None → (r : Rule) (cs : List Check) (o : Option Refusal) → First cs o → First (test_at a r ∷ cs) o
+idle_place a e r cs o f = subst (λ (x : Option (List ℕ)). First (test_at x r ∷ cs) o) (sym e) f

@@ -5,3 +5,5 @@ pub mod Nets
 pub mod Start
 pub mod Enter
 pub mod Launch
+pub mod Complete
+pub mod Add

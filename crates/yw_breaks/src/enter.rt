@@ -1,19 +1,18 @@
 // A person enters a task.
-ghost use Rattle.std.specs.Prelude.{◌≡◌, ◌<◌, IfOk, Some, length, option_map};
+ghost use Rattle.std.specs.Prelude.{◌≡◌, ◌<◌, IfOk, length, option_map};
 ghost use Rattle.yw_breaks.specs.Enter.{EnterBreaks, IsFed, item_count};
 ghost use Rattle.yw_breaks.specs.Finds.{Finds, FindsNext};
 ghost use Rattle.yw_breaks.specs.Nets.{IsWithinHere};
 ghost use Rattle.yw_breaks.specs.Tables.{enter_front, enter_rest};
-ghost use Rattle.yw_state.specs.Broken.{placed, placeless};
-ghost use Rattle.yw_state.specs.declared.rule.Rule.TheVariants.{Mapping};
+ghost use Rattle.yw_state.specs.Broken.{placeless};
 ghost use Rattle.yw_task.specs.Giving.{entry_fault};
 
 use crate::front::net_front;
 use crate::nets::{net_there, task_named};
 use crate::persons::worker_rule;
-use crate::refusals::{placeless, refusal};
+use crate::refusals::{placeless, refusal, undefined};
 use std::alloc::{AllocError, Global};
-use yw_base::{Ident, Name, Row, Text};
+use yw_base::{Ident, Name, Row};
 use yw_expr::view;
 use yw_known::{Known, NetHere};
 use yw_spec::Task;
@@ -37,17 +36,6 @@ fn item_count(task: &Task, vals: &Row) -> Option<usize>
         Some(many) => Some(element_count(view(&many.each, vals)?)),
         None => Some(1),
     }
-}
-
-/// A mapping that is undefined, by what it is for.
-fn undefined(alloc: Global, at: &str) -> Result<Option<Refusal>, AllocError>
-    ensures { IfOk result (λ found. found ≡ Some (placed Mapping at.now)) }
-{
-    let at = Text::copy_of(alloc, at)?;
-    Ok(Some(Refusal {
-        rule: Rule::Mapping,
-        at,
-    }))
 }
 
 /// What keeps items from coming, where a parameter without an expression is given an element: `Mapping`, `Count` or `Numbers`.

@@ -39,7 +39,7 @@ pub fn is_stranger(library: &Library, who: &Name) -> bool
 }
 
 /// Persons do the task's items.
-fn is_atomic(task: &Task) -> bool
+pub fn is_atomic(task: &Task) -> bool
     ensures { result ≡ is_atomic task.now }
 {
     match task.kind {

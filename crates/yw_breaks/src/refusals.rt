@@ -1,9 +1,10 @@
-// Refusals without a place.
-ghost use Rattle.std.specs.Prelude.{◌≡◌, option_map};
+// Refusals.
+ghost use Rattle.std.specs.Prelude.{◌≡◌, IfOk, Some, option_map};
 ghost use Rattle.yw_breaks.specs.Launch.{number_rule};
-ghost use Rattle.yw_state.specs.Broken.{placeless};
+ghost use Rattle.yw_state.specs.Broken.{placed, placeless};
+ghost use Rattle.yw_state.specs.declared.rule.Rule.TheVariants.{Mapping};
 
-use std::alloc::Global;
+use std::alloc::{AllocError, Global};
 use yw_base::Text;
 use yw_state::{Refusal, Rule};
 
@@ -25,6 +26,17 @@ pub fn refusal(alloc: Global, rule: Option<Rule>) -> Option<Refusal>
         Some(rule) => Some(placeless(alloc, rule)),
         None => None,
     }
+}
+
+/// The refusal by an expression that is undefined, at what it is for. An `Err` says that no memory was left.
+pub fn undefined(alloc: Global, at: &str) -> Result<Option<Refusal>, AllocError>
+    ensures { IfOk result (λ found. found ≡ Some (placed Mapping at.now)) }
+{
+    let at = Text::copy_of(alloc, at)?;
+    Ok(Some(Refusal {
+        rule: Rule::Mapping,
+        at,
+    }))
 }
 
 /// The first number that is too large, 2^48.

@@ -1,6 +1,6 @@
 use Rattle.std.proofs.Common.{Option, Some, ap, subst, sym, ◌∙◌, ◌≡◌}
 use Rattle.yw_breaks.proofs.Enters.{net_breaks, values_break, worker_breaks}
-use Rattle.yw_breaks.proofs.Results.{if_ok}
+use Rattle.yw_nest.proofs.Results.{if_ok}
 use Rattle.yw_breaks.proofs.enter.enter_fault.Goals as goal
 use Rattle.yw_breaks.specs.Enter.{EnterBreaks, IsFed}
 use Rattle.yw_breaks.specs.Persons.{worker_rule}

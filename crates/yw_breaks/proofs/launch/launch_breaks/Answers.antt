@@ -1,6 +1,6 @@
 use Rattle.std.proofs.Common.{List, Option, Some, ap, subst, sym, ◌≡◌}
 use Rattle.yw_breaks.proofs.Launches.{launches_known, launches_unknown}
-use Rattle.yw_breaks.proofs.Results.{if_ok}
+use Rattle.yw_nest.proofs.Results.{if_ok}
 use Rattle.yw_breaks.proofs.launch.launch_breaks.Goals as goal
 use Rattle.yw_breaks.specs.Finds.{BreaksNext}
 use Rattle.yw_breaks.specs.Launch.{launch_fault}
