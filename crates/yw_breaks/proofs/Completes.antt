@@ -1,6 +1,6 @@
 -- What a completion breaks first behind the check that the case is quiet.
-use Rattle.std.proofs.Common.{Bool, List, None, Option, Some, [], ap, false, refl, subst, sym, true, ℕ, ◌∙◌, ◌∷◌, ◌≡◌}
-use Rattle.std.specs.Prelude.{Box, ◌||◌, drop, is_some, not, option_and_then, option_map, take}
+use Rattle.std.proofs.Common.{Bool, List, None, Option, Some, [], ap, false, refl, subst, true, ℕ, ◌∙◌, ◌≡◌}
+use Rattle.std.specs.Prelude.{Box, ◌||◌, drop, is_some, not, option_and_then, option_map}
 use Rattle.std.specs.declared.alloc.Global.{Global}
 use Rattle.yw_base.specs.Identity.{is_identity}
 use Rattle.yw_breaks.proofs.Held.{no_item}

@@ -15,9 +15,8 @@ use Rattle.yw_spec.specs.declared.task.Task.{Task}
 use Rattle.yw_state.proofs.Tests.{map_some, never, nowhere, some_same}
 use Rattle.yw_state.specs.Broken.{placed, placeless}
 use Rattle.yw_state.specs.Options.{all_of}
-use Rattle.yw_state.specs.Passing.{elements_for, entry_values, given_values}
+use Rattle.yw_state.specs.Passing.{elements_for, given_values}
 use Rattle.yw_state.specs.Values.{Row}
-use Rattle.yw_state.specs.declared.rule.Refusal.{Refusal}
 use Rattle.yw_state.specs.declared.rule.Rule.TheVariants as rules
 use Rattle.yw_task.proofs.AddTable.{is_given}
 use Rattle.yw_task.specs.Giving.{count_rule, entry_fault, entry_rows, given_value, lacks_value, undefined_param, value_or}

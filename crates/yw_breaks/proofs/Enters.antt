@@ -1,6 +1,5 @@
 -- What an entry breaks first behind the check that the case is quiet.
-use Rattle.std.proofs.Common.{Bool, List, None, Option, Some, [], ap, false, length, refl, subst, sym, true, ℕ, ◌+◌, ◌∙◌, ◌∷◌, ◌≡◌}
-use Rattle.std.specs.Option.{option_or}
+use Rattle.std.proofs.Common.{Bool, List, None, Option, Some, [], ap, length, refl, subst, sym, ℕ, ◌+◌, ◌∙◌, ◌∷◌, ◌≡◌}
 use Rattle.std.specs.Prelude.{drop, is_none, nat_lt, not, option_and_then, option_map, slice_get, take, unwrap_or, if◌then◌else◌}
 use Rattle.yw_base.specs.Identity.{number_end}
 use Rattle.yw_breaks.proofs.Held.{role_is}

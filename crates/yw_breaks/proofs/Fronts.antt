@@ -1,9 +1,8 @@
 -- What is broken first of a person and what is named, and of a case alone.
-use Rattle.std.proofs.Common.{Bool, None, Option, Some, [], ap, false, refl, subst, sym, true, ◌∙◌, ◌∷◌, ◌≡◌}
-use Rattle.std.specs.Bool.{then_some}
+use Rattle.std.proofs.Common.{Bool, None, Option, Some, [], refl, subst, sym, ◌∷◌, ◌≡◌}
 use Rattle.std.specs.Prelude.{not, option_map, if◌then◌else◌}
 use Rattle.yw_breaks.proofs.Rows.{rule_row}
-use Rattle.yw_breaks.specs.Persons.{front_rule}
+use Rattle.yw_breaks.specs.Persons.{case_rule, front_rule}
 use Rattle.yw_state.specs.Broken.{Breaks, First, checks, placeless, test}
 use Rattle.yw_state.specs.Identity.{Ident}
 use Rattle.yw_state.specs.State.{State, is_case}
@@ -20,15 +19,11 @@ fronts a b stranger missing r o is there e =
 
 -- ---- a case
 
-then_is : (b : Bool) (r : Rule) → then_some b r ≡ (if b then Some r else None)
-then_is true r = refl
-then_is false r = refl
-
-module _ (reader : Reader) (s : State) (j : Ident) (there : Bool) (o : Option Rule) (is : there ≡ is_case s j) (e : o ≡ then_some (not there) rules.UnknownCase) where
+module _ (reader : Reader) (s : State) (j : Ident) (o : Option Rule) (e : o ≡ case_rule (is_case s j)) where
   case_first : First (test (not (is_case s j)) rules.UnknownCase ∷ []) (option_map placeless o)
   case_first =
-      subst (λ (x : Option Rule). First (test (not (is_case s j)) rules.UnknownCase ∷ []) (option_map placeless x)) (sym (e ∙ then_is (not there) rules.UnknownCase))
-      (rule_row (not (is_case s j)) (not there) (ap not (sym is)) rules.UnknownCase [] None refl)
+      subst (λ (x : Option Rule). First (test (not (is_case s j)) rules.UnknownCase ∷ []) (option_map placeless x)) (sym e)
+      (rule_row (not (is_case s j)) (not (is_case s j)) refl rules.UnknownCase [] None refl)
 
   pub cancels : Breaks reader s (commands.Cancel j) (option_map placeless o)
   unfolding checks

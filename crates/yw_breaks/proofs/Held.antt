@@ -17,7 +17,6 @@ use Rattle.yw_tree.proofs.Parents.{identity_short}
 use Rattle.yw_tree.specs.Entries.{item_part_of}
 use Rattle.yw_tree.specs.Forest.{item_of}
 use Rattle.yw_tree.specs.declared.Forest.{Forest}
-use Rattle.yw_tree.specs.declared.Node.{Node}
 
 none_of : {A : Type 0} (o : Option A) → is_some o ≡ false → o ≡ None
 none_of None e = refl

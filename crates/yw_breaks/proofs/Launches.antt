@@ -1,9 +1,9 @@
 -- What a launch breaks first.
-use Rattle.std.proofs.Common.{List, None, Option, Some, ap, false, refl, subst, sym, true, ℕ, ◌+◌, ◌∙◌, ◌≡◌, []}
+use Rattle.std.proofs.Common.{List, None, Option, Some, ap, false, refl, ℕ, ◌+◌, ◌∙◌, ◌≡◌, []}
 use Rattle.std.specs.Prelude.{is_some, nat_lt, not, option_and_then, option_map}
 use Rattle.yw_base.specs.Identity.{number_end}
 use Rattle.yw_breaks.proofs.Rows.{broken_row, idle_row, place_row, rule_row}
-use Rattle.yw_breaks.specs.Launch.{launch_fault, number_rule, unwanted_at}
+use Rattle.yw_breaks.specs.Launch.{launch_fault, unwanted_at}
 use Rattle.yw_known.proofs.Standing.{kept_called, specs_are}
 use Rattle.yw_known.specs.Held.{IsHeld}
 use Rattle.yw_library.specs.Holdings.{Holdings, IsKept, state_of}
@@ -14,7 +14,7 @@ use Rattle.yw_state.specs.Broken.{Breaks, checks, is_spent, placeless}
 use Rattle.yw_state.specs.Given.{unwanted}
 use Rattle.yw_state.specs.Map.{get, has_key}
 use Rattle.yw_state.specs.Nets.{top_net}
-use Rattle.yw_state.specs.State.{State, spec_called, top_called}
+use Rattle.yw_state.specs.State.{State, top_called}
 use Rattle.yw_state.specs.Texts.{Reader}
 use Rattle.yw_state.specs.declared.command.Command.TheVariants as commands
 use Rattle.yw_state.specs.declared.command.Given.{Given}

@@ -1,5 +1,5 @@
 -- The roles of a person, found in the list of persons.
-use Rattle.std.proofs.Common.{Bool, List, None, Option, Some, [], ap, cond, false, nat_cmp, refl, sym, true, ℕ, ◌∙◌, ◌∷◌, ◌≡◌}
+use Rattle.std.proofs.Common.{Bool, List, Option, Some, [], ap, cond, false, nat_cmp, refl, sym, true, ℕ, ◌∙◌, ◌∷◌, ◌≡◌}
 use Rattle.std.proofs.lemmas.Map.Text.{is_eq-slice_cmp}
 use Rattle.std.specs.Cmp.Lexicographic.{slice_cmp}
 use Rattle.std.specs.FinMap.Entries as entries

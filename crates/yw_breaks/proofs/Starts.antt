@@ -1,5 +1,5 @@
 -- What a start breaks first behind the check that the case is quiet.
-use Rattle.std.proofs.Common.{Bool, List, None, Option, Some, ap, refl, subst, ℕ, ◌∙◌, ◌≡◌, ◌∷◌, [], false}
+use Rattle.std.proofs.Common.{Bool, List, None, Some, ap, refl, subst, ℕ, ◌∙◌, ◌≡◌, ◌∷◌, [], false}
 use Rattle.std.specs.Prelude.{drop, not, option_map, take, unwrap_or, if◌then◌else◌}
 use Rattle.yw_breaks.proofs.Held.{no_item, role_is}
 use Rattle.yw_breaks.proofs.Joining.{then_or}
@@ -25,7 +25,6 @@ use Rattle.yw_state.specs.declared.rule.Rule.TheVariants as rules
 use Rattle.yw_task.proofs.AskLaw.{asks_start}
 use Rattle.yw_task.specs.Asked.{start_fault, start_shown}
 use Rattle.yw_tree.specs.declared.Forest.{Forest}
-use Rattle.yw_tree.specs.declared.Node.{out-Node}
 
 abbrev by_itself : ItemAt → Bool
 by_itself x = not (is_atomic x.of_task.task)

@@ -36,3 +36,7 @@ worker_rule known who t = if not (is_atomic t) then Some rules.ByItself else (if
 -- `UnknownPerson`, else this rule, if either is broken
 abbrev pub front_rule : Bool → Bool → Rule → Option Rule
 front_rule stranger missing rule = if stranger then Some rules.UnknownPerson else (if missing then Some rule else None)
+
+-- `UnknownCase`, if the case isn't there
+abbrev pub case_rule : Bool → Option Rule
+case_rule there = if not there then Some rules.UnknownCase else None

@@ -1,6 +1,6 @@
 -- The checks of each command in two parts: those before the check that the case is quiet, and those behind it. They are pieces of the tables
 -- of `yw_state`.
-use Rattle.std.specs.Prelude.{◌≡◌, ◌∷◌, ℕ, [], Bool, List, None, Option, Some, codes, drop, if◌then◌else◌, is_none, length, nat_le, not, option_and_then, take, unwrap_or}
+use Rattle.std.specs.Prelude.{◌∷◌, ℕ, [], Bool, List, None, Option, Some, codes, drop, if◌then◌else◌, is_none, length, nat_le, not, option_and_then, take, unwrap_or}
 use Rattle.yw_base.specs.declared.value.Value.{Value}
 use Rattle.yw_breaks.specs.Persons.{has_role}
 use Rattle.yw_state.specs.Automatic.{IsQuiet}

@@ -22,7 +22,13 @@ use yw_tree::Forest;
 
 /// The first rule that an entry breaks, of those that are tried before the case must be quiet: `UnknownPerson` where nobody has this name,
 /// `UnknownCase` where no net stands at the identity; `None` where it breaks neither. It takes no memory.
-pub fn enter_front(known: &Known, forest: &Forest, who: &Name, at: &Ident, task: &Name) -> Option<Rule>
+pub fn enter_front(
+    known: &Known,
+    forest: &Forest,
+    who: &Name,
+    at: &Ident,
+    task: &Name,
+) -> Option<Rule>
     ensures { Finds known.now forest.now (λ s. enter_front s who.now at.now task.now) (option_map placeless result) }
 {
     net_front(known, forest, who, at)

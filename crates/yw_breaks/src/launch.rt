@@ -14,11 +14,7 @@ use yw_spec::Spec;
 use yw_state::{GivenList, Refusal, Rule};
 
 /// The first name of a value that the top net of a specification doesn't want.
-fn unwanted_at(
-    alloc: Global,
-    spec: &Spec,
-    given: &GivenList,
-) -> Result<Option<Text>, AllocError>
+fn unwanted_at(alloc: Global, spec: &Spec, given: &GivenList) -> Result<Option<Text>, AllocError>
     requires { IsWithin spec.now }
     ensures { IfOk result (λ at. at ≡ unwanted_at spec.now given.now) }
 {

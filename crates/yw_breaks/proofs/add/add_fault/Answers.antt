@@ -1,7 +1,7 @@
-use Rattle.std.proofs.Common.{Option, Some, ap, subst, sym, ◌∙◌, ◌≡◌}
+use Rattle.std.proofs.Common.{Some, ap, sym, ◌∙◌, ◌≡◌}
 use Rattle.yw_breaks.proofs.Adds.{add_breaks}
 use Rattle.yw_breaks.proofs.add.add_fault.Goals as goal
-use Rattle.yw_breaks.specs.Add.{AddBreaks, add_rule, value_fault}
+use Rattle.yw_breaks.specs.Add.{AddBreaks, value_fault}
 use Rattle.yw_nest.proofs.Results.{if_ok}
 use Rattle.yw_state.specs.declared.rule.Refusal.{Refusal}
 use Rattle.yw_task.specs.Completes.{or_else}

@@ -3,4 +3,4 @@ use Rattle.yw_breaks.proofs.cases.cancel_breaks.Goals as goal
 use Rattle.yw_model.specs.Texts.{reader}
 
 pub returns : goal.returns
-returns c = λ known s h. cancels reader s c.args.case.now c.is_case.result c.then_some.result (c.is_case.ensures known s h) c.then_some.ensures
+returns c = λ known s h. cancels reader s c.args.case.now c.case_rule.result (c.case_rule.ensures known s h)

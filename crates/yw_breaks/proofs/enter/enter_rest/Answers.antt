@@ -1,5 +1,3 @@
-use Rattle.std.proofs.Common.{Option, subst}
-use Rattle.std.specs.Prelude.{MatchOption, None}
 use Rattle.yw_breaks.proofs.Enters.{named_breaks}
 use Rattle.yw_nest.proofs.Results.{if_ok}
 use Rattle.yw_breaks.proofs.enter.enter_rest.Goals as goal

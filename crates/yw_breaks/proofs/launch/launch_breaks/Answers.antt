@@ -1,4 +1,4 @@
-use Rattle.std.proofs.Common.{List, Option, Some, ap, subst, sym, ◌≡◌}
+use Rattle.std.proofs.Common.{Option, Some, subst, sym, ◌≡◌}
 use Rattle.yw_breaks.proofs.Launches.{launches_known, launches_unknown}
 use Rattle.yw_nest.proofs.Results.{if_ok}
 use Rattle.yw_breaks.proofs.launch.launch_breaks.Goals as goal
