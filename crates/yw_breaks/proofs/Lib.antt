@@ -1,7 +1,6 @@
 pub mod Joining
 pub mod Whole
 pub mod Rows
-pub mod Roles
 pub mod Held
 pub mod Fronts
 pub mod Named

@@ -31,7 +31,7 @@ use Rattle.yw_still.specs.Still.{item_goes_on}
 use Rattle.yw_tree.specs.declared.Forest.{Forest}
 use Rattle.yw_tree.specs.declared.Node.{out-Node}
 use Rattle.yw_walk.specs.Finds.{ComesPlainly}
-use Rattle.yw_walk.specs.NoWorklet.{HasNoWorklet}
+use Rattle.yw_plain.specs.Worklets.{HasNoWorklet}
 
 -- ---- a case
 

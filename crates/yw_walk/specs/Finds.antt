@@ -22,7 +22,7 @@ use Rattle.yw_still.specs.Still.{CaseIsStill, IsStill, case_ends, is_entering, i
 use Rattle.yw_tree.specs.declared.Forest.{Forest}
 use Rattle.yw_tree.specs.declared.NetState.{out-NetState}
 use Rattle.yw_within.specs.Within.{HoldsWithin, NetIsWithin}
-use Rattle.yw_walk.specs.NoWorklet.{HasNoWorklet}
+use Rattle.yw_plain.specs.Worklets.{HasNoWorklet}
 
 -- The event comes of itself in case n. Where no worklet stands for an item it is of neither a rule tree nor an exlet.
 pub record ComesPlainly (s : State) (n : ℕ) (e : Event) : Type 0 where

@@ -1,3 +1,2 @@
-pub mod NoWorklet
 pub mod Places
 pub mod Finds
