@@ -42,7 +42,8 @@ module _ (names : ℕ → List ℕ) where
   rows_listed vs = listed (row_nodes vs)
 
   -- one list more of a net
-  pub next_row : (bs cs ds : List (Bor Ident)) (vs : List (Vec Node Global)) (i : ℕ) (v : Vec Node Global) → i < length vs → v ≡ get_or vs i v
+  pub next_row : (bs cs ds : List (Bor Ident)) (vs : List (Vec Node Global)) (i : ℕ) (v : Vec Node Global) → i < length vs
+      → v ≡ get_or vs i v
       → Adds bs cs (rows_listed (take i vs)) → Adds cs ds (listed v.items) → Adds bs ds (rows_listed (take (i + 1) vs))
   next_row bs cs ds vs i v l at old new =
       let more : rows_listed (take (i + 1) vs) ≡ rows_listed (take i vs) ++ listed v.items =
@@ -53,19 +54,23 @@ module _ (names : ℕ → List ℕ) where
   pub all_rows : (bs cs : List (Bor Ident)) (s : NetState) (i : ℕ) → length (out-NetState s).items.items ≤ i
       → Adds bs cs (rows_listed (take i (out-NetState s).items.items)) → Adds bs cs (idents_of (net_entries names s).1)
   all_rows bs cs s i l h =
-      h ∙ ap (λ z. lent bs ++ rows_listed z) (take_all i (out-NetState s).items.items l) ∙ ap (λ z. lent bs ++ idents_of z.1) (sym (net_entries_is names s))
+      h ∙ ap (λ z. lent bs ++ rows_listed z) (take_all i (out-NetState s).items.items l) ∙ ap (λ z. lent bs ++ idents_of z.1)
+      (sym (net_entries_is names s))
 
   -- an item, and what is below it
-  pub item_added : (bs cs ds es : List (Bor Ident)) (n : Node) → Adds bs cs ((out-Node n).id ∷ []) → Adds cs ds (idents_of (below_net names (out-Node n).net))
+  pub item_added : (bs cs ds es : List (Bor Ident)) (n : Node) → Adds bs cs ((out-Node n).id ∷ [])
+      → Adds cs ds (idents_of (below_net names (out-Node n).net))
       → Adds ds es (idents_of (below_run names (out-Node n).run)) → Adds bs es (idents_of (node_entries names n))
   item_added bs cs ds es n own net run =
       let below = below_net names (out-Node n).net in
       let hung = below_run names (out-Node n).run in
-      both_added bs cs es ((out-Node n).id ∷ []) (idents_of below ++ idents_of hung) own (both_added cs ds es (idents_of below) (idents_of hung) net run)
+      both_added bs cs es ((out-Node n).id ∷ []) (idents_of below ++ idents_of hung) own
+      (both_added cs ds es (idents_of below) (idents_of hung) net run)
       ∙ ap (λ z. lent bs ++ ((out-Node n).id ∷ z)) (sym (idents_both below hung))
       ∙ ap (λ z. lent bs ++ idents_of z) (sym (node_entries_is names n))
 
-  pub run_added : (bs cs ds : List (Bor Ident)) (r : Run) → Adds bs cs ((out-Run r).id ∷ []) → Adds cs ds (idents_of (below_net names (out-Run r).net))
+  pub run_added : (bs cs ds : List (Bor Ident)) (r : Run) → Adds bs cs ((out-Run r).id ∷ [])
+      → Adds cs ds (idents_of (below_net names (out-Run r).net))
       → Adds bs ds (idents_of (run_entries names r))
   run_added bs cs ds r own net =
       both_added bs cs ds ((out-Run r).id ∷ []) (idents_of (below_net names (out-Run r).net)) own net

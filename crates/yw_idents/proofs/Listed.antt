@@ -36,7 +36,8 @@ found_listed : (q : Ident) (es : Entries) (x : Site) → at q es ≡ Some x → 
 found_listed q [] x e = nowhere e
 found_listed q (f ∷ es) x e =
     by_test (eq_by_cmp lexical q f.0)
-    (λ (t : eq_by_cmp lexical q f.0 ≡ true). subst (Contains (f.0 ∷ idents_of es)) (sym (tied by_name q f.0 t)) (Contains-get_or (f.0 ∷ idents_of es) 0 q (omega arith)))
+    (λ (t : eq_by_cmp lexical q f.0 ≡ true). subst (Contains (f.0 ∷ idents_of es)) (sym (tied by_name q f.0 t))
+    (Contains-get_or (f.0 ∷ idents_of es) 0 q (omega arith)))
     (λ (t : eq_by_cmp lexical q f.0 ≡ false).
     Contains-append_right (f.0 ∷ []) (idents_of es) q (found_listed q es x (ap (λ b. cond b (Some f.1) (at q es)) (sym t) ∙ e)))
 
@@ -54,7 +55,8 @@ module _ (names : ℕ → List ℕ) where
   none_empty [] b = refl
   none_empty (c ∷ cs) b =
       at_skip [] (case_entries names c.1) (all names cs)
-      (at_under [] (case_ident c.0) (case_entries names c.1) (subst (λ z. AllUnder z (case_entries names c.1)) b.0.0 (case_keys names c.1 b.0.1)) refl)
+      (at_under [] (case_ident c.0) (case_entries names c.1)
+      (subst (λ z. AllUnder z (case_entries names c.1)) b.0.0 (case_keys names c.1 b.0.1)) refl)
       ∙ none_empty cs b.1
 
   module _ (f : Forest) (b : IsForest f) (s : State) (is : s.sites ≡ sites_of names f) where
@@ -69,7 +71,9 @@ module _ (names : ℕ → List ℕ) where
     none_stands n e q x st num =
         let within = in_case q (long q x st) in
         let none : case_at (case_number q) f.cases ≡ None = ap (λ k. case_at k f.cases) num ∙ e in
-        nowhere (sym (found q ∙ at_apart q q (entries names f) (cases_apart names q (case_number q) within f.cases b.1 (none_at (case_number q) f.cases none).1) (under_refl q)) ∙ st)
+        nowhere (sym
+        (found q ∙ at_apart q q (entries names f)
+        (cases_apart names q (case_number q) within f.cases b.1 (none_at (case_number q) f.cases none).1) (under_refl q)) ∙ st)
 
     module _ (n : ℕ) (c : Case) (e : case_at n f.cases ≡ Some c) where
       listed : (q : Ident) (x : Site) → Stands s q x → case_number q ≡ n → at q (case_entries names c) ≡ Some x
@@ -78,11 +82,14 @@ module _ (names : ℕ → List ℕ) where
           let t = in_table n f.cases c e in
           let each = subst (Each Well) t.whole b.1 in
           let o = others t.front (n, c) t.back (subst (λ z. T (is_sorted nat_cmp z)) t.whole b.0) in
-          let front = at_apart q q (all names t.front) (cases_apart names q n within t.front (Each-front Well t.front ((n, c) ∷ t.back) each) o.0) (under_refl q) in
-          let back = at_apart q q (all names t.back) (cases_apart names q n within t.back (each_rest Well t.front (n, c) t.back each) o.1) (under_refl q) in
+          let front = at_apart q q (all names t.front)
+          (cases_apart names q n within t.front (Each-front Well t.front ((n, c) ∷ t.back) each) o.0) (under_refl q) in
+          let back = at_apart q q (all names t.back) (cases_apart names q n within t.back (each_rest Well t.front (n, c) t.back each) o.1)
+          (under_refl q) in
           let whole : at q (entries names f) ≡ at q (case_entries names c) =
           ap (λ z. at q (all names z)) t.whole ∙ ap (at q) (all-append names t.front ((n, c) ∷ t.back))
-          ∙ at_skip q (all names t.front) (case_entries names c ++ all names t.back) front ∙ at_stop q (case_entries names c) (all names t.back) back in
+          ∙ at_skip q (all names t.front) (case_entries names c ++ all names t.back) front ∙ at_stop q (case_entries names c)
+          (all names t.back) back in
           sym whole ∙ sym (found q) ∙ st
 
       pub all_listed : AreAllIn s n (idents_of (case_entries names c))

@@ -1,4 +1,5 @@
--- An identity is still where the case isn't at its end, the item doesn't go on, and no task is left or entered; and a case is quiet where each is.
+-- An identity is still where the case isn't at its end, the item doesn't go on, and no task is left or entered; a case is quiet where
+-- each is.
 use Rattle.std.proofs.Common.{Bool, List, None, Option, Some, ap, false, subst, sym, ℕ, ◌≡◌}
 use Rattle.std.proofs.lemmas.List.Elements.{All-contains}
 use Rattle.std.specs.List.{All, Contains}
@@ -26,7 +27,8 @@ use Rattle.yw_tree.specs.declared.Case.{Case}
 use Rattle.yw_tree.specs.declared.Forest.{Forest}
 use Rattle.yw_walk.specs.Finds.{ComesPlainly, FindsAmong, FindsAt, FindsItemOrTasks, FindsFinish, FindsNext, FindsStep, FindsTasks, StandsFor, NoneEntered, NoneLeft}
 
-pub still_there : (s : State) → IsPlain s → (j : Ident) → case_ends s j ≡ false → item_goes_on s j ≡ false → NoneLeft s j → NoneEntered s j → IsStill s j
+pub still_there : (s : State) → IsPlain s → (j : Ident) → case_ends s j ≡ false → item_goes_on s j ≡ false → NoneLeft s j → NoneEntered s j
+    → IsStill s j
 still_there s plain j case item left entered =
     let w = words s plain in
     record {
@@ -41,12 +43,14 @@ still_there s plain j case item left entered =
 
 module _ (known : Holdings) (f : Forest) (j : Ident) (next : ℕ) (ends : Bool) where
   -- where the item doesn't go on, by the tasks
-  pub below_there : FindsStep known f j ends None → (o : Option Event) → FindsTasks known f j next o → FindsItemOrTasks known f j next ends o
+  pub below_there : FindsStep known f j ends None → (o : Option Event) → FindsTasks known f j next o
+      → FindsItemOrTasks known f j next ends o
   below_there step None tasks = λ s w out. let t = tasks s w in (step s w.held w.plain out, t.0, t.1)
   below_there step (Some e) tasks = λ s w out. tasks s w
 
   -- and where the case isn't at its end, by what is below
-  pub at_there : ((s : State) → IsHeld known f s → at_output s j ≡ ends) → FindsFinish j ends None → (o : Option Event) → FindsItemOrTasks known f j next ends o → FindsAt known f j next o
+  pub at_there : ((s : State) → IsHeld known f s → at_output s j ≡ ends) → FindsFinish j ends None → (o : Option Event)
+      → FindsItemOrTasks known f j next ends o → FindsAt known f j next o
   at_there out finish None below = λ s w.
       let b = below s w (out s w.held) in
       still_there s w.plain j (finish s w.plain (out s w.held)) b.0 b.1 b.2
@@ -59,7 +63,8 @@ all_still s n js are still =
     let case : CaseIsStill s n = λ j x stands is. All-contains (IsStill s) js j still (are.all j x stands is) in
     (case, quiet s n case)
 
-pub one_comes : (s : State) (n : ℕ) (js : List Ident) (e : Event) → AreAllIn s n js → (j : Ident) × Contains js j × ComesPlainly s (case_number j) e → ComesPlainly s n e
+pub one_comes : (s : State) (n : ℕ) (js : List Ident) (e : Event) → AreAllIn s n js
+    → (j : Ident) × Contains js j × ComesPlainly s (case_number j) e → ComesPlainly s n e
 one_comes s n js e are found =
     subst (λ k. ComesPlainly s k e) (All-contains (λ j. case_number j ≡ n) js found.0 are.of_case found.1) found.2
 
@@ -69,11 +74,14 @@ none_stand s n none =
     (case, quiet s n case)
 
 module _ (known : Holdings) (f : Forest) (n next : ℕ) where
-  listed : (s : State) → StandsFor known f next s → (c : Case) → Some c ≡ case_at n f.cases → (js : List Ident) → ((names : ℕ → List ℕ) → js ≡ idents_of (case_entries names c)) → AreAllIn s n js
-  listed s w c at js are = subst (AreAllIn s n) (sym (are (names_of known))) (all_listed (names_of known) f w.held.boxed s w.held.sites n c (sym at))
+  listed : (s : State) → StandsFor known f next s → (c : Case) → Some c ≡ case_at n f.cases → (js : List Ident)
+      → ((names : ℕ → List ℕ) → js ≡ idents_of (case_entries names c)) → AreAllIn s n js
+  listed s w c at js are =
+      subst (AreAllIn s n) (sym (are (names_of known))) (all_listed (names_of known) f w.held.boxed s w.held.sites n c (sym at))
 
   -- by a look at each identity that stands in the case
-  pub next_there : (c : Case) → Some c ≡ case_at n f.cases → (js : List Ident) → ((names : ℕ → List ℕ) → js ≡ idents_of (case_entries names c)) → (o : Option Event)
+  pub next_there : (c : Case) → Some c ≡ case_at n f.cases → (js : List Ident)
+      → ((names : ℕ → List ℕ) → js ≡ idents_of (case_entries names c)) → (o : Option Event)
       → FindsAmong known f js next o → FindsNext known f n next o
   next_there c at js are None among = λ s w. all_still s n js (listed s w c at js are) (among s w)
   next_there c at js are (Some e) among = λ s w. one_comes s n js e (listed s w c at js are) (among s w)

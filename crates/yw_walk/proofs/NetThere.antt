@@ -17,7 +17,8 @@ use Rattle.yw_walk.specs.Finds.{ComesPlainly, FindsEntered, FindsLeft, StandsFor
 use Rattle.yw_within.proofs.Finding.{well_holds_within}
 use Rattle.yw_within.specs.Within.{HoldsWithin}
 
-module _ (known : Holdings) (f : Forest) (next : ℕ) (s : State) (w : StandsFor known f next s) (j : Ident) (h : NetHere) (is : IsNetHere known f s j h) where
+module _ (known : Holdings) (f : Forest) (next : ℕ) (s : State) (w : StandsFor known f next s) (j : Ident) (h : NetHere)
+    (is : IsNetHere known f s j h) where
   holds : HoldsWithin s
   holds = well_holds_within reader s accepted_are_within w.held.well
 
@@ -33,6 +34,7 @@ module _ (known : Holdings) (f : Forest) (next : ℕ) (s : State) (w : StandsFor
   pub entered_there : (o : Option Event) → FindsEntered h j next o → MatchOption o (NoneEntered s j) (ComesPlainly s (case_number j))
   entered_there o finds = finds (names_of known) f s draw holds (words s w.plain).manual
 
-  pub tasks_there : FindsLeft h j None → (o : Option Event) → FindsEntered h j next o → MatchOption o (NoneLeft s j × NoneEntered s j) (ComesPlainly s (case_number j))
+  pub tasks_there : FindsLeft h j None → (o : Option Event) → FindsEntered h j next o
+      → MatchOption o (NoneLeft s j × NoneEntered s j) (ComesPlainly s (case_number j))
   tasks_there left None entered = (left_there None left, entered_there None entered)
   tasks_there left (Some e) entered = entered_there (Some e) entered

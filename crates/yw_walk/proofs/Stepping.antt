@@ -40,11 +40,13 @@ module _ (s : State) (plain : IsPlain s) where
   unfolding allows
   finishes n ends =
       let w = words s plain in
-      let allowed : Allowed s (events.Finish n) nothing = (and_from _ _ (and_from _ _ (w.clear (case_ident n)) (ap not (w.busy (case_ident n)))) ends, tt) in
+      let allowed : Allowed s (events.Finish n) nothing =
+      (and_from _ _ (and_from _ _ (w.clear (case_ident n)) (ap not (w.busy (case_ident n)))) ends, tt) in
       record { comes = record { here = refl; automatic = refl; allowed = allowed }; plain = λ no. refl }
 
   pub finishes_at : (j : Ident) (n : ℕ) → j ≡ n ∷ [] → at_output s j ≡ true → ComesPlainly s (case_number j) (events.Finish n)
-  finishes_at j n one ends = subst (λ z. ComesPlainly s (case_number z) (events.Finish n)) (sym one) (finishes n (ap (at_output s) (sym one) ∙ ends))
+  finishes_at j n one ends =
+      subst (λ z. ComesPlainly s (case_number z) (events.Finish n)) (sym one) (finishes n (ap (at_output s) (sym one) ∙ ends))
 
 -- ---- an item
 
@@ -75,7 +77,8 @@ some_or_none (Some x) some none = never none
 
 module _ (s : State) (nets : NetsStand s) (none : HasNoWorklet s) (j : Ident) where
   -- at an item of an atomic task no net is at its end
-  no_worklet : (x : ItemAt) → item_at s j ≡ Some x → is_atomic x.of_task.task ≡ true → is_executing x.part.stage ≡ true → at_output s j ≡ true → ⊥
+  no_worklet : (x : ItemAt) → item_at s j ≡ Some x → is_atomic x.of_task.task ≡ true → is_executing x.part.stage ≡ true
+      → at_output s j ≡ true → ⊥
   no_worklet x at atomic begun ends =
       let n = there_and (net_at s j) (λ (m : NetAt). marked s j m.net.output) ends in
       let p = then_some (λ (q : NetPart). option_map (λ (net : Net). record { part = q; net = net }) (net_of s q)) (net_part s j) n.0 n.1 in
@@ -95,7 +98,8 @@ module _ (s : State) (nets : NetsStand s) (none : HasNoWorklet s) (j : Ident) wh
       let is = and_parts (is_executing item.0.part.stage) (is_atomic item.0.of_task.task) item.2 in
       absurd (no_worklet item.0 item.1 is.1 is.0 all.1)
 
-module _ (known : Holdings) (f : Forest) (s : State) (held : IsHeld known f s) (plain : IsPlain s) (j : Ident) (here : ItemHere) (is : IsItemHere known f s j here) (ends : Bool) (out : at_output s j ≡ ends) where
+module _ (known : Holdings) (f : Forest) (s : State) (held : IsHeld known f s) (plain : IsPlain s) (j : Ident) (here : ItemHere)
+    (is : IsItemHere known f s j here) (ends : Bool) (out : at_output s j ≡ ends) where
   its : (o : Option ItemStep) → StepsAs here.item.now here.task.now ends o → ItemGoes s j o
   its o steps =
       let free : ItemFree (names_of known) f s here.item.now here.task.now ends = record {

@@ -58,7 +58,8 @@ IsExit h i t e =
 abbrev pub IsEntry : NetHere → Ident → ℕ → ℕ → Taken → Event → Type 0
 IsEntry h i next t taken e =
     (names : ℕ → List ℕ) (f : Forest) (s : State) (x : TaskAt) → MayDraw names f s i h.net.now h.state.now next → HoldsWithin s
-    → task_numbered s i t ≡ Some x → is_manual s x ≡ false → EntersFrom s i x (taken_places (out-NetState h.state.now).marks x.task.before taken)
+    → task_numbered s i t ≡ Some x → is_manual s x ≡ false
+    → EntersFrom s i x (taken_places (out-NetState h.state.now).marks x.task.before taken)
     → ComesPlainly s (case_number i) e
 
 -- wherever the net stands free, a task is left by this event, or none may be
@@ -89,7 +90,8 @@ FindsFinish j ends found =
 -- the item goes on by this event, or it doesn't
 abbrev pub FindsStep : Holdings → Forest → Ident → Bool → Option Event → Type 0
 FindsStep known f j ends found =
-    (s : State) → IsHeld known f s → IsPlain s → at_output s j ≡ ends → MatchOption found (item_goes_on s j ≡ false) (ComesPlainly s (case_number j))
+    (s : State) → IsHeld known f s → IsPlain s → at_output s j ≡ ends → MatchOption found (item_goes_on s j ≡ false)
+    (ComesPlainly s (case_number j))
 
 -- a task of the net there is left or entered by this event, or none may be
 abbrev pub FindsTasks : Holdings → Forest → Ident → ℕ → Option Event → Type 0
@@ -116,7 +118,8 @@ FindsAmong known f js next found =
 
 -- this event comes of itself in the case, or each identity in it is still, and so it is quiet
 abbrev pub FindsNext : Holdings → Forest → ℕ → ℕ → Option Event → Type 0
-FindsNext known f n next found = (s : State) → StandsFor known f next s → MatchOption found (CaseIsStill s n × IsQuiet s n) (ComesPlainly s n)
+FindsNext known f n next found =
+    (s : State) → StandsFor known f next s → MatchOption found (CaseIsStill s n × IsQuiet s n) (ComesPlainly s n)
 
 -- whether the case is quiet
 abbrev pub TellsQuiet : Holdings → Forest → ℕ → ℕ → Bool → Type 0

@@ -32,8 +32,8 @@ fn event_of(step: ItemStep, item: Ident) -> Event
     }
 }
 
-/// How the item at an identity goes on, where `ends` says whether a net stands there that is at its end. `None` where no item stands there, and
-/// where it doesn't go on. An `Err` says that no memory was left.
+/// How the item at an identity goes on, where `ends` says whether a net stands there that is at its end. `None` where no item stands there,
+/// and where it doesn't go on. An `Err` says that no memory was left.
 pub fn step_at(
     alloc: Global,
     known: &Known,

@@ -29,12 +29,12 @@ fn first_at(
     Ok(None)
 }
 
-/// The next event that comes of itself in a case, in a state without rules and exlets: `None` exactly where the case is quiet, as it is where
-/// no case has this number. `next` is the number that is drawn next. An `Err` says that no memory was left.
+/// The next event that comes of itself in a case, in a state without rules and exlets: `None` exactly where the case is quiet, as it is
+/// where no case has this number. `next` is the number that is drawn next. An `Err` says that no memory was left.
 ///
-/// The identities of the case are looked at in turn, each before those of what is below it; at one identity first whether the case is at its
-/// end, then how the item goes on, then which task of the net is left, and then which is entered. That the server does all this by itself,
-/// and the order, are our own.
+/// The identities of the case are looked at in turn, each before those of what is below it; at one identity first whether the case is at
+/// its end, then how the item goes on, then which task of the net is left, and then which is entered. That the server does all this by
+/// itself, and the order, are our own.
 pub fn next_event(
     alloc: Global,
     known: &Known,

@@ -77,8 +77,8 @@ fn entry_of(
     })
 }
 
-/// The entry of the first task of the net at an identity that may be entered by no person; `None` where none may. Its items are numbered from
-/// `next` on, the number that is drawn next. An `Err` says that no memory was left.
+/// The entry of the first task of the net at an identity that may be entered by no person; `None` where none may. Its items are numbered
+/// from `next` on, the number that is drawn next. An `Err` says that no memory was left.
 pub fn entry_at(
     alloc: Global,
     here: &NetHere<'_>,

@@ -10,12 +10,14 @@ push_net-loop-list-preserved t c = λ names.
     let v = c.list-item.result in
     let less : i < length rows = subst (λ xs. i < length xs) c.deref-list-items.ensures.value c.loop-list-test.true in
     let at : v ≡ slice_index_or rows i v = subst (λ xs. v ≡ slice_index_or xs i v) c.deref-list-items.ensures.value c.list-item.is in
-    next_row names c.args.into.now.items c.loop-list.into.items c.push_list.new.into.items rows i v less at (c.loop-list.invariant names) (c.in_ok-push_list.ensures names)
+    next_row names c.args.into.now.items c.loop-list.into.items c.push_list.new.into.items rows i v less at (c.loop-list.invariant names)
+    (c.in_ok-push_list.ensures names)
 
 pub push_net-returns : goal.push_net-returns
 push_net-returns t c = λ names.
     let i = c.loop-list.list-index in
-    let all : length (out-NetState c.args.net.now).items.items ≤ i = subst (λ xs. length xs ≤ i) c.deref-list-items.ensures.value c.loop-list-test.false in
+    let all : length (out-NetState c.args.net.now).items.items ≤ i = subst
+    (λ xs. length xs ≤ i) c.deref-list-items.ensures.value c.loop-list-test.false in
     all_rows names c.args.into.now.items c.loop-list.into.items c.args.net.now i all (c.loop-list.invariant names)
 
 pub push_node-returns : goal.push_node-returns

@@ -7,4 +7,5 @@ use Rattle.yw_walk.proofs.next.first_at.Given as goal
 use Rattle.yw_walk.specs.Finds.{StandsFor}
 
 abbrev pub invariant-loop-id : goal.invariant-loop-id
-invariant-loop-id l = (s : State) → StandsFor l.known l.forest l.next s → All (λ (b : Bor Ident). IsStill s b.now) (take l.id-index l.idents.items)
+invariant-loop-id l =
+    (s : State) → StandsFor l.known l.forest l.next s → All (λ (b : Bor Ident). IsStill s b.now) (take l.id-index l.idents.items)

@@ -17,7 +17,8 @@ loop-c-preserved c =
     elim c.match-get.branch [
       | in-Some+in_ok-copy_of+in_ok-push w ↦
           let found : Some w.in_ok-copy_of.field-0 ≡ g k = ap (λ t. Some t) w.in_ok-copy_of.ensures ∙ w.in-Some.ensures in
-          w.places-is ∙ w.in_ok-push.ensures.ok ∙ ap (λ z. z ++ w.in_ok-copy_of.field-0 ∷ []) c.loop-c.invariant ∙ ap (λ o. so_far ++ option_to_list o) found ∙ sym more
+          w.places-is ∙ w.in_ok-push.ensures.ok ∙ ap (λ z. z ++ w.in_ok-copy_of.field-0 ∷ []) c.loop-c.invariant ∙ ap
+          (λ o. so_far ++ option_to_list o) found ∙ sym more
       | in_default w ↦
           let none : None ≡ g k = sym (ap option_copied w.in_default.is) ∙ c.get.ensures in
           w.places-is ∙ c.loop-c.invariant ∙ sym (append-nil so_far) ∙ ap (λ o. so_far ++ option_to_list o) none ∙ sym more
