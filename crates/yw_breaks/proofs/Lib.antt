@@ -11,3 +11,5 @@ pub mod Enters
 pub mod Launches
 pub mod Completes
 pub mod Adds
+pub mod Allowed
+pub mod Asking
