@@ -10,3 +10,5 @@ pub mod Enters
 pub mod Launches
 pub mod Completes
 pub mod Adds
+pub mod Allowed
+pub mod Asking

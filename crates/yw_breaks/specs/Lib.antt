@@ -7,3 +7,4 @@ pub mod Enter
 pub mod Launch
 pub mod Complete
 pub mod Add
+pub mod Events
