@@ -104,7 +104,8 @@ moved : (s : State) (i : Ident) (taken : Taken) (z w : TaskAt) (ps : List Place)
     → Comes s (case_number i) (enter_as i s.next (length (entry_rows w.task w.within.part.vals)) taken w)
 moved s i taken z w ps same named comes =
     subst (λ (v : TaskAt). Comes s (case_number i) (enter_as i s.next (length (entry_rows v.task v.within.part.vals)) taken v)) same
-    (subst (λ qs. Comes s (case_number i) (events.Enter i z.task.name qs s.next (length (entry_rows z.task z.within.part.vals)))) (sym named) comes)
+    (subst (λ qs. Comes s (case_number i) (events.Enter i z.task.name qs s.next (length (entry_rows z.task z.within.part.vals))))
+    (sym named) comes)
 
 module _ (net : Net) (state : NetState) (i : Ident) (next : ℕ) where
   pub is_entry : (t : ℕ) (task : Task) (taken : Taken) (count : ℕ) → slice_get net.tasks t ≡ Some task

@@ -90,8 +90,8 @@ FindsFinish j ends found =
 -- the item goes on by this event, or it doesn't
 abbrev pub FindsStep : Holdings → Forest → Ident → Bool → Option Event → Type 0
 FindsStep known f j ends found =
-    (s : State) → IsHeld known f s → IsPlain s → at_output s j ≡ ends → MatchOption found (item_goes_on s j ≡ false)
-    (ComesPlainly s (case_number j))
+    (s : State) → IsHeld known f s → IsPlain s → at_output s j ≡ ends
+    → MatchOption found (item_goes_on s j ≡ false) (ComesPlainly s (case_number j))
 
 -- a task of the net there is left or entered by this event, or none may be
 abbrev pub FindsTasks : Holdings → Forest → Ident → ℕ → Option Event → Type 0

@@ -23,7 +23,8 @@ push_net-returns t c = λ names.
 pub push_node-returns : goal.push_node-returns
 push_node-returns t c =
     ok_then c.push_hung.result _ _ c.push_hung.ensures
-    (λ h names. item_added names c.args.into.now.items c.push.new.self.items c.push_below.new.into.items c.push_hung.new.into.items c.args.node.now
+    (λ h names. item_added names c.args.into.now.items c.push.new.self.items
+    c.push_below.new.into.items c.push_hung.new.into.items c.args.node.now
     (one_added c.args.into.now.items c.push.new.self.items _ c.in_ok-push.ensures.items) (c.in_ok-push_below.ensures names) (h names))
 
 pub push_run-returns : goal.push_run-returns
