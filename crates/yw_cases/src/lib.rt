@@ -1,0 +1,13 @@
+//! Persons, specifications and cases as one, and each event, which is done where it is allowed. The README of the crate says which clause proves
+//! what.
+#![tactic(auto)]
+
+mod ended;
+mod here;
+mod items;
+mod library;
+mod rows;
+mod standing;
+mod whole;
+
+pub use ended::EndedTable;
