@@ -1,21 +1,24 @@
 -- Items that go on.
 use Rattle.std.proofs.Common.{ap, subst, sym, ◌∙◌}
-use Rattle.std.specs.Prelude.{Bool, IsSome, List, None, Option, Some, [], false, is_some, not, option_map, refl, true, ℕ, ◌&&◌, ◌∷◌, ◌≡◌}
+use Rattle.std.specs.Prelude.{Bool, IsSome, List, MatchOption, None, Option, Some, [], false, is_some, not, option_map, refl, true, ℕ, ◌&&◌, ◌∷◌, ◌≡◌}
 use Rattle.yw_cases.proofs.Allows.{empty_as, start_as, sub_ends_as, sub_starts_as}
 use Rattle.yw_cases.proofs.Trying.{done, fails, placed, stands_well, words_of}
-use Rattle.yw_cases.specs.Items.{item_suits}
+use Rattle.yw_cases.specs.Here.{IsNetKnown}
+use Rattle.yw_cases.specs.Items.{item_suits, suits as suits_it}
 use Rattle.yw_cases.specs.State.{MayStand, state_of}
 use Rattle.yw_cases.specs.Tried.{IsDone, LeadsNowhere}
+use Rattle.yw_cases.specs.declared.items.ItemEvent.{ItemEvent}
 use Rattle.yw_cases.specs.declared.items.ItemEvent.TheVariants.{CompleteEmpty, CompleteSub, Start, StartSub}
 use Rattle.yw_cases.specs.declared.standing.Standing.{Standing}
 use Rattle.yw_known.specs.Here.{IsNetHere}
 use Rattle.yw_known.specs.Names.{names_of}
 use Rattle.yw_known.specs.declared.here.NetHere.{NetHere}
+use Rattle.yw_known.specs.declared.known.KnownNet.{KnownNet}
 use Rattle.yw_nest.proofs.FromState.{empty_stands, inner_is, item_stands, sub_ends, sub_starts}
 use Rattle.yw_nest.specs.Does.{NeedsNothing, all_else}
 use Rattle.yw_nest.specs.Items.{CompletesEmpty, CompletesSub, EndsAs, IsNetOf, StartsSub, SubMayEnd, SubMayStart}
 use Rattle.yw_spec.specs.declared.spec.Spec.{Spec}
-use Rattle.yw_state.proofs.Tests.{and_left, nowhere, there_and}
+use Rattle.yw_state.proofs.Tests.{and_left, never, nowhere, there_and}
 use Rattle.yw_state.specs.Allowed.{Allowed}
 use Rattle.yw_state.specs.Broken.{Check, First, placeless, test}
 use Rattle.yw_state.specs.Identity.{Ident, parent}
@@ -41,6 +44,21 @@ use Rattle.yw_within.specs.Within.{IsWithin}
 -- a test that isn't broken passes
 pub passed : (b : Bool) (r : Rule) (cs : List Check) (found : Option Refusal) → b ≡ false → First (test b r ∷ cs) found → First cs found
 passed b r cs found unbroken first = subst (λ z. First (test z r ∷ cs) found) unbroken first
+
+-- ---- what is said of the net in which an item stands
+
+module _ (old : Standing) (j : Ident) where
+  abbrev OuterIs : Option KnownNet → Type 0
+  OuterIs o = MatchOption o (item_at (state_of old) j ≡ None) (IsNetKnown old.known old.forest (state_of old) (parent j))
+
+  pub outer_found : (o : Option KnownNet) (w : KnownNet) → o ≡ Some w → OuterIs o → IsNetKnown old.known old.forest (state_of old) (parent j) w
+  outer_found o w is found = subst OuterIs is found
+
+  -- where there is none, no item is there
+  pub outer_none : {A : Type 0} (o : Option KnownNet) → o ≡ None → OuterIs o → (event : ItemEvent) → item_suits (state_of old) event j ≡ true → A
+  outer_none o is found event suits =
+      let none : item_at (state_of old) j ≡ None = subst OuterIs is found in
+      never (sym (ap (λ p. is_some_and p (λ (x : ItemAt). suits_it event x.part.stage x.of_task.task)) none) ∙ suits)
 
 module _ (old : Standing) (may : MayStand old) (j : Ident) where
   -- ---- a person starts it

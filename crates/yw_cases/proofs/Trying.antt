@@ -1,13 +1,16 @@
 -- What an event leads to, from what is done to the forest; and that one whose test fails leads nowhere.
 use Rattle.std.proofs.Common.{ap, subst, sym, ◌∙◌}
-use Rattle.std.specs.Prelude.{List, false, refl, true, ℕ, ◌+◌, ◌≡◌}
+use Rattle.std.specs.Prelude.{Bool, List, [], false, refl, true, ℕ, ◌+◌, ◌≡◌}
 use Rattle.yw_accepted.proofs.Loaded.{accepted_are_sound}
 use Rattle.yw_cases.specs.Ended.{ended_of}
 use Rattle.yw_cases.specs.State.{MayStand, state_of}
-use Rattle.yw_cases.specs.Tried.{IsDone, LeadsNowhere}
+use Rattle.yw_cases.specs.Done.{is_done_event}
+use Rattle.yw_cases.specs.Tried.{IsDone, IsTried, LeadsNowhere, Tries}
 use Rattle.yw_cases.specs.declared.standing.Standing.{Standing}
 use Rattle.yw_invariant.proofs.EventsWell.{event_keeps_well}
+use Rattle.yw_invariant.proofs.FromOpening.{opening_is_well}
 use Rattle.yw_known.specs.Names.{names_of}
+use Rattle.yw_library.specs.Holdings as library
 use Rattle.yw_library.specs.Holdings.{Holdings, with_library}
 use Rattle.yw_model.specs.Texts.{reader}
 use Rattle.yw_nest.specs.Cases.{with_ended}
@@ -16,16 +19,18 @@ use Rattle.yw_nest.specs.Stands.{StandsWell}
 use Rattle.yw_plain.proofs.Keeping.{event_keeps}
 use Rattle.yw_plain.proofs.Words as plain
 use Rattle.yw_plain.specs.Plain.{IsPlain, PlainWords, is_plain_event}
-use Rattle.yw_state.proofs.Tests.{never}
+use Rattle.yw_state.proofs.Tests.{never, nowhere}
 use Rattle.yw_state.specs.After.{with_next, with_sites}
 use Rattle.yw_state.specs.Allowed.{Allowed, allows}
 use Rattle.yw_state.specs.Events.{after}
-use Rattle.yw_state.specs.Map.{Map, insert}
+use Rattle.yw_state.specs.Map.{Map, empty, insert}
 use Rattle.yw_state.specs.State.{State, opening}
 use Rattle.yw_state.specs.Texts.{Said, Says, nothing}
+use Rattle.yw_state.specs.Well.{IsWell}
 use Rattle.yw_state.specs.declared.event.Event.{Event}
+use Rattle.yw_state.specs.declared.event.Event.TheVariants as events
 use Rattle.yw_state.specs.declared.part.Way.{Way}
-use Rattle.yw_tree.specs.Forest.{sites_of}
+use Rattle.yw_tree.specs.Forest.{IsForest, sites_of}
 use Rattle.yw_tree.specs.declared.Forest.{Forest}
 use Rattle.std.specs.Ordering.{nat_cmp}
 
@@ -96,3 +101,44 @@ module _ (old : Standing) (f : Forest) where
 
 pub fails : (old : Standing) (e : Event) → ((said : Said) → allows (state_of old) e said ≡ false) → LeadsNowhere old e
 fails old e test t leads = never (sym (test leads.said) ∙ leads.allowed.0)
+
+-- ---- all that is kept
+
+pub as_tried : (old : Standing) (e : Event) (leads : Bool) (new : Standing) → Tries old e leads new → IsTried old e leads new
+as_tried old e true new tried = tried.leads
+as_tried old e false new tried = tried
+
+pub tried_stands : (old : Standing) (may : MayStand old) (e : Event) (leads : Bool) (new : Standing) → is_plain_event e ≡ true → Tries old e leads new → MayStand new
+tried_stands old may e true new plain tried = done_stands old may e new plain tried
+tried_stands old may e false new plain tried = subst MayStand (sym tried.1) may
+
+-- what is done is plain
+pub done_is_plain : (e : Event) → is_done_event e ≡ true → is_plain_event e ≡ true
+done_is_plain (events.Person name roles) is = refl
+done_is_plain (events.Load name text) is = refl
+done_is_plain (events.Launch n spec vals) is = refl
+done_is_plain (events.Start j who) is = refl
+done_is_plain (events.Finish n) is = refl
+done_is_plain (events.Cancel n) is = refl
+done_is_plain (events.StartSub j) is = refl
+done_is_plain (events.CompleteSub j) is = refl
+done_is_plain (events.CompleteEmpty j) is = refl
+done_is_plain (events.Advance n) is = refl
+done_is_plain e is = never is
+
+opening_plain : IsPlain opening
+opening_plain = record { rules = refl; run = λ j x at. nowhere at; suspended = λ j x at. nowhere at; due = λ j x at. nowhere at }
+
+-- where nothing is kept
+pub opens : (known : Holdings) (f : Forest) → known ≡ library.nothing → ((names : ℕ → List ℕ) → sites_of names f ≡ empty)
+    → state_of (record { known = known; forest = f; ended = []; next = 1 }) ≡ opening
+unfolding with_library
+opens known f none sites = λ i. with_library (record opening { next = 1; sites = sites (names_of known) i; ended = empty }) (none i)
+
+pub opening_stands : (h : Standing) → state_of h ≡ opening → IsForest h.forest → MayStand h
+unfolding with_library
+opening_stands h is boxed =
+    record {
+      held = record { library = refl; boxed = boxed; sites = refl; well = subst (IsWell reader) (sym is) (opening_is_well reader) };
+      plain = subst IsPlain (sym is) opening_plain;
+    }

@@ -4,3 +4,4 @@ pub mod Here
 pub mod Items
 pub mod State
 pub mod Tried
+pub mod Done

@@ -2,7 +2,9 @@
 //! what.
 #![tactic(auto)]
 
+mod cases;
 mod ended;
+mod event;
 mod here;
 mod items;
 mod library;
@@ -10,4 +12,6 @@ mod rows;
 mod standing;
 mod whole;
 
+pub use cases::Cases;
 pub use ended::EndedTable;
+pub use standing::Standing;

@@ -8,5 +8,5 @@ returns-in_err-state c = λ s h. rw c.from_residual.ensures (no_net_here c.args.
 
 pub returns : goal.returns
 returns c = λ s h.
-    known_there c.args.known.now c.args.forest.now s h c.args.at.now c.numbers.ensures.identity c.are_named.ensures c.in_ok-state.state (sym c.in_ok-state.ensures) c.net.result
-    c.net.ensures
+    known_there c.args.known.now c.args.forest.now s h c.args.at.now c.numbers.ensures.identity c.are_named.ensures c.in_ok-state.state (sym c.in_ok-state.ensures) c.net-2.result
+    c.net-2.ensures
