@@ -29,12 +29,16 @@ pub struct Cases {
 
 impl Model for Cases {
     ghost use Rattle.yw_cases.specs.State.{MayStand};
-    ghost use Rattle.yw_cases.specs.contracts.standing.Standing as standing;
     ghost use Rattle.yw_cases.specs.declared.standing.Standing.{Standing};
 
     ghost Value = { Standing };
 
-    ghost coded = { standing.the_row.coded };
+    ghost use Rattle.std.specs.Coded.{codes};
+    ghost use Rattle.yw_state.specs.contracts.loaded.Loaded as loaded;
+    ghost use Rattle.yw_tree.specs.contracts.NetState as net;
+    ghost use Rattle.yw_tree.specs.contracts.Run as run;
+
+    ghost coded = { Prim.hlevel (codes, loaded.the_row.coded, net.the_row.coded, run.the_row.coded) };
 
     ghost view = { λ c. c.standing };
 
