@@ -60,6 +60,9 @@ module _ (old : Standing) (j : Ident) where
       let none : item_at (state_of old) j ≡ None = subst OuterIs is found in
       never (sym (ap (λ p. is_some_and p (λ (x : ItemAt). suits_it event x.part.stage x.of_task.task)) none) ∙ suits)
 
+  pub outer_gone : {A : Type 0} (o : Option KnownNet) → o ≡ None → OuterIs o → (x : ItemAt) → item_at (state_of old) j ≡ Some x → A
+  outer_gone o is found x at = let none : item_at (state_of old) j ≡ None = subst OuterIs is found in nowhere (sym none ∙ at)
+
 module _ (old : Standing) (may : MayStand old) (j : Ident) where
   -- ---- a person starts it
 

@@ -5,3 +5,6 @@ pub mod Items
 pub mod State
 pub mod Tried
 pub mod Done
+pub mod Completing
+pub mod Steps
+pub mod Exiting

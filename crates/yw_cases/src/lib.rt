@@ -3,11 +3,13 @@
 #![tactic(auto)]
 
 mod cases;
+mod completing;
 mod ended;
 mod event;
 mod here;
 mod items;
 mod library;
+mod refusals;
 mod rows;
 mod standing;
 mod whole;
