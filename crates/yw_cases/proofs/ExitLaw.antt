@@ -3,9 +3,10 @@ use Rattle.std.proofs.Common.{ap, length, refl, subst, sym, ◌<◌, ◌∙◌}
 use Rattle.std.proofs.lemmas.Bool.{and_from, and_parts}
 use Rattle.std.specs.Cmp.Lexicographic.{pointwise}
 use Rattle.std.specs.List.{list_all}
-use Rattle.std.specs.Prelude.{Bool, IsSome, List, None, Some, false, is_some, nat_eq, slice_get, true, ℕ, ◌&&◌, ◌≡◌}
+use Rattle.std.specs.Prelude.{Bool, IsSome, List, MatchOption, None, Option, Some, false, is_some, nat_eq, slice_get, true, ℕ, ◌&&◌, ◌≡◌}
 use Rattle.yw_cases.proofs.Allows.{only_clear}
-use Rattle.yw_cases.proofs.TaskHere.{its, named, numbered}
+use Rattle.yw_cases.proofs.HereLaw.{no_net}
+use Rattle.yw_cases.proofs.TaskHere.{its, named, named_so, numbered}
 use Rattle.yw_cases.proofs.Trying.{done, fails, placed, words_of}
 use Rattle.yw_cases.specs.Exiting.{IsExit, IsSplitTo}
 use Rattle.yw_cases.specs.Here.{IsNetKnown, with_state}
@@ -18,18 +19,19 @@ use Rattle.yw_known.specs.Here.{IsNetHere, as_net_at}
 use Rattle.yw_known.specs.Names.{names_of}
 use Rattle.yw_known.specs.declared.here.NetHere.{NetHere}
 use Rattle.yw_known.specs.declared.known.KnownNet.{KnownNet}
+use Rattle.yw_model.specs.Texts.{reader}
 use Rattle.yw_nest.specs.Does.{all_else}
 use Rattle.yw_spec.specs.declared.spec.Net.{Net}
 use Rattle.yw_spec.specs.declared.spec.Place.{Place}
 use Rattle.yw_spec.specs.declared.task.Task.{Task}
-use Rattle.yw_state.proofs.Tests.{and_left, and_right, never, some_same, there_and}
-use Rattle.yw_state.specs.Allowed.{Allowed, allows, exit_values, has_room_for, may_exit, may_leave, place_numbers, puts_on}
+use Rattle.yw_state.proofs.Tests.{and_right, never, nowhere, some_same, there_and}
+use Rattle.yw_state.specs.Allowed.{Allowed, allows, exit_values, has_room_for, may_leave, place_numbers}
 use Rattle.yw_state.specs.Events.{Leads}
 use Rattle.yw_state.specs.Identity.{Ident}
 use Rattle.yw_state.specs.Nets.{task_number}
 use Rattle.yw_state.specs.Options.{is_some_and}
 use Rattle.yw_state.specs.Passing.{kept_values, made_rows, split_places}
-use Rattle.yw_state.specs.State.{NetAt, State, TaskAt, items_of, task_at}
+use Rattle.yw_state.specs.State.{NetAt, State, TaskAt, net_part, task_at}
 use Rattle.yw_state.specs.Texts.{Said, nothing}
 use Rattle.yw_state.specs.Words.{active, clear}
 use Rattle.yw_state.specs.declared.event.Event.TheVariants as events
@@ -46,6 +48,29 @@ use Rattle.yw_tree.specs.Places.{net_at as net_found}
 use Rattle.yw_tree.specs.Shows.{items_in}
 use Rattle.yw_tree.specs.declared.Forest.{Forest}
 use Rattle.yw_tree.specs.declared.NetState.{out-NetState}
+
+-- as the definitions have it
+abbrev puts_on : State → Ident → TaskAt → List ℕ → Bool
+puts_on s i x cs = pointwise nat_eq cs (split_places x.task (exit_values s i x)) && list_all (has_room_for s i x) cs
+
+abbrev may_exit : State → Ident → List Place → TaskAt → Bool
+may_exit s i places x = active s i x.number && may_leave s i x && is_some_and (place_numbers x.within.net places) (puts_on s i x)
+
+-- ---- what is said of the task
+
+module _ (old : Standing) (i : Ident) (name : List ℕ) (places : List Place) where
+  abbrev ExitIs : Option ℕ → Type 0
+  ExitIs o = MatchOption o (LeadsNowhere old (events.Exit i name places)) (IsExit old i name places)
+
+  pub exit_found : (o : Option ℕ) (t : ℕ) → o ≡ Some t → ExitIs o → IsExit old i name places t
+  exit_found o t is found = subst ExitIs is found
+
+  pub no_exit : (o : Option ℕ) → o ≡ None → ExitIs o → LeadsNowhere old (events.Exit i name places)
+  no_exit o is found = subst ExitIs is found
+
+-- where a net is found, one stands
+pub not_gone : {A : Type 0} (old : Standing) (i : Ident) (w : NetHere) → IsNetHere old.known old.forest (state_of old) i w → net_part (state_of old) i ≡ None → A
+not_gone old i w here none = nowhere (sym (no_net (state_of old) i none) ∙ here.at)
 
 module _ (old : Standing) (may : MayStand old) (i : Ident) (name : List ℕ) (places : List Place) where
   abbrev s : State
@@ -93,8 +118,8 @@ module _ (old : Standing) (may : MayStand old) (i : Ident) (name : List ℕ) (pl
           ap (λ o. is_some_and o (λ cs. pointwise nat_eq cs split)) put.1 ∙ parts.0,
         )
 
-    its_exit : (t : State) → Leads reader s (events.Exit i name places) t → may_exit s i places x ≡ true
-    its_exit t leads =
+    its_exit : (z : State) → Leads reader s (events.Exit i name places) z → may_exit s i places x ≡ true
+    its_exit z leads =
         let found = there_and (task_at s i name) (may_exit s i places) (sym (exit_as leads.said) ∙ leads.allowed.0) in
         subst (λ (y : TaskAt). may_exit s i places y ≡ true) (some_same found.0 x (sym found.1 ∙ named old i w here name t number task of_net)) found.2
 
@@ -142,7 +167,7 @@ module _ (old : Standing) (may : MayStand old) (i : Ident) (name : List ℕ) (pl
     has_task = within w.net.now.tasks t exit.task of_known
 
     its_name : exit.task.name ≡ name
-    its_name = named_so w.net.now t exit.task name of_known (ap (λ (n : Net). task_number n name) (sym same_net) ∙ exit.number)
+    its_name = named_so exit.net.net.now t exit.task name exit.of_net exit.number
 
     pub exited : (f : Forest) → Exits w.net.now i t false old.forest f → IsDone old (events.Exit i name places) (record old { forest = f })
     exited f does =

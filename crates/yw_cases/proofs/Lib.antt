@@ -9,3 +9,5 @@ pub mod HereLaw
 pub mod OutsApart
 pub mod GivenBack
 pub mod CompleteLaw
+pub mod TaskHere
+pub mod ExitLaw

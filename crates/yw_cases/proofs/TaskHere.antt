@@ -1,11 +1,16 @@
 -- A task of a net that stands, found by its name.
-use Rattle.std.proofs.Common.{ap, ◌∙◌}
-use Rattle.std.specs.Prelude.{List, None, Some, option_and_then, option_map, slice_get, ℕ, ◌≡◌}
+use Rattle.std.proofs.Common.{ap, subst, ◌∙◌}
+use Rattle.std.proofs.lemmas.List.Quantifiers.{position-Some}
+use Rattle.std.proofs.lemmas.Option.{get_or_from_slice_get}
+use Rattle.std.proofs.lemmas.Slice.Eq.{bytes_eq-Decides}
+use Rattle.std.specs.Prelude.{List, None, Some, option_and_then, option_map, slice_get, true, ℕ, ◌≡◌}
+use Rattle.std.specs.Str.{bytes_eq}
 use Rattle.yw_cases.proofs.HereLaw.{no_net}
 use Rattle.yw_cases.specs.State.{state_of}
 use Rattle.yw_cases.specs.declared.standing.Standing.{Standing}
 use Rattle.yw_known.specs.Here.{IsNetHere, as_net_at}
 use Rattle.yw_known.specs.declared.here.NetHere.{NetHere}
+use Rattle.yw_spec.specs.declared.spec.Net.{Net}
 use Rattle.yw_spec.specs.declared.task.Task.{Task}
 use Rattle.yw_state.specs.Identity.{Ident}
 use Rattle.yw_state.specs.Nets.{task_number}
@@ -41,3 +46,9 @@ module _ (old : Standing) (i : Ident) (w : NetHere) (here : IsNetHere old.known 
 
       pub numbered : task_numbered (state_of old) i t ≡ Some its
       numbered = ap (option_and_then (λ (n : NetAt). task_in n t)) here.at ∙ ap (option_map (of_number t)) of_net
+
+-- it has the name by which it is found
+pub named_so : (net : Net) (t : ℕ) (task : Task) (name : List ℕ) → slice_get net.tasks t ≡ Some task → task_number net name ≡ Some t → task.name ≡ name
+named_so net t task name at number =
+    let passes = (position-Some (λ (u : Task). bytes_eq u.name name) net.tasks t task number).1 in
+    (bytes_eq-Decides task.name name).0 (subst (λ (u : Task). bytes_eq u.name name ≡ true) (get_or_from_slice_get net.tasks t task task at) passes)

@@ -119,6 +119,7 @@ done_is_plain (events.Load name text) is = refl
 done_is_plain (events.Launch n spec vals) is = refl
 done_is_plain (events.Start j who) is = refl
 done_is_plain (events.Complete j out) is = refl
+done_is_plain (events.Exit i t places) is = refl
 done_is_plain (events.Finish n) is = refl
 done_is_plain (events.Cancel n) is = refl
 done_is_plain (events.StartSub j) is = refl

@@ -9,6 +9,7 @@ is_done_event (events.Load name text) = true
 is_done_event (events.Launch n spec vals) = true
 is_done_event (events.Start j who) = true
 is_done_event (events.Complete j out) = true
+is_done_event (events.Exit i t places) = true
 is_done_event (events.Finish n) = true
 is_done_event (events.Cancel n) = true
 is_done_event (events.StartSub j) = true

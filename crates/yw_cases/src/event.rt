@@ -5,6 +5,7 @@ ghost use Rattle.yw_cases.specs.State.{MayStand};
 ghost use Rattle.yw_cases.specs.Tried.{Tries};
 
 use crate::completing::try_complete;
+use crate::exiting::try_exit;
 use crate::items::{try_complete_empty, try_complete_sub, try_start, try_start_sub};
 use crate::library::{try_load, try_person};
 use crate::standing::Standing;
@@ -29,6 +30,7 @@ pub fn try_event(
         Event::Launch { case, spec, values } => try_launch(alloc, standing, *case, spec, values),
         Event::Start { item, who } => try_start(alloc, standing, item, who),
         Event::Complete { item, out } => try_complete(alloc, standing, item, out),
+        Event::Exit { net, task, places } => try_exit(alloc, standing, net, task, places),
         Event::Finish { case } => try_finish(alloc, standing, *case),
         Event::Cancel { case } => try_cancel(standing, *case),
         Event::StartSub { item } => try_start_sub(alloc, standing, item),

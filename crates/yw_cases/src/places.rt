@@ -32,11 +32,13 @@ pub fn place_number(net: &Net, place: &Place) -> Option<usize>
 pub fn are_numbered(net: &Net, places: &[Place], numbers: &[usize]) -> bool
     ensures { result ≡ is_some_and (place_numbers net.now places.now) (λ cs. pointwise nat_eq cs numbers.now) }
 {
-    match (places, numbers) {
-        ([], []) => true,
-        ([place, places @ ..], [number, numbers @ ..]) => {
-            place_number(net, place) == Some(*number) && are_numbered(net, places, numbers)
-        }
-        _ => false,
+    match places {
+        [] => numbers.is_empty(),
+        [place, places @ ..] => match numbers {
+            [] => false,
+            [number, numbers @ ..] => {
+                place_number(net, place) == Some(*number) && are_numbered(net, places, numbers)
+            }
+        },
     }
 }
