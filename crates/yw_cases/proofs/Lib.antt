@@ -11,3 +11,5 @@ pub mod GivenBack
 pub mod CompleteLaw
 pub mod TaskHere
 pub mod ExitLaw
+pub mod Taking
+pub mod EntryLaw

@@ -8,3 +8,4 @@ pub mod Done
 pub mod Completing
 pub mod Steps
 pub mod Exiting
+pub mod Entering

@@ -5,6 +5,7 @@
 mod cases;
 mod completing;
 mod ended;
+mod entering;
 mod event;
 mod exiting;
 mod here;
