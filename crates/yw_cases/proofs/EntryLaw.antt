@@ -58,7 +58,7 @@ may_enter s i places first count x = not (active s i x.number) && takes_from s i
 
 -- ---- how many items come
 
-all_long : {A B : Type 0} (f : A → Option B) (xs : List A) (ys : List B) → all_of (map f xs) ≡ Some ys → length ys ≡ length xs
+pub all_long : {A B : Type 0} (f : A → Option B) (xs : List A) (ys : List B) → all_of (map f xs) ≡ Some ys → length ys ≡ length xs
 all_long f [] ys e = ap length (sym (some_same [] ys e))
 all_long {B = B} f (x ∷ xs) ys e =
     let y = then_some (λ (z : B). option_map (λ zs. z ∷ zs) (all_of (map f xs))) (f x) ys e in
@@ -115,7 +115,7 @@ module _ (old : Standing) (may : MayStand old) (i : Ident) (name : List ℕ) (pl
 
     -- ---- what an entry that is allowed tells
 
-    record Entering : Type 0 where
+    pub record Entering : Type 0 where
       pub idle : not (active s i t) ≡ true
       pub cs : List ℕ
       pub are : place_numbers w.net.now places ≡ Some cs
@@ -127,7 +127,7 @@ module _ (old : Standing) (may : MayStand old) (i : Ident) (name : List ℕ) (pl
       pub same : first ≡ s.next
       pub room : nat_le (first + count) number_end ≡ true
 
-    entering : may_enter s i places first count x ≡ true → Entering
+    pub entering : may_enter s i places first count x ≡ true → Entering
     entering e =
         let one = and_parts (not (active s i t) && takes_from s i x places && makes x count) (draws s first count) e in
         let two = and_parts (not (active s i t) && takes_from s i x places) (makes x count) one.0 in

@@ -13,3 +13,5 @@ pub mod TaskHere
 pub mod ExitLaw
 pub mod Taking
 pub mod EntryLaw
+pub mod SomeItems
+pub mod EnterLaw
