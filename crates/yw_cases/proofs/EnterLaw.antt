@@ -67,11 +67,11 @@ use Rattle.yw_tree.specs.declared.NetState.{out-NetState}
 use Rattle.yw_within.proofs.Finding.{well_holds_within}
 use Rattle.yw_within.specs.Within.{HoldsWithin, NetIsWithin}
 
-is_false : (b : Bool) → not b ≡ true → b ≡ false
+pub is_false : (b : Bool) → not b ≡ true → b ≡ false
 is_false true e = never e
 is_false false e = refl
 
-not_over : (a b : ℕ) → nat_le a b ≡ true → nat_lt b a ≡ false
+pub not_over : (a b : ℕ) → nat_le a b ≡ true → nat_lt b a ≡ false
 not_over a b e =
     let fits : a ≤ b = leb-true a b e in
     by_test (nat_lt b a) (λ t. let over : b < a = ltb-true b a t in absurd (omega arith)) (λ f. f)
@@ -89,7 +89,7 @@ defined_there : (row : Row) (element : Option Value) (v : Value) (o : Option Tre
 defined_there row element v None e = refl
 defined_there row element v (Some z) e = ap is_none e
 
-none_undefined : (row : Row) (element : Option Value) (ps : List Param) (given : Row) → all_of (map (λ (p : Param). given_value row element p.value) ps) ≡ Some given
+pub none_undefined : (row : Row) (element : Option Value) (ps : List Param) (given : Row) → all_of (map (λ (p : Param). given_value row element p.value) ps) ≡ Some given
     → find (undefined_value row) ps ≡ None
 none_undefined row element [] given e = refl
 none_undefined row element (p ∷ ps) given e =

@@ -79,7 +79,7 @@ first_there name (h ∷ pre) g rest none is =
 
 -- ---- each is of its sort
 
-as_itself : (sort : Sort) (v : Value) → may_hold sort v ≡ true → as_sort sort (Some v) ≡ Some v
+pub as_itself : (sort : Sort) (v : Value) → may_hold sort v ≡ true → as_sort sort (Some v) ≡ Some v
 as_itself sorts.Bool v e = ap (λ b. if b then Some v else None) e
 as_itself sorts.Int v e = ap (λ b. if b then Some v else None) e
 as_itself sorts.Text v e = ap (λ b. if b then Some v else None) e

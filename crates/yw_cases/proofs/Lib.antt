@@ -15,3 +15,4 @@ pub mod Taking
 pub mod EntryLaw
 pub mod SomeItems
 pub mod EnterLaw
+pub mod AddLaw

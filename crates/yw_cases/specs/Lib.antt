@@ -9,3 +9,4 @@ pub mod Completing
 pub mod Steps
 pub mod Exiting
 pub mod Entering
+pub mod Adding

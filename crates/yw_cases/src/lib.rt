@@ -2,6 +2,7 @@
 //! what.
 #![tactic(auto)]
 
+mod adding;
 mod cases;
 mod completing;
 mod ended;
