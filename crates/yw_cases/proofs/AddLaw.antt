@@ -45,14 +45,13 @@ use Rattle.yw_state.specs.declared.event.Event.TheVariants as events
 use Rattle.yw_state.specs.declared.rule.Refusal.{Refusal}
 use Rattle.yw_state.specs.declared.rule.Rule.TheVariants as rules
 use Rattle.yw_steps.specs.Adds.{AddBreaks, AddIsAllowed, Adds}
-use Rattle.yw_steps.specs.Stands.{MayGetItems, NetIs, TaskMayGrow}
+use Rattle.yw_steps.specs.Stands.{ComeBefore, MayGetItems, NetIs, TaskMayGrow}
 use Rattle.yw_task.specs.Adds.{add_table}
 use Rattle.yw_task.specs.Completes.{AnswersFirst}
 use Rattle.yw_task.specs.Enters.{OnRefusal}
 use Rattle.yw_task.specs.declared.fault.StepFault.{StepFault}
 use Rattle.yw_task.specs.declared.fault.StepFault.TheVariants.{Memory, Refused}
 use Rattle.yw_tree.proofs.Removed.{within}
-use Rattle.yw_tree.specs.Coming.{HasTask}
 use Rattle.yw_tree.specs.declared.Forest.{Forest}
 use Rattle.yw_tree.specs.declared.NetState.{out-NetState}
 use Rattle.yw_within.specs.Within.{NetIsWithin}
@@ -159,6 +158,9 @@ module _ (old : Standing) (may : MayStand old) (i : Ident) (name : List ℕ) (va
   pub number_some : 1 ≤ n
   number_some = subst (λ k. 1 ≤ k) (sym number_is) may.held.well.numbers.least
 
+  pub come_before : ComeBefore old.forest i t own.next → ComeBefore old.forest i t n
+  come_before before = subst (ComeBefore old.forest i t) (sym number_is) before
+
   abbrev Element : Type 0
   Element = (m : Many) × (is.task.many ≡ Some m) × ((p : Param) × (slice_get is.task.ins m.item ≡ Some p) × (m.dynamic ≡ true) × (may_hold p.sort value ≡ true))
 
@@ -199,13 +201,12 @@ module _ (old : Standing) (may : MayStand old) (i : Ident) (name : List ℕ) (va
           within = subst (NetIsWithin is.net.spec.now) same_net is.here.within;
         }
 
-    pub task_grows : HasTask t is.net.state.now → TaskMayGrow old.forest w.net.now i t
-    task_grows list =
+    pub task_grows : TaskMayGrow old.forest w.net.now i t
+    task_grows =
         record {
           state = is.net.state.now;
           found = is.here.stands.found;
           task = within w.net.now.tasks t is.task of_known;
-          list = list;
           room = short_enough old may i (as_net_at old.known is.net) is.here.at;
         }
 

@@ -61,7 +61,6 @@ use Rattle.yw_task.specs.Enters.{OnRefusal, enter_table, is_choice}
 use Rattle.yw_task.specs.declared.fault.StepFault.{StepFault}
 use Rattle.yw_task.specs.declared.fault.StepFault.TheVariants.{Memory, Refused}
 use Rattle.yw_tree.proofs.Removed.{within}
-use Rattle.yw_tree.specs.Coming.{HasTask}
 use Rattle.yw_tree.specs.declared.Forest.{Forest}
 use Rattle.yw_tree.specs.declared.NetState.{out-NetState}
 use Rattle.yw_within.proofs.Finding.{well_holds_within}
@@ -203,13 +202,12 @@ module _ (old : Standing) (may : MayStand old) (i : Ident) (name : List ℕ) (pl
           within = subst (NetIsWithin is.net.spec.now) same_net is.here.within;
         }
 
-    pub task_grows : HasTask t is.net.state.now → TaskMayGrow old.forest w.net.now i t
-    task_grows list =
+    pub task_grows : TaskMayGrow old.forest w.net.now i t
+    task_grows =
         record {
           state = is.net.state.now;
           found = is.here.stands.found;
           task = within w.net.now.tasks t is.task of_known;
-          list = list;
           room = short_enough old may i (as_net_at old.known is.net) is.here.at;
         }
 

@@ -4,7 +4,6 @@ use Rattle.std.specs.Prelude.{Bool, List, [], false, refl, true, ℕ, ◌+◌, �
 use Rattle.yw_accepted.proofs.Loaded.{accepted_are_sound}
 use Rattle.yw_cases.specs.Ended.{ended_of}
 use Rattle.yw_cases.specs.State.{MayStand, state_of}
-use Rattle.yw_cases.specs.Done.{is_done_event}
 use Rattle.yw_cases.specs.Tried.{IsDone, IsTried, LeadsNowhere, Tries}
 use Rattle.yw_cases.specs.declared.standing.Standing.{Standing}
 use Rattle.yw_invariant.proofs.EventsWell.{event_keeps_well}
@@ -28,7 +27,6 @@ use Rattle.yw_state.specs.State.{State, opening}
 use Rattle.yw_state.specs.Texts.{Said, Says, nothing}
 use Rattle.yw_state.specs.Well.{IsWell}
 use Rattle.yw_state.specs.declared.event.Event.{Event}
-use Rattle.yw_state.specs.declared.event.Event.TheVariants as events
 use Rattle.yw_state.specs.declared.part.Way.{Way}
 use Rattle.yw_tree.specs.Forest.{IsForest, sites_of}
 use Rattle.yw_tree.specs.declared.Forest.{Forest}
@@ -111,22 +109,6 @@ as_tried old e false new tried = tried
 pub tried_stands : (old : Standing) (may : MayStand old) (e : Event) (leads : Bool) (new : Standing) → is_plain_event e ≡ true → Tries old e leads new → MayStand new
 tried_stands old may e true new plain tried = done_stands old may e new plain tried
 tried_stands old may e false new plain tried = subst MayStand (sym tried.1) may
-
--- what is done is plain
-pub done_is_plain : (e : Event) → is_done_event e ≡ true → is_plain_event e ≡ true
-done_is_plain (events.Person name roles) is = refl
-done_is_plain (events.Load name text) is = refl
-done_is_plain (events.Launch n spec vals) is = refl
-done_is_plain (events.Start j who) is = refl
-done_is_plain (events.Complete j out) is = refl
-done_is_plain (events.Exit i t places) is = refl
-done_is_plain (events.Finish n) is = refl
-done_is_plain (events.Cancel n) is = refl
-done_is_plain (events.StartSub j) is = refl
-done_is_plain (events.CompleteSub j) is = refl
-done_is_plain (events.CompleteEmpty j) is = refl
-done_is_plain (events.Advance n) is = refl
-done_is_plain e is = never is
 
 opening_plain : IsPlain opening
 opening_plain = record { rules = refl; run = λ j x at. nowhere at; suspended = λ j x at. nowhere at; due = λ j x at. nowhere at }

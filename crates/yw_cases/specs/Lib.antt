@@ -4,7 +4,6 @@ pub mod Here
 pub mod Items
 pub mod State
 pub mod Tried
-pub mod Done
 pub mod Completing
 pub mod Steps
 pub mod Exiting

@@ -1,9 +1,9 @@
 // All that is kept, so that an event leads from one state that is well to another.
 ghost use Rattle.std.specs.Prelude.{◌≡◌, IfOk, OnErr, true};
-ghost use Rattle.yw_cases.specs.Done.{is_done_event};
 ghost use Rattle.yw_cases.specs.Ended.{ended_of};
 ghost use Rattle.yw_cases.specs.State.{MayStand, state_of};
 ghost use Rattle.yw_cases.specs.Tried.{IsTried};
+ghost use Rattle.yw_plain.specs.Plain.{is_plain_event};
 ghost use Rattle.yw_state.specs.Map.{get};
 ghost use Rattle.yw_state.specs.State.{opening};
 
@@ -72,7 +72,7 @@ impl Cases {
     /// Does an event, where it is allowed: `true`, and the state is that after it; else `false`, and nothing has changed. An `Err` says that no
     /// memory was left; then nothing is kept any more. That an event is done exactly where the definitions allow it is our own.
     pub fn try_event(&mut self, event: &Event) -> Result<bool, AllocError>
-        requires { is_done_event event.now ≡ true }
+        requires { is_plain_event event.now ≡ true }
         ensures tried { IfOk result (λ leads. IsTried self.old event.now leads self.new) }
         ensures err { OnErr result (state_of self.new ≡ opening) }
     {

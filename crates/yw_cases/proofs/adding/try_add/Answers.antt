@@ -1,5 +1,5 @@
 use Rattle.std.proofs.Common.{refl, subst, ◌+◌}
-use Rattle.yw_cases.proofs.AddLaw.{added_by, number_some, refused_by, room_there, task_grows}
+use Rattle.yw_cases.proofs.AddLaw.{added_by, come_before, number_some, refused_by, room_there, task_grows}
 use Rattle.yw_cases.proofs.EnterLaw.{checks_are, fits_below, holds_within}
 use Rattle.yw_cases.proofs.ExitLaw.{not_gone}
 use Rattle.yw_cases.proofs.Trying.{stands_well}
@@ -19,10 +19,14 @@ returns-in_default-known_net c =
     not_gone c.args.standing.now c.args.at.now is.net is.here (c.in_default-known_net.ensures _ c.requires.held)
 
 pub add-step-requires-clause-may : goal.add-step-requires-clause-may
-add-step-requires-clause-may c = task_grows c.args.standing.now c.requires c.args.at.now c.args.name.now c.args.value.now c.args.n c.in-Some.t c.in-Some.ensures c.in-Some-known_net.found (c.in-Some-known_net.ensures _ c.requires.held) ?
+add-step-requires-clause-may c = task_grows c.args.standing.now c.requires c.args.at.now c.args.name.now c.args.value.now c.args.n c.in-Some.t c.in-Some.ensures c.in-Some-known_net.found (c.in-Some-known_net.ensures _ c.requires.held)
 
 pub add-step-requires-clause-before : goal.add-step-requires-clause-before
-add-step-requires-clause-before c = ?
+add-step-requires-clause-before c =
+    let old = c.args.standing.now in
+    let is = c.in-Some.ensures in
+    come_before c.args.standing.now c.requires c.args.at.now c.args.name.now c.args.value.now c.args.n c.in-Some.t is
+    (c.task_may_grow.ensures.before (names_of old.known) old.forest (state_of old) (stands_well old c.requires) c.args.at.now (as_net_at old.known is.net) c.in-Some.t is.here.at)
 
 pub add-step-requires-clause-some : goal.add-step-requires-clause-some
 add-step-requires-clause-some c = number_some c.args.standing.now c.requires c.args.at.now c.args.name.now c.args.value.now c.args.n c.in-Some.t c.in-Some.ensures

@@ -21,7 +21,7 @@ returns-in_default-known_net c =
 pub enter-step-requires-clause-may : goal.enter-step-requires-clause-may
 enter-step-requires-clause-may c =
     let is = entry_found c.args.standing.now c.args.at.now c.args.name.now c.args.places.now c.args.first c.args.count c.in_ok-t.field-0 (c.in-Some.t, c.in-Some.taken) c.in-Some.is c.in_ok-t.ensures in
-    task_grows c.args.standing.now c.requires c.args.at.now c.args.name.now c.args.places.now c.args.first c.args.count c.in-Some.t c.in-Some.taken is c.in-Some-known_net.found (c.in-Some-known_net.ensures _ c.requires.held) ?
+    task_grows c.args.standing.now c.requires c.args.at.now c.args.name.now c.args.places.now c.args.first c.args.count c.in-Some.t c.in-Some.taken is c.in-Some-known_net.found (c.in-Some-known_net.ensures _ c.requires.held)
 
 pub enter-step-requires-clause-few : goal.enter-step-requires-clause-few
 enter-step-requires-clause-few c = let known = c.in-Some-known_net.ensures (state_of c.args.standing.now) c.requires.held in known.here.within.few
