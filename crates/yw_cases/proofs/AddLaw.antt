@@ -39,8 +39,7 @@ use Rattle.yw_state.specs.Options.{is_some_and}
 use Rattle.yw_state.specs.Passing.{given_values}
 use Rattle.yw_state.specs.State.{NetAt, State, TaskAt, items_of, no_checks, task_at}
 use Rattle.yw_state.specs.Texts.{Said, nothing}
-use Rattle.yw_state.specs.Values.{Row}
-use Rattle.yw_state.specs.Words.{active, clear}
+use Rattle.yw_state.specs.Words.{active}
 use Rattle.yw_state.specs.declared.event.Event.TheVariants as events
 use Rattle.yw_state.specs.declared.rule.Refusal.{Refusal}
 use Rattle.yw_state.specs.declared.rule.Rule.TheVariants as rules

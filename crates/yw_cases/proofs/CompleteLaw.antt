@@ -4,14 +4,14 @@ use Rattle.std.proofs.lemmas.Bool.{and_from, and_parts}
 use Rattle.std.proofs.lemmas.Slice.Eq.{bytes_eq-Decides}
 use Rattle.std.specs.List.{list_all}
 use Rattle.std.specs.Option.{option_map_or}
-use Rattle.std.specs.Prelude.{Bool, Err, IsSome, List, MatchOption, None, Ok, OnErr, OnOk, Option, Result, Some, [], cond, false, find, is_none, is_some, length, not, option_and_then, option_map, refl, slice_get, true, unwrap_or, ℕ, ◌&&◌, ◌||◌, ◌∷◌, ◌≡◌}
+use Rattle.std.specs.Prelude.{Bool, Err, List, MatchOption, None, Ok, OnErr, OnOk, Option, Result, Some, [], cond, false, find, is_none, is_some, not, option_and_then, option_map, refl, slice_get, true, unwrap_or, ℕ, ◌&&◌, ◌||◌, ◌∷◌, ◌≡◌}
 use Rattle.std.specs.Str.{bytes_eq}
 use Rattle.yw_cases.proofs.Allows.{free}
 use Rattle.yw_cases.proofs.GivenBack.{given_back, given_fits, given_made}
 use Rattle.yw_cases.proofs.HereLaw.{no_item}
 use Rattle.yw_cases.proofs.ItemsGo.{passed}
 use Rattle.yw_cases.proofs.OutsApart.{outs_apart}
-use Rattle.yw_cases.proofs.Trying.{done, fails, placed, words_of}
+use Rattle.yw_cases.proofs.Trying.{done, placed, words_of}
 use Rattle.yw_cases.specs.Completing.{IsStartedBy, MayNotComplete}
 use Rattle.yw_cases.specs.Here.{IsNetKnown}
 use Rattle.yw_cases.specs.State.{MayStand, state_of}
@@ -29,8 +29,7 @@ use Rattle.yw_nest.specs.Does.{all_else}
 use Rattle.yw_spec.specs.declared.spec.Net.{Net}
 use Rattle.yw_spec.specs.declared.spec.Var.{Var}
 use Rattle.yw_spec.specs.declared.task.Assign.{Assign}
-use Rattle.yw_spec.specs.declared.task.Task.{Task}
-use Rattle.yw_state.proofs.Tests.{and_left, and_right, by_option, by_test, map_some, never, nowhere, some_same, then_some, there_and}
+use Rattle.yw_state.proofs.Tests.{and_left, and_right, by_option, map_some, never, nowhere, some_same, then_some, there_and}
 use Rattle.yw_state.specs.Allowed.{Allowed, allows, may_complete}
 use Rattle.yw_state.specs.Broken.{Check, First, test, test_at}
 use Rattle.yw_state.specs.Events.{Leads}
@@ -40,7 +39,7 @@ use Rattle.yw_state.specs.Map.{get}
 use Rattle.yw_state.specs.Nets.{child_net, is_atomic}
 use Rattle.yw_state.specs.Options.{is_some_and}
 use Rattle.yw_state.specs.Passing.{is_defined, made_rows_with, row_fits, set_row}
-use Rattle.yw_state.specs.State.{ItemAt, NetAt, NetPart, State, TaskAt, is_item, item_at, items_of, net_at, net_part, no_checks, spec_called}
+use Rattle.yw_state.specs.State.{ItemAt, NetAt, NetPart, State, is_item, item_at, items_of, net_part, no_checks, spec_called}
 use Rattle.yw_state.specs.Texts.{Said, nothing}
 use Rattle.yw_state.specs.Values.{Row}
 use Rattle.yw_state.specs.Well.{wants_net}

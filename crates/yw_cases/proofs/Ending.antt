@@ -1,5 +1,5 @@
 -- A case is over, or goes on.
-use Rattle.std.proofs.Common.{ap, sym, ◌∙◌}
+use Rattle.std.proofs.Common.{◌∙◌}
 use Rattle.std.specs.Prelude.{Bool, List, false, is_some, refl, true, ℕ, ◌∷◌, [], ◌≡◌}
 use Rattle.yw_base.specs.Identity.{is_identity}
 use Rattle.yw_cases.proofs.Allows.{finish_as}
@@ -13,13 +13,13 @@ use Rattle.yw_nest.specs.Cases.{Cancels, Finishes, with_ended}
 use Rattle.yw_nest.specs.Does.{NeedsNothing}
 use Rattle.yw_state.proofs.Standing.{at_net}
 use Rattle.yw_state.proofs.Tests.{by_test, there_and}
-use Rattle.yw_state.specs.Allowed.{Allowed, allows}
+use Rattle.yw_state.specs.Allowed.{allows}
 use Rattle.yw_state.specs.Events.{after}
 use Rattle.yw_state.specs.Identity.{case_ident}
 use Rattle.yw_state.specs.Joins.{at_output, marked}
 use Rattle.yw_state.specs.Map.{insert}
-use Rattle.yw_state.specs.State.{NetAt, State, is_case, net_at}
-use Rattle.yw_state.specs.Texts.{Said, nothing}
+use Rattle.yw_state.specs.State.{NetAt, is_case, net_at}
+use Rattle.yw_state.specs.Texts.{nothing}
 use Rattle.yw_state.specs.declared.event.Event.TheVariants as events
 use Rattle.yw_state.specs.declared.part.Way.{Way}
 use Rattle.yw_state.specs.declared.part.Way.TheVariants.{Cancelled, Finished}

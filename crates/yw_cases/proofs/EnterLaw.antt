@@ -1,7 +1,7 @@
 -- A task is entered.
-use Rattle.std.proofs.Common.{Fits, ap, arith, inl, inr, length, refl, subst, suc, sym, w64, zero, ◌∙◌, ◌<◌, ◌≤◌}
-use Rattle.std.proofs.lemmas.Bool.{and_from, and_parts, leb-true, ltb-true}
-use Rattle.std.specs.Prelude.{Bool, Err, IfOk, IsTrue, List, None, Ok, Option, Result, Some, [], codes, cond, false, find, if◌then◌else◌, is_none, map, nat_le, nat_lt, not, option_and_then, option_map, slice_get, true, unwrap_or, ℕ, ◌&&◌, ◌+◌, ◌∷◌, ◌≡◌, ◌⊎◌}
+use Rattle.std.proofs.Common.{Fits, ap, arith, inl, inr, length, refl, subst, sym, w64, ◌∙◌, ◌<◌, ◌≤◌}
+use Rattle.std.proofs.lemmas.Bool.{and_parts, leb-true, ltb-true}
+use Rattle.std.specs.Prelude.{Bool, Err, IfOk, IsTrue, List, None, Ok, Option, Result, Some, [], codes, cond, false, find, if◌then◌else◌, is_none, map, nat_le, nat_lt, not, option_and_then, option_map, slice_get, true, unwrap_or, ℕ, ◌&&◌, ◌+◌, ◌∷◌, ◌≡◌}
 use Rattle.yw_base.specs.Gates.{is_or}
 use Rattle.yw_accepted.proofs.Loaded.{accepted_are_sound, accepted_are_within}
 use Rattle.yw_base.specs.Identity.{most_numbers, number_end}
@@ -16,7 +16,7 @@ use Rattle.yw_cases.specs.Entering.{IsEntry}
 use Rattle.yw_cases.specs.Here.{IsNetKnown, with_state}
 use Rattle.yw_cases.specs.State.{MayStand, state_of}
 use Rattle.yw_cases.specs.Steps.{IsAnswer}
-use Rattle.yw_cases.specs.Tried.{IsDone, LeadsNowhere}
+use Rattle.yw_cases.specs.Tried.{IsDone}
 use Rattle.yw_cases.specs.declared.standing.Standing.{Standing}
 use Rattle.yw_expr.specs.Meaning.{val}
 use Rattle.yw_expr.specs.Tree.{Tree}
@@ -31,10 +31,10 @@ use Rattle.yw_spec.specs.declared.spec.Place.{Place}
 use Rattle.yw_spec.specs.declared.task.Many.{Many}
 use Rattle.yw_spec.specs.declared.task.Param.{Param}
 use Rattle.yw_spec.specs.declared.task.Task.{Task}
-use Rattle.yw_state.proofs.Tests.{by_option, by_test, map_some, never, nowhere, some_same, then_some, there_and}
+use Rattle.yw_state.proofs.Tests.{by_test, map_some, never, nowhere, some_same, then_some}
 use Rattle.yw_state.specs.After.{with_next}
 use Rattle.yw_state.specs.Allowed.{Allowed, place_numbers}
-use Rattle.yw_state.specs.Broken.{Check, First, fact, misses_bounds, placeless, test, test_at, undefined_entry, undefined_in}
+use Rattle.yw_state.specs.Broken.{Check, First, fact, misses_bounds, test, test_at, undefined_entry, undefined_in}
 use Rattle.yw_state.specs.Identity.{Ident}
 use Rattle.yw_state.specs.Joins.{Waits, has_tokens}
 use Rattle.yw_state.specs.Map.{get}
@@ -57,7 +57,7 @@ use Rattle.yw_state.specs.declared.tree.TreeKind.{TreeKind}
 use Rattle.yw_state.specs.declared.tree.TreeKind.TheVariants.{Pre, Select}
 use Rattle.yw_task.specs.Completes.{AnswersFirst}
 use Rattle.yw_task.specs.Due.{entry_checks, has_rules}
-use Rattle.yw_task.specs.Enters.{OnRefusal, enter_table, is_choice}
+use Rattle.yw_task.specs.Enters.{enter_table, is_choice}
 use Rattle.yw_task.specs.declared.fault.StepFault.{StepFault}
 use Rattle.yw_task.specs.declared.fault.StepFault.TheVariants.{Memory, Refused}
 use Rattle.yw_tree.proofs.Removed.{within}

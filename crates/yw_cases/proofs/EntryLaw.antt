@@ -1,19 +1,18 @@
 -- Whether a task's entry is allowed.
-use Rattle.std.proofs.Common.{ap, length, refl, subst, suc, sym, ◌∙◌}
+use Rattle.std.proofs.Common.{ap, length, subst, suc, sym, ◌∙◌}
 use Rattle.std.proofs.lemmas.Bool.{and_from, and_parts, eq-eqb, eqb-true}
-use Rattle.std.specs.Prelude.{Bool, IsTrue, List, MatchOption, None, Option, Some, [], false, map, nat_le, not, option_and_then, option_map, slice_get, true, ℕ, ◌&&◌, ◌+◌, ◌==◌, ◌∷◌, ◌≡◌}
-use Rattle.yw_base.specs.Gates.{is_or}
+use Rattle.std.specs.Prelude.{Bool, List, MatchOption, None, Option, Some, [], false, map, nat_le, not, option_map, slice_get, true, ℕ, ◌&&◌, ◌+◌, ◌==◌, ◌∷◌, ◌≡◌}
 use Rattle.yw_base.specs.Identity.{number_end}
 use Rattle.yw_base.specs.declared.value.Value.{Value}
 use Rattle.yw_cases.proofs.Allows.{only_clear}
 use Rattle.yw_cases.proofs.TaskHere.{its, named, numbered}
-use Rattle.yw_cases.proofs.Taking.{IsTakenBy, joined, taken_by}
+use Rattle.yw_cases.proofs.Taking.{joined, taken_by}
 use Rattle.yw_cases.proofs.Trying.{fails, next_is, words_of}
 use Rattle.yw_cases.specs.Entering.{IsEntry, candidate, counts, stands_for}
 use Rattle.yw_cases.specs.State.{MayStand, state_of}
 use Rattle.yw_cases.specs.Tried.{LeadsNowhere}
 use Rattle.yw_cases.specs.declared.standing.Standing.{Standing}
-use Rattle.yw_enabled.specs.Entered.{EntersFrom, MayEnter, MayNotEnter, item_count}
+use Rattle.yw_enabled.specs.Entered.{MayEnter, MayNotEnter, item_count}
 use Rattle.yw_enabled.specs.Free.{MayDraw}
 use Rattle.yw_known.specs.Here.{IsNetHere}
 use Rattle.yw_known.specs.Names.{names_of}
@@ -24,10 +23,10 @@ use Rattle.yw_model.specs.Texts.{reader}
 use Rattle.yw_spec.specs.declared.spec.Place.{Place}
 use Rattle.yw_spec.specs.declared.task.Task.{Task}
 use Rattle.yw_state.proofs.Tests.{map_some, never, some_same, then_some, there_and}
-use Rattle.yw_state.specs.Allowed.{Allowed, allows, place_numbers}
+use Rattle.yw_state.specs.Allowed.{allows, place_numbers}
 use Rattle.yw_state.specs.Events.{Leads}
 use Rattle.yw_state.specs.Identity.{Ident}
-use Rattle.yw_state.specs.Joins.{NoWait, Waits, has_tokens, joins}
+use Rattle.yw_state.specs.Joins.{NoWait, has_tokens, joins}
 use Rattle.yw_state.specs.Nets.{task_number}
 use Rattle.yw_state.specs.Options.{all_of, is_some_and}
 use Rattle.yw_state.specs.Passing.{elements_for, entry_values, given_values, within_bounds}

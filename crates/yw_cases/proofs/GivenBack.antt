@@ -1,6 +1,6 @@
 -- The values that an item has made, as a command gives them: each under the name of its parameter.
 use mathlib.Core.List.{append_assoc}
-use Rattle.std.proofs.Common.{Bool, List, None, Option, Some, [], ap, arith, cond, false, get_or, length, map, refl, subst, suc, sym, true, zero, ℕ, ◌++◌, ◌<◌, ◌∙◌, ◌∷◌, ◌≡◌}
+use Rattle.std.proofs.Common.{Bool, List, None, Option, Some, [], ap, arith, cond, false, get_or, length, map, refl, subst, suc, true, ℕ, ◌++◌, ◌<◌, ◌∙◌, ◌∷◌, ◌≡◌}
 use Rattle.std.proofs.lemmas.Bool.{and_parts}
 use Rattle.std.proofs.lemmas.Slice.Eq.{bytes_eq-Decides}
 use Rattle.std.specs.List.{list_any}
@@ -16,7 +16,7 @@ use Rattle.yw_base.specs.declared.value.Value.{Value}
 use Rattle.yw_base.specs.declared.value.Value.TheVariants as values
 use Rattle.yw_cases.proofs.OutsApart.{names_of_params}
 use Rattle.yw_spec.specs.declared.task.Param.{Param}
-use Rattle.yw_state.proofs.Tests.{by_option, by_test, map_some, never, nowhere, then_some}
+use Rattle.yw_state.proofs.Tests.{by_test, map_some, never, then_some}
 use Rattle.yw_state.specs.Given.{as_sort, made_values, misfit}
 use Rattle.yw_state.specs.Options.{all_of}
 use Rattle.yw_state.specs.Passing.{row_fits}

@@ -1,7 +1,7 @@
 -- What is found at an identity.
 use Rattle.std.proofs.Common.{ap, subst, sym, ◌∙◌}
 use Rattle.std.specs.Borrow.{Bor}
-use Rattle.std.specs.Prelude.{List, MatchOption, None, Option, Some, false, is_some, option_and_then, option_map, refl, true, ℕ, ◌≡◌}
+use Rattle.std.specs.Prelude.{MatchOption, None, Option, Some, false, is_some, option_and_then, option_map, true, ◌≡◌}
 use Rattle.yw_base.specs.Identity.{is_identity}
 use Rattle.yw_cases.specs.Here.{IsNetKnown}
 use Rattle.yw_known.proofs.Standing.{net_is_here, numbered}
@@ -50,7 +50,7 @@ module _ (s : State) where
 module _ (known : Holdings) (f : Forest) (s : State) (h : IsHeld known f s) where
   pub known_there : (i : Ident) → is_identity i ≡ true → AreNamed known → (state : Bor NetState) → net_found f i ≡ Some state.now → (o : Option KnownNet)
       → MatchOption o (net_numbered known (out-NetState state.now).spec (out-NetState state.now).net ≡ None)
-          (IsKnownNet known (out-NetState state.now).spec (out-NetState state.now).net)
+      (IsKnownNet known (out-NetState state.now).spec (out-NetState state.now).net)
       → MatchOption o (net_part s i ≡ None) (IsNetKnown known f s i)
   known_there i identity named state found None none = absurd (numbered known f s h i identity state.now found named none)
   known_there i identity named state found (Some w) is =

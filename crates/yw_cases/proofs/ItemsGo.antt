@@ -1,6 +1,6 @@
 -- Items that go on.
 use Rattle.std.proofs.Common.{ap, subst, sym, ◌∙◌}
-use Rattle.std.specs.Prelude.{Bool, IsSome, List, MatchOption, None, Option, Some, [], false, is_some, not, option_map, refl, true, ℕ, ◌&&◌, ◌∷◌, ◌≡◌}
+use Rattle.std.specs.Prelude.{Bool, IsSome, List, MatchOption, None, Option, Some, [], false, not, refl, true, ℕ, ◌&&◌, ◌∷◌, ◌≡◌}
 use Rattle.yw_cases.proofs.Allows.{empty_as, start_as, sub_ends_as, sub_starts_as}
 use Rattle.yw_cases.proofs.Trying.{done, fails, placed, stands_well, words_of}
 use Rattle.yw_cases.specs.Here.{IsNetKnown}
@@ -17,7 +17,6 @@ use Rattle.yw_known.specs.declared.known.KnownNet.{KnownNet}
 use Rattle.yw_nest.proofs.FromState.{empty_stands, inner_is, item_stands, sub_ends, sub_starts}
 use Rattle.yw_nest.specs.Does.{NeedsNothing, all_else}
 use Rattle.yw_nest.specs.Items.{CompletesEmpty, CompletesSub, EndsAs, IsNetOf, StartsSub, SubMayEnd, SubMayStart}
-use Rattle.yw_spec.specs.declared.spec.Spec.{Spec}
 use Rattle.yw_state.proofs.Tests.{and_left, never, nowhere, there_and}
 use Rattle.yw_state.specs.Allowed.{Allowed}
 use Rattle.yw_state.specs.Broken.{Check, First, placeless, test}
@@ -25,7 +24,7 @@ use Rattle.yw_state.specs.Identity.{Ident, parent}
 use Rattle.yw_state.specs.Joins.{at_output}
 use Rattle.yw_state.specs.Nets.{is_atomic}
 use Rattle.yw_state.specs.Options.{is_some_and}
-use Rattle.yw_state.specs.State.{ItemAt, State, item_at, no_checks}
+use Rattle.yw_state.specs.State.{ItemAt, item_at, no_checks}
 use Rattle.yw_state.specs.Texts.{nothing}
 use Rattle.yw_state.specs.Words.{busy, is_ready}
 use Rattle.yw_state.specs.declared.event.Event.TheVariants as events
@@ -37,7 +36,6 @@ use Rattle.yw_steps.specs.Starts.{StartBreaks, Starts}
 use Rattle.yw_task.specs.Asked.{start_shown}
 use Rattle.yw_tree.specs.Forest.{item_of}
 use Rattle.yw_tree.specs.declared.Forest.{Forest}
-use Rattle.yw_within.specs.Within.{IsWithin}
 
 -- ---- a table of checks
 

@@ -1,5 +1,5 @@
 -- A case begins.
-use Rattle.std.proofs.Common.{ap, subst, sym, ◌∙◌}
+use Rattle.std.proofs.Common.{ap, sym, ◌∙◌}
 use Rattle.std.specs.Prelude.{Bool, List, None, Some, false, length, nat_le, nat_lt, refl, true, ℕ, ◌&&◌, ◌+◌, ◌==◌, ◌≡◌, option_and_then, option_map}
 use Rattle.yw_base.specs.Identity.{number_end}
 use Rattle.yw_cases.proofs.Trying.{done, fails, next_is, placed_next, stands_well, words_of}
@@ -21,7 +21,7 @@ use Rattle.yw_state.specs.Map.{get}
 use Rattle.yw_state.specs.Nets.{top_net}
 use Rattle.yw_state.specs.Options.{is_some_and}
 use Rattle.yw_state.specs.RuleTree.{TreeRule}
-use Rattle.yw_state.specs.State.{State, no_checks, spec_called, top_called}
+use Rattle.yw_state.specs.State.{no_checks, spec_called, top_called}
 use Rattle.yw_state.specs.Texts.{Said, nothing}
 use Rattle.yw_state.specs.Values.{Row}
 use Rattle.yw_state.specs.declared.event.Event.TheVariants as events

@@ -1,9 +1,9 @@
 -- From which places a join takes, by the choice that stands for them.
 use Rattle.std.proofs.Common.{ap, get_or, length, refl, subst, sym, ◌∙◌}
-use Rattle.std.proofs.lemmas.Bool.{and_from, and_parts, false_from_ne_true}
+use Rattle.std.proofs.lemmas.Bool.{and_from, and_parts}
 use Rattle.std.specs.Cmp.Lexicographic.{pointwise}
 use Rattle.std.specs.List.{list_all}
-use Rattle.std.specs.Prelude.{Bool, List, Some, [], false, filter, map, nat_eq, nat_lt, option_map, true, unwrap_or, ℕ, ◌&&◌, ◌==◌, ◌∷◌, ◌≡◌}
+use Rattle.std.specs.Prelude.{Bool, List, Some, [], filter, map, nat_eq, nat_lt, option_map, true, unwrap_or, ℕ, ◌&&◌, ◌==◌, ◌∷◌, ◌≡◌}
 use Rattle.yw_base.specs.declared.gate.Gate.{Gate}
 use Rattle.yw_base.specs.declared.gate.Gate.TheVariants.{And, Or, Xor}
 use Rattle.yw_cases.specs.Entering.{candidate, first_number, stands_for}

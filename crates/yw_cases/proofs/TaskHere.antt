@@ -14,7 +14,7 @@ use Rattle.yw_spec.specs.declared.spec.Net.{Net}
 use Rattle.yw_spec.specs.declared.task.Task.{Task}
 use Rattle.yw_state.specs.Identity.{Ident}
 use Rattle.yw_state.specs.Nets.{task_number}
-use Rattle.yw_state.specs.State.{NetAt, State, TaskAt, net_at, net_part, task_at, task_in}
+use Rattle.yw_state.specs.State.{NetAt, State, TaskAt, net_part, task_at, task_in}
 use Rattle.yw_still.specs.Still.{task_numbered}
 
 module _ (s : State) (i : Ident) (name : List ℕ) where

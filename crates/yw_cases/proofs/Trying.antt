@@ -1,6 +1,6 @@
 -- What an event leads to, from what is done to the forest; and that one whose test fails leads nowhere.
 use Rattle.std.proofs.Common.{ap, subst, sym, ◌∙◌}
-use Rattle.std.specs.Prelude.{Bool, List, [], false, refl, true, ℕ, ◌+◌, ◌≡◌}
+use Rattle.std.specs.Prelude.{Bool, List, [], false, refl, true, ℕ, ◌≡◌}
 use Rattle.yw_accepted.proofs.Loaded.{accepted_are_sound}
 use Rattle.yw_cases.specs.Ended.{ended_of}
 use Rattle.yw_cases.specs.State.{MayStand, state_of}
@@ -16,8 +16,10 @@ use Rattle.yw_nest.specs.Cases.{with_ended}
 use Rattle.yw_nest.specs.Does.{Does}
 use Rattle.yw_nest.specs.Stands.{StandsWell}
 use Rattle.yw_plain.proofs.Keeping.{event_keeps}
+use Rattle.yw_plain.proofs.Started.{none_stays}
 use Rattle.yw_plain.proofs.Words as plain
 use Rattle.yw_plain.specs.Plain.{IsPlain, PlainWords, is_plain_event}
+use Rattle.yw_plain.specs.Worklets.{HasNoWorklet}
 use Rattle.yw_state.proofs.Tests.{never, nowhere}
 use Rattle.yw_state.specs.After.{with_next, with_sites}
 use Rattle.yw_state.specs.Allowed.{Allowed, allows}
@@ -58,6 +60,7 @@ module _ (old : Standing) (may : MayStand old) where
           well = event_keeps_well reader accepted_are_sound (state_of old) may.held.well e (state_of new) done.leads;
         };
         plain = subst IsPlain (sym done.leads.then) (event_keeps (state_of old) e done.leads.said may.plain plain);
+        no_worklet = subst HasNoWorklet (sym done.leads.then) (none_stays (state_of old) may.held.well.numbers may.held.well.nets may.held.well.parents e done.leads.said may.no_worklet plain done.leads.allowed);
       }
 
   -- ---- an event is done
@@ -125,4 +128,5 @@ opening_stands h is boxed =
     record {
       held = record { library = refl; boxed = boxed; sites = refl; well = subst (IsWell reader) (sym is) (opening_is_well reader) };
       plain = subst IsPlain (sym is) opening_plain;
+      no_worklet = subst HasNoWorklet (sym is) (record { started = λ j x at. nowhere at });
     }

@@ -29,13 +29,7 @@ fn takes_element(task: &Task, value: &Value) -> bool
 }
 
 /// The number of the task, where an item may be added to it for the value under this number, but for what the net shows.
-fn addition(
-    standing: &Standing,
-    at: &Ident,
-    name: &Name,
-    value: &Value,
-    n: u64,
-) -> Option<usize>
+fn addition(standing: &Standing, at: &Ident, name: &Name, value: &Value, n: u64) -> Option<usize>
     requires { MayStand standing.now }
     ensures { MatchOption result (LeadsNowhere standing.now (events.Add at.now name.now value.now n))
         (IsAddition standing.now at.now name.now value.now n) }
@@ -79,7 +73,16 @@ pub fn try_add(
         return Ok(false);
     };
     let element = value.copy(alloc)?;
-    let step = yw_steps::add(alloc, &mut standing.forest, found.net, at, t, element, n, NO_CHECKS);
+    let step = yw_steps::add(
+        alloc,
+        &mut standing.forest,
+        found.net,
+        at,
+        t,
+        element,
+        n,
+        NO_CHECKS,
+    );
     if !was_done(step)? {
         return Ok(false);
     }

@@ -53,7 +53,15 @@ pub fn try_complete(
         return Ok(false);
     };
     let made = copy_row(alloc, out)?;
-    let done = yw_steps::complete(alloc, &mut standing.forest, outer.net, j, &who, made, NO_CHECKS);
+    let done = yw_steps::complete(
+        alloc,
+        &mut standing.forest,
+        outer.net,
+        j,
+        &who,
+        made,
+        NO_CHECKS,
+    );
     let leads = was_done(done)?;
     Ok(leads)
 }

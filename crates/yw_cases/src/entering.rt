@@ -70,11 +70,7 @@ fn is_among(places: &[usize], c: usize) -> bool
 }
 
 /// Those of the places that are marked. An `Err` says that no memory was left.
-fn marked_among(
-    alloc: Global,
-    marks: &Marks,
-    places: &[usize],
-) -> Result<Vec<usize>, AllocError>
+fn marked_among(alloc: Global, marks: &Marks, places: &[usize]) -> Result<Vec<usize>, AllocError>
     ensures { IfOk result (λ marked. marked.items ≡ filter (is_marked marks.now) places.now) }
 {
     places
@@ -137,7 +133,14 @@ fn entry(
         return Ok(None);
     }
     let taken = candidate(here.net, task.join, places.as_slice());
-    if !stands_for(alloc, here.net, &here.state.marks, task.before.as_slice(), places.as_slice(), taken)? {
+    if !stands_for(
+        alloc,
+        here.net,
+        &here.state.marks,
+        task.before.as_slice(),
+        places.as_slice(),
+        taken,
+    )? {
         return Ok(None);
     }
     Ok(Some((t, taken)))
@@ -164,7 +167,17 @@ pub fn try_enter(
     let Some(found) = known_net(&standing.known, &standing.forest, at) else {
         return Ok(false);
     };
-    let step = yw_steps::enter(alloc, &mut standing.forest, found.net, found.up, at, t, taken, first, NO_CHECKS);
+    let step = yw_steps::enter(
+        alloc,
+        &mut standing.forest,
+        found.net,
+        found.up,
+        at,
+        t,
+        taken,
+        first,
+        NO_CHECKS,
+    );
     if !was_entered(step)? {
         return Ok(false);
     }

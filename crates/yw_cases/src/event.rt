@@ -17,11 +17,7 @@ use yw_state::Event;
 
 /// Does an event, where it is allowed: `true`, and what is kept is then that after it; else `false`, and nothing has changed. An `Err` says that
 /// no memory was left; what is kept then is told nowhere.
-pub fn try_event(
-    alloc: Global,
-    standing: &mut Standing,
-    event: &Event,
-) -> Result<bool, AllocError>
+pub fn try_event(alloc: Global, standing: &mut Standing, event: &Event) -> Result<bool, AllocError>
     requires stands { MayStand standing.old }
     requires plain { is_plain_event event.now ≡ true }
     ensures { IfOk result (λ leads. Tries standing.old event.now leads standing.new) }

@@ -115,11 +115,7 @@ pub fn try_complete_empty(
 }
 
 /// The child net of an item begins, where that is allowed.
-pub fn try_start_sub(
-    alloc: Global,
-    standing: &mut Standing,
-    j: &Ident,
-) -> Result<bool, AllocError>
+pub fn try_start_sub(alloc: Global, standing: &mut Standing, j: &Ident) -> Result<bool, AllocError>
     requires { MayStand standing.old }
     ensures { IfOk result (λ leads. Tries standing.old (events.StartSub j.now) leads standing.new) }
 {
@@ -138,8 +134,10 @@ fn sub_ends(alloc: Global, standing: &Standing, j: &Ident) -> Result<bool, Alloc
     requires { MayStand standing.now }
     ensures { IfOk result (λ is. is ≡ (item_suits (state_of standing.now) CompleteSub j.now && at_output (state_of standing.now) j.now)) }
 {
-    Ok(item_suits(alloc, standing, ItemEvent::CompleteSub, j)?
-        && net_at_output(&standing.known, &standing.forest, j))
+    Ok(
+        item_suits(alloc, standing, ItemEvent::CompleteSub, j)?
+            && net_at_output(&standing.known, &standing.forest, j),
+    )
 }
 
 /// The child net of an item ends, where that is allowed.

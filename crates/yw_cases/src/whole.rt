@@ -62,7 +62,15 @@ pub fn try_launch(
         return Ok(false);
     }
     let copy = copy_row(alloc, values)?;
-    yw_nest::launch(alloc, &mut standing.forest, spec, number, n, copy, NO_CHECKS)?;
+    yw_nest::launch(
+        alloc,
+        &mut standing.forest,
+        spec,
+        number,
+        n,
+        copy,
+        NO_CHECKS,
+    )?;
     standing.next = n + 1;
     Ok(true)
 }

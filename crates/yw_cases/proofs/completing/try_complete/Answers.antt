@@ -6,7 +6,7 @@ use Rattle.yw_cases.proofs.completing.try_complete.Goals as goal
 pub returns-in_default : goal.returns-in_default
 returns-in_default c = (
   not_complete c.args.standing.now c.requires c.args.j.now c.args.out.now
-  (no_starter c.args.standing.now c.args.j.now c.args.out.now c.in_ok-who.field-0 c.in_default.is c.in_ok-who.ensures),
+      (no_starter c.args.standing.now c.args.j.now c.args.out.now c.in_ok-who.field-0 c.in_default.is c.in_ok-who.ensures),
   refl,
 )
 

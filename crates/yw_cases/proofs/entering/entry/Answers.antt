@@ -1,4 +1,4 @@
-use Rattle.std.proofs.Common.{subst, sym, ◌∙◌}
+use Rattle.std.proofs.Common.{sym, ◌∙◌}
 use Rattle.yw_cases.proofs.EntryLaw.{is_entry, no_task, not_drawn, not_entered, not_taken}
 use Rattle.yw_cases.proofs.TaskHere.{no_name_no_task, no_net_no_task, no_number_no_task}
 use Rattle.yw_cases.proofs.entering.entry.Goals as goal

@@ -1,4 +1,4 @@
-use Rattle.std.proofs.Common.{None, Option, Some, subst, true, ℕ, List, ◌≡◌}
+use Rattle.std.proofs.Common.{Option, subst, true, ℕ, List, ◌≡◌}
 use Rattle.std.specs.Prelude.{SomeIff}
 use Rattle.yw_base.specs.Identity.{is_identity}
 use Rattle.yw_cases.proofs.HereLaw.{known_above, no_item}

@@ -8,7 +8,7 @@ returns-in_default c = (no_spec c.args.standing.now c.requires c.args.n c.args.n
 pub returns-then-not-may_begin : goal.returns-then-not-may_begin
 returns-then-not-may_begin c = (
   not_launched c.args.standing.now c.requires c.args.n c.args.name.now c.args.values.now c.in-Some.spec.now c.in-Some.number c.in-Some.ensures
-  (sym c.may_begin.ensures ∙ c.if-not-may_begin.true),
+      (sym c.may_begin.ensures ∙ c.if-not-may_begin.true),
   refl,
 )
 
