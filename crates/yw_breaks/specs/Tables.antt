@@ -1,5 +1,5 @@
--- The checks of each command in two parts: those before the check that the case is quiet, and those behind it. They are pieces of the tables
--- of `yw_state`.
+-- The checks of each command in two parts: those before the check that the case is quiet, and those behind it. They are pieces of the
+-- tables of `yw_state`.
 use Rattle.std.specs.Prelude.{◌∷◌, ℕ, [], Bool, List, None, Option, Some, codes, drop, if◌then◌else◌, is_none, length, nat_le, not, option_and_then, take, unwrap_or}
 use Rattle.yw_base.specs.declared.value.Value.{Value}
 use Rattle.yw_breaks.specs.Persons.{has_role}
@@ -58,6 +58,9 @@ add_front s who i = net_front s who i
 abbrev lacks_role : State → List ℕ → TaskAt → Bool
 lacks_role s who x = not (has_role (unwrap_or (get s.persons who) []) x.task.role)
 
+abbrev is_full : State → Ident → TaskAt → Bool
+is_full s i x = is_some_and x.task.many (λ m. nat_le m.max (length (items_of s i x.number)))
+
 abbrev bad_element : Option Value → TaskAt → Option (List ℕ)
 bad_element value x = if is_none (element_value x.task value) then Some (codes "value") else None
 
@@ -68,7 +71,7 @@ add_rest s who i t value =
     ∷ test (is_some_and (task_at s i t) (lacks_role s who)) rules.Role
     ∷ test (held s i) rules.Held
     ∷ test (is_some_and (task_at s i t) (λ x. not (active s i x.number))) rules.Stage
-    ∷ test (is_some_and (task_at s i t) (λ x. is_some_and x.task.many (λ m. nat_le m.max (length (items_of s i x.number))))) rules.MaxReached
+    ∷ test (is_some_and (task_at s i t) (is_full s i)) rules.MaxReached
     ∷ test_at (option_and_then (bad_element value) (task_at s i t)) rules.BadData
     ∷ test_at (option_and_then undefined_in (task_at s i t)) rules.Mapping
     ∷ test (is_spent s 1) rules.Numbers

@@ -19,8 +19,8 @@ use yw_state::{Refusal, Rule};
 use yw_task::{first_lacking, is_active, items_in, task_at};
 use yw_tree::{Forest, NetState};
 
-/// The first rule that an addition breaks, of those that are tried before the case must be quiet: `UnknownPerson` where nobody has this name,
-/// `UnknownCase` where no net stands at the identity; `None` where it breaks neither. It takes no memory.
+/// The first rule that an addition breaks, of those that are tried before the case must be quiet: `UnknownPerson` where nobody has this
+/// name, `UnknownCase` where no net stands at the identity; `None` where it breaks neither. It takes no memory.
 pub fn add_front(known: &Known, forest: &Forest, who: &Name, at: &Ident) -> Option<Rule>
     ensures { Finds known.now forest.now (λ s. add_front s who.now at.now) (option_map placeless result) }
 {
@@ -127,11 +127,12 @@ fn add_fault(
     value_fault(alloc, task, &here.state.vals, value, next)
 }
 
-/// The first rule that an addition breaks, of those that are tried behind, in a state without rules, suspensions and runs: `UnknownTask` where
-/// the net has no task of this name; `NotDynamic` where no items may be added to it; `Role` where the person lacks its role; `Stage` where it isn't
-/// active; `MaxReached` where it has as many items as it may have; `BadData`, at `value`, where the value isn't of the sort of an element, or past
-/// the limits of values; `Mapping` where another parameter has an undefined expression, at the name of the first such one; `Numbers` where no
-/// number is left, of which `next` is drawn next; `None` where it breaks none. `Held` never comes yet. An `Err` says that no memory was left.
+/// The first rule that an addition breaks, of those that are tried behind, in a state without rules, suspensions and runs: `UnknownTask`
+/// where the net has no task of this name; `NotDynamic` where no items may be added to it; `Role` where the person lacks its role; `Stage`
+/// where it isn't active; `MaxReached` where it has as many items as it may have; `BadData`, at `value`, where the value isn't of the sort
+/// of an element, or past the limits of values; `Mapping` where another parameter has an undefined expression, at the name of the first
+/// such one; `Numbers` where no number is left, of which `next` is drawn next; `None` where it breaks none. `Held` never comes yet. An
+/// `Err` says that no memory was left.
 pub fn add_rest(
     alloc: Global,
     known: &Known,

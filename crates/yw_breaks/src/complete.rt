@@ -17,8 +17,8 @@ use yw_state::{GivenList, Refusal, Rule};
 use yw_task::ask_complete;
 use yw_tree::Forest;
 
-/// The first rule that a completion breaks, of those that are tried before the case must be quiet: `UnknownPerson` where nobody has this name,
-/// `UnknownItem` where no item has this identity; `None` where it breaks neither. It takes no memory.
+/// The first rule that a completion breaks, of those that are tried before the case must be quiet: `UnknownPerson` where nobody has this
+/// name, `UnknownItem` where no item has this identity; `None` where it breaks neither. It takes no memory.
 pub fn complete_front(known: &Known, forest: &Forest, who: &Name, item: &Ident) -> Option<Rule>
     ensures { (gs : List Given)
         → Finds known.now forest.now (λ s. complete_front s who.now item.now gs) (option_map placeless result) }
@@ -57,11 +57,12 @@ fn most_broken(
     }
 }
 
-/// The first rule that a completion breaks, of those that are tried behind but for the last, in a state without rules, suspensions and runs:
-/// `ByItself` where the item's task isn't atomic, or a net stands for the item; `Stage` where it isn't executing; `NotYours` where another
-/// person started it; `Output` where the values aren't those that it makes, at the name of the first parameter that lacks one of its sort, else
-/// the first name in byte order that no parameter has; `None` where it breaks none of these, and where no item has this identity. `Held` and
-/// `Busy` never come yet. The last, `Mapping`, is found by the call that does the event. An `Err` says that no memory was left.
+/// The first rule that a completion breaks, of those that are tried behind but for the last, in a state without rules, suspensions and
+/// runs: `ByItself` where the item's task isn't atomic, or a net stands for the item; `Stage` where it isn't executing; `NotYours` where
+/// another person started it; `Output` where the values aren't those that it makes, at the name of the first parameter that lacks one of
+/// its sort, else the first name in byte order that no parameter has; `None` where it breaks none of these, and where no item has this
+/// identity. `Held` and `Busy` never come yet. The last, `Mapping`, is found by the call that does the event. An `Err` says that no memory
+/// was left.
 pub fn complete_most(
     alloc: Global,
     known: &Known,

@@ -85,12 +85,12 @@ fn enter_fault(
     entry_fault(alloc, task, &here.state.vals, next)
 }
 
-/// The first rule that an entry breaks, of those that are tried behind, in a state without rules, suspensions and runs: `UnknownTask` where the
-/// net has no task of this name; `ByItself` where the task isn't atomic; `Role` where the person lacks its role; `Active` where items of it stand
-/// there; `NotEnabled` where its join lacks tokens; `OrWaits` where it is an OR-join that waits; `Mapping` where the list over which it runs is
-/// undefined, at `each`, or what an item is given, at the name of the first such parameter; `Count` where the items would be too few or too many;
-/// `Numbers` where so many numbers aren't left, of which `next` is drawn next; `None` where it breaks none. `Held` never comes yet. An `Err` says
-/// that no memory was left.
+/// The first rule that an entry breaks, of those that are tried behind, in a state without rules, suspensions and runs: `UnknownTask` where
+/// the net has no task of this name; `ByItself` where the task isn't atomic; `Role` where the person lacks its role; `Active` where items
+/// of it stand there; `NotEnabled` where its join lacks tokens; `OrWaits` where it is an OR-join that waits; `Mapping` where the list over
+/// which it runs is undefined, at `each`, or what an item is given, at the name of the first such parameter; `Count` where the items would
+/// be too few or too many; `Numbers` where so many numbers aren't left, of which `next` is drawn next; `None` where it breaks none. `Held`
+/// never comes yet. An `Err` says that no memory was left.
 pub fn enter_rest(
     alloc: Global,
     known: &Known,

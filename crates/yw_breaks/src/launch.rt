@@ -43,9 +43,9 @@ fn launch_fault(
     }
 }
 
-/// The first rule that a launch breaks: `UnknownSpec` where no specification of this name is loaded; `BadData` where a value is given that no
-/// variable of the top net takes, at the first such name in byte order; `Numbers` where no number is left, of which `next` is drawn next;
-/// `None` where it breaks none. An `Err` says that no memory was left.
+/// The first rule that a launch breaks: `UnknownSpec` where no specification of this name is loaded; `BadData` where a value is given that
+/// no variable of the top net takes, at the first such name in byte order; `Numbers` where no number is left, of which `next` is drawn
+/// next; `None` where it breaks none. An `Err` says that no memory was left.
 pub fn launch_breaks(
     alloc: Global,
     known: &Known,

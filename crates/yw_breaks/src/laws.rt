@@ -1,8 +1,10 @@
-//! How the parts of a table make the whole, and that the event which is asked for is allowed. Each law is the contract of a function that does nothing: it holds of all states.
+//! How the parts of a table make the whole, and that the event which is asked for is allowed. Each law is the contract of a function that
+//! does nothing: it holds of all states.
 ghost use Rattle.std.specs.Prelude.{ℕ, List, None, Option};
 ghost use Rattle.yw_base.specs.declared.value.Value.{Value};
 ghost use Rattle.yw_breaks.specs.Events.{IsAllowed};
-ghost use Rattle.yw_breaks.specs.Tables.{Joins, add_front, add_rest, complete_front, complete_most, complete_rest, enter_front, enter_rest, start_front, start_rest};
+ghost use Rattle.yw_breaks.specs.Tables.{Joins, add_front, add_rest, complete_front, complete_most, complete_rest};
+ghost use Rattle.yw_breaks.specs.Tables.{enter_front, enter_rest, start_front, start_rest};
 ghost use Rattle.yw_model.specs.Texts.{reader};
 ghost use Rattle.yw_state.specs.Broken.{First};
 ghost use Rattle.yw_state.specs.Identity.{Ident};
@@ -39,7 +41,8 @@ pub fn complete_joins()
         → Joins reader s (commands.Complete who j gs) j (complete_front s who j gs) (complete_rest s who j gs) }
 {}
 
-/// Of a completion what the event's own call finds (`complete` of yw_steps) is the first that is broken behind, where `complete_most` finds nothing.
+/// Of a completion what the event's own call finds (`complete` of yw_steps) is the first that is broken behind, where `complete_most` finds
+/// nothing.
 pub fn complete_last()
     ensures { (s : State) (who : List ℕ) (j : Ident) (gs : List Given) (found : Option Refusal) → First (complete_most s who j gs) None
         → First (shown_rest s who j gs) found → First (complete_rest s who j gs) found }

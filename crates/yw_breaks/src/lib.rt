@@ -18,6 +18,8 @@ pub use add::{add_front, add_rest};
 pub use cases::{advance_breaks, cancel_breaks};
 pub use complete::{complete_front, complete_most};
 pub use enter::{enter_front, enter_rest};
-pub use events::{advance_event, cancel_event, launch_event, start_event};
+pub use events::{
+    add_event, advance_event, cancel_event, complete_values, launch_event, start_event,
+};
 pub use launch::launch_breaks;
 pub use start::{start_front, start_rest};

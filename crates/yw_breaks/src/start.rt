@@ -34,8 +34,8 @@ fn start_rule(known: &Known, who: &Name, here: &ItemHere<'_>) -> Option<Rule>
 }
 
 /// The first rule that a start breaks, of those that are tried behind, in a state without rules, suspensions and runs: `ByItself` where the
-/// item's task isn't atomic, `Role` where the person lacks its role, `Stage` where the item isn't ready; `None` where it breaks none, and where
-/// no item has this identity. `Held` and `Busy` never come yet. An `Err` says that no memory was left.
+/// item's task isn't atomic, `Role` where the person lacks its role, `Stage` where the item isn't ready; `None` where it breaks none, and
+/// where no item has this identity. `Held` and `Busy` never come yet. An `Err` says that no memory was left.
 pub fn start_rest(
     alloc: Global,
     known: &Known,
