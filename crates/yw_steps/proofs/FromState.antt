@@ -1,35 +1,47 @@
 -- What a call supposes of a forest and needs of a state, from a state that is well.
-use Rattle.std.proofs.Common.{Bool, List, Option, Some, [], ap, arith, length, refl, subst, sym, true, ℕ, ◌++◌, ◌<◌, ◌∙◌, ◌∷◌, ◌≡◌, ◌≤◌}
+use Rattle.std.proofs.Common.{Bool, List, Option, Some, [], ap, arith, length, refl, subst, suc, sym, true, zero, ℕ, ◌++◌, ◌+◌, ◌<◌, ◌∙◌, ◌∷◌, ◌≡◌, ◌≤◌}
 use Rattle.std.proofs.lemmas.Bool.{and_parts, ltb-true}
+use Rattle.std.specs.FinMap.Entries.{find}
 use Rattle.std.specs.List.{list_all}
-use Rattle.std.specs.Prelude.{IsSome, is_some, nat_lt, option_and_then, option_map, slice_get}
+use Rattle.std.specs.Prelude.{IsSome, Vec, is_some, nat_lt, option_and_then, option_map, slice_get}
+use Rattle.std.specs.declared.alloc.Global.{Global}
 use Rattle.yw_base.specs.Identity.{is_identity, most_numbers}
 use Rattle.yw_nest.proofs.FromState.{item_stands}
 use Rattle.yw_nest.proofs.NetFound.{item_there, net_there}
 use Rattle.yw_nest.specs.Stands.{StandsWell}
+use Rattle.yw_sites.proofs.Each.{Each-back, Each-front}
+use Rattle.yw_sites.proofs.Prefix.{child_strictly, is_child_of}
+use Rattle.yw_sites.specs.Entries.{Entries}
+use Rattle.yw_sites.specs.Idents.{Each, IsChild}
 use Rattle.yw_spec.specs.declared.spec.Net.{Net}
 use Rattle.yw_spec.specs.declared.task.Task.{Task}
 use Rattle.yw_state.proofs.Standing.{at_item, at_net}
-use Rattle.yw_state.proofs.Tests.{by_option, map_some, then_some, there_and}
+use Rattle.yw_state.proofs.Tests.{by_option, map_some, then_some, there, there_and}
 use Rattle.yw_state.specs.Allowed.{Allowed, allows}
 use Rattle.yw_state.specs.Identity.{Ident, child, parent}
-use Rattle.yw_state.specs.Map.{get}
-use Rattle.yw_state.specs.State.{ItemAt, ItemPart, NetAt, NetPart, State, TaskAt, item_at, item_part, items_of, net_at, net_of, net_part, task_in}
+use Rattle.yw_state.specs.Map.{get, lexical}
+use Rattle.yw_state.specs.State.{ItemAt, ItemPart, NetAt, NetPart, Sites, State, TaskAt, item_at, item_part, items_of, net_at, net_of, net_part, task_in}
 use Rattle.yw_state.specs.Texts.{Reader, Said}
 use Rattle.yw_state.specs.Well.{IsWell, NumbersFit, most_items}
 use Rattle.yw_state.specs.declared.event.Event.TheVariants as events
 use Rattle.yw_state.specs.declared.part.Checks.{Checks}
 use Rattle.yw_steps.specs.Completes.{IsItemIn, ItemIs}
-use Rattle.yw_steps.specs.Stands.{MayGetItems, NetIs, TaskMayGrow}
+use Rattle.yw_steps.specs.Stands.{ComeBefore, MayGetItems, NetIs, TaskMayGrow}
 use Rattle.yw_task.specs.Due.{entry_checks}
 use Rattle.yw_task.specs.Items.{NothingFrom}
+use Rattle.yw_tree.proofs.Keys.{ids_are, kids, kids-append}
+use Rattle.yw_tree.proofs.NetAt.{net_here}
+use Rattle.yw_tree.proofs.Parents.{identity_long}
 use Rattle.yw_tree.proofs.Removed.{within}
-use Rattle.yw_tree.specs.Coming.{HasTask}
+use Rattle.yw_tree.proofs.Stand.{all_known, each_with}
+use Rattle.yw_tree.specs.Boxed.{ids}
+use Rattle.yw_tree.specs.Entries.{net_entries, row_nodes}
 use Rattle.yw_tree.specs.Forest.{item_of}
 use Rattle.yw_tree.specs.Places.{net_at as net_found}
+use Rattle.yw_tree.specs.Shows.{row_or_none}
 use Rattle.yw_tree.specs.declared.Forest.{Forest}
-use Rattle.yw_tree.specs.declared.NetState.{NetState}
-use Rattle.yw_tree.specs.declared.Node.{out-Node}
+use Rattle.yw_tree.specs.declared.NetState.{NetState, out-NetState}
+use Rattle.yw_tree.specs.declared.Node.{Node, out-Node}
 use Rattle.yw_within.proofs.Finding.{net_within}
 use Rattle.yw_within.specs.Within.{HoldsWithin}
 
@@ -54,16 +66,35 @@ last_passes : (p : ℕ → Bool) (xs : List ℕ) (n : ℕ) → list_all p (xs ++
 last_passes p [] n e = (and_parts (p n) true e).0
 last_passes p (x ∷ xs) n e = last_passes p xs n (and_parts (p x) (list_all p (xs ++ n ∷ [])) e).1
 
+-- what stands directly under an identity has a number that is drawn
+number_drawn : (s : State) → NumbersFit s → (i : Ident) (n : ℕ) → is_some (get s.sites (child i n)) ≡ true → n < s.next
+number_drawn s numbers i n stands =
+    let (x, some) = there (get s.sites (child i n)) stands in
+    ltb-true n s.next (last_passes (λ k. nat_lt k s.next) i n (numbers.drawn (child i n) x some))
+
 pub nothing_from : (s : State) → NumbersFit s → (i : Ident) → NothingFrom s.sites i s.next
 nothing_from s numbers i = λ n l.
     by_option (get s.sites (child i n))
     (λ none. none)
-    (λ x some.
-    let below : n < s.next = ltb-true n s.next (last_passes (λ k. nat_lt k s.next) i n (numbers.drawn (child i n) x some)) in
-    absurd (omega arith))
+    (λ x some. let below = number_drawn s numbers i n (ap is_some some) in absurd (omega arith))
 
 pub may_get : (s : State) → NumbersFit s → HoldsWithin s → (i : Ident) (n : NetAt) (task : Task) (due : Checks) → net_at s i ≡ Some n → due ≡ entry_checks s n.part.spec n.net task → MayGetItems n.net i s.next due task s
 may_get s numbers holds i n task due at checks = record { net_is = net_is s holds i n at; next = refl; fresh = nothing_from s numbers i; due_are = checks }
+
+-- ---- the items of a task are among those of the net
+
+each_item : (Q : Ident → Type 0) (ns : List Node) → Each Q (kids ns) → Each (λ n. Q (out-Node n).id) ns
+each_item Q [] e = tt
+each_item Q (n ∷ ns) e = (e.0, each_item Q ns e.1)
+
+each_in_row : (Q : Ident → Type 0) (vs : List (Vec Node Global)) (t : ℕ) → Each Q (kids (row_nodes vs)) → Each (λ n. Q (out-Node n).id) (row_or_none (slice_get vs t))
+each_in_row Q [] t e = tt
+each_in_row Q (v ∷ vs) zero e = each_item Q v.items (Each-front Q (kids v.items) (kids (row_nodes vs)) (subst (Each Q) (kids-append v.items (row_nodes vs)) e))
+each_in_row Q (v ∷ vs) (suc t) e = each_in_row Q vs t (Each-back Q (kids v.items) (kids (row_nodes vs)) (subst (Each Q) (kids-append v.items (row_nodes vs)) e))
+
+-- one number behind i, which is drawn
+abbrev HasDrawn : State → Ident → Ident → Type 0
+HasDrawn s i j = (k : ℕ) × (k < s.next) × (j ≡ child i k)
 
 module _ (names : ℕ → List ℕ) (f : Forest) (s : State) (h : StandsWell names f s) where
   -- the net that a state has is found
@@ -77,8 +108,28 @@ module _ (names : ℕ → List ℕ) (f : Forest) (s : State) (h : StandsWell nam
   pub net_stands : (i : Ident) (n : NetAt) → net_at s i ≡ Some n → IsSome (net_found f i)
   net_stands i n at = ap is_some (found_net i n at).1
 
-  pub may_grow : (i : Ident) (n : NetAt) (t : ℕ) → net_at s i ≡ Some n → t < length n.net.tasks → ((u : NetState) → net_found f i ≡ Some u → HasTask t u) → length i < most_numbers → TaskMayGrow f n.net i t
-  may_grow i n t at few lists room = let u = found_net i n at in record { state = u.0; found = u.1; task = few; list = lists u.0 u.1; room = room }
+  pub may_grow : (i : Ident) (n : NetAt) (t : ℕ) → net_at s i ≡ Some n → t < length n.net.tasks → length i < most_numbers → TaskMayGrow f n.net i t
+  may_grow i n t at few room = let u = found_net i n at in record { state = u.0; found = u.1; task = few; room = room }
+
+  -- each item of the net has a number that is drawn
+  drawn_there : (i : Ident) → 1 ≤ length i → (u : NetState) → net_found f i ≡ Some u → Each (HasDrawn s i) (ids u)
+  drawn_there i long u found =
+      let here = net_here f i u h.boxed long found in
+      let es : Entries = (net_entries names u).1 ++ here.beside names in
+      Each-front (HasDrawn s i) (ids u) here.others
+      (each_with (IsChild i) (λ j. is_some (find lexical j es) ≡ true) (HasDrawn s i)
+      (λ j (k, same) known.
+      let at : is_some (get s.sites j) ≡ true =
+      ap (λ (m : Sites). is_some (get m j)) h.sites ∙ ap is_some ((here.shows names).below j (child_strictly j i (is_child_of j i (k, same)))) ∙ known in
+      (k, number_drawn s h.numbers i k (ap (λ z. is_some (get s.sites z)) (sym same) ∙ at), same))
+      (ids u ++ here.others) here.here.0 (all_known names u (here.beside names) here.others (here.known names)))
+
+  -- and so has each of a task
+  pub come_before : (i : Ident) (n : NetAt) (t : ℕ) → net_at s i ≡ Some n → ComeBefore f i t s.next
+  come_before i n t at = λ u found.
+      let stands = at_net s i n at in
+      let long = identity_long i (h.numbers.identities i stands.0 stands.1) in
+      each_in_row (HasDrawn s i) (out-NetState u).items.items t (subst (Each (HasDrawn s i)) (ids_are u) (drawn_there i long u found))
 
   -- ---- an item
 

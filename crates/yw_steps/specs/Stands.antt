@@ -11,7 +11,6 @@ use Rattle.yw_state.specs.declared.event.Event.{Event}
 use Rattle.yw_state.specs.declared.part.Checks.{Checks}
 use Rattle.yw_task.specs.Due.{entry_checks}
 use Rattle.yw_task.specs.Items.{AreBefore, NothingFrom, row_of}
-use Rattle.yw_tree.specs.Coming.{HasTask}
 use Rattle.yw_tree.specs.Forest.{sites_of}
 use Rattle.yw_tree.specs.Places.{net_at as net_found}
 use Rattle.yw_tree.specs.declared.Forest.{Forest}
@@ -32,12 +31,11 @@ pub record NetIs (s : State) (i : Ident) (net : Net) : Type 0 where
   pub spec : Spec
   pub within : NetIsWithin spec net
 
--- The net at i has a list for the items of its task with number t, and its identity leaves room for one number more.
+-- A net is found at i, which has a task with number t, and its identity leaves room for one number more.
 pub record TaskMayGrow (f : Forest) (net : Net) (i : Ident) (t : ℕ) : Type 0 where
   pub state : NetState
   pub found : net_found f i ≡ Some state
   pub task : t < length net.tasks
-  pub list : HasTask t state
   pub room : length i < most_numbers
 
 -- the items of the task with number t in the net at i have numbers below n

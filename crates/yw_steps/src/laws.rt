@@ -12,13 +12,11 @@ ghost use Rattle.yw_state.specs.Well.{IsWell};
 ghost use Rattle.yw_state.specs.declared.event.Event.TheVariants as events;
 ghost use Rattle.yw_state.specs.declared.part.Checks.{Checks};
 ghost use Rattle.yw_steps.specs.Completes.{IsItemIn, ItemIs};
-ghost use Rattle.yw_steps.specs.Stands.{MayGetItems, NetIs, TaskMayGrow};
+ghost use Rattle.yw_steps.specs.Stands.{ComeBefore, MayGetItems, NetIs, TaskMayGrow};
 ghost use Rattle.yw_task.specs.Due.{entry_checks};
-ghost use Rattle.yw_tree.specs.Coming.{HasTask};
 ghost use Rattle.yw_tree.specs.Forest.{item_of};
 ghost use Rattle.yw_tree.specs.Places.{net_at as net_found};
 ghost use Rattle.yw_tree.specs.declared.Forest.{Forest};
-ghost use Rattle.yw_tree.specs.declared.NetState.{NetState};
 ghost use Rattle.yw_within.specs.Within.{HoldsWithin};
 
 use yw_state::laws::reads::Reads;
@@ -46,12 +44,13 @@ pub fn net_stands()
     ensures is { (s : State) → HoldsWithin s → (i : Ident) (n : NetAt) → net_at s i ≡ Some n → NetIs s i n.net }
 {}
 
-/// A task may get items, where the net has a list for them and its identity leaves room for a number; the numbers that are drawn next
-/// are free.
+/// A task may get items, where the net's identity leaves room for a number; the numbers that are drawn next are free, and those of
+/// the task's items are lower.
 pub fn task_may_grow()
     ensures may { (names : ℕ → List ℕ) (f : Forest) (s : State) → StandsWell names f s
-        → (i : Ident) (n : NetAt) (t : ℕ) → net_at s i ≡ Some n → t < length n.net.tasks
-        → ((u : NetState) → net_found f i ≡ Some u → HasTask t u) → length i < most_numbers → TaskMayGrow f n.net i t }
+        → (i : Ident) (n : NetAt) (t : ℕ) → net_at s i ≡ Some n → t < length n.net.tasks → length i < most_numbers → TaskMayGrow f n.net i t }
+    ensures before { (names : ℕ → List ℕ) (f : Forest) (s : State) → StandsWell names f s
+        → (i : Ident) (n : NetAt) (t : ℕ) → net_at s i ≡ Some n → ComeBefore f i t s.next }
     ensures needs { (names : ℕ → List ℕ) (f : Forest) (s : State) → StandsWell names f s → HoldsWithin s
         → (i : Ident) (n : NetAt) (task : Task) (due : Checks) → net_at s i ≡ Some n → due ≡ entry_checks s n.part.spec n.net task
         → MayGetItems n.net i s.next due task s }

@@ -1,11 +1,11 @@
 -- What an addition does: one item comes.
 use Rattle.std.proofs.Common.{List, Option, Some, [], ap, refl, subst, sym, ℕ, ◌+◌, ◌∙◌, ◌∷◌, ◌≡◌}
-use Rattle.std.specs.Prelude.{slice_get}
+use Rattle.std.specs.Prelude.{option_map, slice_get}
 use Rattle.yw_base.specs.declared.value.Value.{Value}
 use Rattle.yw_spec.specs.declared.spec.Net.{Net}
 use Rattle.yw_spec.specs.declared.task.Task.{Task}
 use Rattle.yw_state.proofs.Tests.{some_same}
-use Rattle.yw_state.specs.After.{add, add_items, where_some}
+use Rattle.yw_state.specs.After.{add, add_items, where_some, with_net as with_part}
 use Rattle.yw_state.specs.Events.{after}
 use Rattle.yw_state.specs.Identity.{Ident}
 use Rattle.yw_state.specs.Map.{get}
@@ -13,25 +13,29 @@ use Rattle.yw_state.specs.Passing.{given_values}
 use Rattle.yw_state.specs.State.{State, TaskAt, task_at}
 use Rattle.yw_state.specs.Values.{Row}
 use Rattle.yw_state.specs.declared.part.Checks.{Checks}
-use Rattle.yw_task.proofs.EnterAsk.{net_with, shown, task_stands}
+use Rattle.yw_task.proofs.EnterAsk.{here, net_with, shown, task_stands}
 use Rattle.yw_task.proofs.Placing.{items_placed}
+use Rattle.yw_task.proofs.RoomLaw.{roomy_boxed, roomy_ids, roomy_part, roomy_shows}
 use Rattle.yw_task.specs.Adds.{Adds, GivesRow}
 use Rattle.yw_task.specs.Enters.{PlacesNet}
-use Rattle.yw_task.specs.Items.{GetsItems}
+use Rattle.yw_task.specs.Room.{GetsListAndItems}
 use Rattle.yw_tree.proofs.NetHere.{same_part}
 use Rattle.yw_tree.specs.Boxed.{IsBoxedNet}
 use Rattle.yw_tree.specs.Entries.{net_part}
 use Rattle.yw_tree.specs.declared.NetState.{NetState, out-NetState}
 
 pub adds : (net : Net) (old new : NetState) (i : Ident) (t : ℕ) (u : Task) → slice_get net.tasks t ≡ Some u → (value : Value) (n : ℕ) (due : Checks) (given : Row) → IsBoxedNet old
-    → GivesRow u (out-NetState old).vals value given → GetsItems i t due n (given ∷ []) old new → Adds net old i t value n due new
+    → GivesRow u (out-NetState old).vals value given → GetsListAndItems i t due n (given ∷ []) old new → Adds net old i t value n due new
 unfolding after
 adds net old new i t u at value n due given boxed gives gets = λ names f s said task element h element_is.
     let x : TaskAt = record { number = t; task = task; within = net_with names net old } in
     let vals = (out-NetState old).vals in
     let one : List Row = given ∷ [] in
-    let shows = shown names f s i net old h.stands in
-    let placed = items_placed names f s i net old t n due task h old (out-NetState old).marks refl s.sites boxed refl shows (sym (same_part (net_part names old) (get s.sites i) shows.part)) (λ q off. refl) h.fresh one new (n + 1) gets in
+    let roomy : NetState = gets.roomy in
+    let shows = roomy_shows t old roomy gets.room names s.sites i ((here names f s i net old h.stands).beside names) (shown names f s i net old h.stands) in
+    let own : get s.sites i ≡ option_map (with_part (λ _. net_part names roomy)) (get s.sites i) = sym (same_part (net_part names roomy) (get s.sites i) shows.part) in
+    let placed = items_placed names f s i net old t n due task h roomy (out-NetState old).marks (roomy_part t old roomy gets.room names) s.sites (roomy_boxed t old roomy gets.room boxed) (roomy_ids t old roomy gets.room)
+    shows own (λ q off. refl) h.fresh one new (n + 1) gets.items in
     let of_task : GivesRow task vals value given = subst (λ (z : Task). GivesRow z vals value given) (some_same u task (sym at ∙ h.task_is)) gives in
     let given_is : given_values task vals (Some element) ≡ Some given =
     ap (λ (v : Value). given_values task vals (Some v)) (some_same element of_task.element (sym element_is ∙ of_task.stands)) ∙ of_task.given in

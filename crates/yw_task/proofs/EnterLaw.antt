@@ -22,9 +22,11 @@ use Rattle.yw_task.proofs.EnterAsk.{here, net_with, shown, task_stands}
 use Rattle.yw_task.proofs.ItemPut.{not_child}
 use Rattle.yw_task.proofs.OwnPart.{overwritten, same_ids, shows_changed, still_boxed}
 use Rattle.yw_task.proofs.Placing.{items_placed}
+use Rattle.yw_task.proofs.RoomLaw.{roomy_boxed, roomy_ids, roomy_part, roomy_shows}
 use Rattle.yw_task.specs.Enters.{Enters, PlacesNet}
 use Rattle.yw_task.specs.Giving.{entry_rows}
-use Rattle.yw_task.specs.Items.{GetsItems, LosesTokens, NothingFrom}
+use Rattle.yw_task.specs.Items.{LosesTokens, NothingFrom}
+use Rattle.yw_task.specs.Room.{GetsListAndItems}
 use Rattle.yw_tree.proofs.NetHere.{same_part}
 use Rattle.yw_tree.specs.Boxed.{IsBoxedNet}
 use Rattle.yw_tree.specs.Entries.{net_part}
@@ -37,7 +39,7 @@ before_is : (net : Net) (t : ℕ) (task : Task) → slice_get net.tasks t ≡ So
 before_is net t task at = ap (λ (o : Option Task). option_map_or (λ (u : Task). u.before) o []) at
 
 pub enters : (net : Net) (old mid new : NetState) (i : Ident) (t : ℕ) (u : Task) → slice_get net.tasks t ≡ Some u → (taken : Taken) (first : ℕ) (due : Checks) (rows : List Row) (count : ℕ) → IsBoxedNet old
-    → LosesTokens (taken_places (out-NetState old).marks (before net t) taken) old mid → rows ≡ entry_rows u (out-NetState old).vals → count ≡ length rows → GetsItems i t due first rows mid new
+    → LosesTokens (taken_places (out-NetState old).marks (before net t) taken) old mid → rows ≡ entry_rows u (out-NetState old).vals → count ≡ length rows → GetsListAndItems i t due first rows mid new
     → Enters net old i t taken first due new count
 unfolding after
 enters net old mid new i t u at taken first due rows count boxed loses rows_are count_is gets = λ names f s said task places h places_are.
@@ -48,15 +50,18 @@ enters net old mid new i t u at taken first due rows count boxed loses rows_are 
     let e : LosesTokens cs old mid = subst (λ z. LosesTokens (taken_places marks z taken) old mid) (before_is net t task h.task_is) loses in
     let items = ap (λ (l : NetState-F NetState Node Run). l.items) e in
     let m : Sites = update s.sites i (with_part less) in
-    let p : NetPart = net_part names mid in
-    let is_less : p ≡ less (net_part names old) = ap (λ (l : NetState-F NetState Node Run). record { spec = names l.spec; net = l.net; vals = l.vals; tokens = l.marks }) e in
-    let shows = shows_changed old mid items names less is_less s.sites i ((here names f s i net old h.stands).beside names) (shown names f s i net old h.stands) in
+    let roomy : NetState = gets.roomy in
+    let p : NetPart = net_part names roomy in
+    let is_less : net_part names mid ≡ less (net_part names old) = ap (λ (l : NetState-F NetState Node Run). record { spec = names l.spec; net = l.net; vals = l.vals; tokens = l.marks }) e in
+    let beside = (here names f s i net old h.stands).beside names in
+    let shows = roomy_shows t mid roomy gets.room names m i beside (shows_changed old mid items names less is_less s.sites i beside (shown names f s i net old h.stands)) in
     let own : get m i ≡ option_map (with_part (λ _. p)) (get s.sites i) =
     sym (same_part p (get m i) shows.part) ∙ ap (option_map (with_part (λ _. p))) (get-update_same by_name s.sites i (with_part less)) ∙ overwritten less p (get s.sites i) in
     let elsewhere : (q : Ident) → under q i ≡ false → get m q ≡ get s.sites q =
     λ q off. get-update_other by_name s.sites i (with_part less) q (λ same. never (sym off ∙ ap (λ z. under z i) same ∙ under_refl i)) in
     let fresh : NothingFrom m i first = λ n l. get-update_other by_name s.sites i (with_part less) (child i n) (λ same. not_child i n (sym same)) ∙ h.fresh n l in
-    let placed = items_placed names f s i net old t first due task h mid (fold one_less marks cs) e m (still_boxed old mid items boxed) (same_ids old mid items) shows own elsewhere fresh rows new (first + length rows) gets in
+    let placed = items_placed names f s i net old t first due task h roomy (fold one_less marks cs) (roomy_part t mid roomy gets.room names ∙ is_less) m (roomy_boxed t mid roomy gets.room (still_boxed old mid items boxed))
+    (roomy_ids t mid roomy gets.room ∙ same_ids old mid items) shows own elsewhere fresh rows new (first + length rows) gets.items in
     let vals = (out-NetState old).vals in
     let same : entry_rows task vals ≡ rows = ap (λ (z : Task). entry_rows z vals) (some_same task u (sym h.task_is ∙ at)) ∙ sym rows_are in
     let done : where_some (task_at s i task.name) s (enter s i places first) ≡ enter_with s i x first cs rows =

@@ -15,6 +15,7 @@ pub mod ItemPut
 pub mod OwnPart
 pub mod ItemsCome
 pub mod Arriving
+pub mod RoomLaw
 pub mod EnterTable
 pub mod Placing
 pub mod EnterLaw

@@ -34,9 +34,7 @@ use Rattle.yw_tree.specs.Forest.{IsForest, sites_of}
 use Rattle.yw_tree.specs.Places.{placed_net}
 use Rattle.yw_tree.specs.Shows.{ShowsNet}
 use Rattle.yw_tree.specs.declared.Forest.{Forest}
-use Rattle.yw_tree.specs.declared.NetState.{NetState, NetState-F, out-NetState}
-use Rattle.yw_tree.specs.declared.Node.{Node}
-use Rattle.yw_tree.specs.declared.Run.{Run}
+use Rattle.yw_tree.specs.declared.NetState.{NetState, out-NetState}
 
 module _ (names : ℕ → List ℕ) (f : Forest) (s : State) (i : Ident) (net : Net) (old : NetState) (t first : ℕ) (due : Checks) (task : Task) (h : MayGet names f s i net old t first due task) where
   abbrev its : NetHere f i old (placed_net f i)
@@ -54,14 +52,14 @@ module _ (names : ℕ → List ℕ) (f : Forest) (s : State) (i : Ident) (net : 
       never (sym (ap is_some (h.fresh n l)) ∙ ap (λ z. is_some (get s.sites z)) e ∙ ap is_some (shows.below k (child_strictly k i (is_child_of k i c))) ∙ stands))
       (ids old ++ at.others) at.here.0 (all_known names old (at.beside names) at.others (at.known names)))
 
-  -- a net with other tokens stands there, and items come to it
-  module _ (mid : NetState) (marks : List ℕ) (e : out-NetState mid ≡ record (out-NetState old) { marks = marks }) (m : Sites) (boxed : IsBoxedNet mid) (same_ids : ids mid ≡ ids old) (shows : ShowsNet names m i ((here names f s i net old h.stands).beside names) mid) (own : get m i ≡ option_map (with_part (λ _. net_part names mid)) (get s.sites i)) (elsewhere : (q : Ident) → under q i ≡ false → get m q ≡ get s.sites q) (fresh : NothingFrom m i first) where
+  -- a net with other tokens and these items stands there, and more items come to it
+  module _ (mid : NetState) (marks : List ℕ) (other : net_part names mid ≡ record (net_part names old) { tokens = marks }) (m : Sites) (boxed : IsBoxedNet mid) (same_ids : ids mid ≡ ids old) (shows : ShowsNet names m i ((here names f s i net old h.stands).beside names) mid) (own : get m i ≡ option_map (with_part (λ _. net_part names mid)) (get s.sites i)) (elsewhere : (q : Ident) → under q i ≡ false → get m q ≡ get s.sites q) (fresh : NothingFrom m i first) where
     abbrev x : TaskAt
     x = record { number = t; task = task; within = net_with names net old }
 
     mid_known : net_at (with_sites s m) i ≡ Some (net_with names net mid)
     mid_known =
-        let known : net_of s (net_part names mid) ≡ Some net = ap (λ (l : NetState-F NetState Node Run). net_of s (record { spec = names l.spec; net = l.net; vals = l.vals; tokens = l.marks })) e ∙ h.stands.known in
+        let known : net_of s (net_part names mid) ≡ Some net = ap (net_of s) other ∙ h.stands.known in
         ap (option_and_then (λ (n : NetPart). option_map (λ (w : Net). record { part = n; net = w }) (net_of s n))) shows.part
         ∙ ap (option_map (λ (w : Net). record { part = net_part names mid; net = w })) known
 
@@ -96,7 +94,7 @@ module _ (names : ℕ → List ℕ) (f : Forest) (s : State) (i : Ident) (net : 
         let placed = placed_map rows new gets in
         let put : fold (add_item x i) (with_sites s m) (zip (range_with_len first (length rows)) rows)
         ≡ with_sites s (put_all i (λ given. record (new_item t given) { due = entry_checks s (names (out-NetState old).spec) net task }) first rows m) =
-        items_put i (identity_long i h.stands.identity) x h.task_is (net_with names net mid) (ap (λ (l : NetState-F NetState Node Run). names l.spec) e) refl rows first (with_sites s m) mid_known in
+        items_put i (identity_long i h.stands.identity) x h.task_is (net_with names net mid) (ap (λ (n : NetPart). n.spec) other) refl rows first (with_sites s m) mid_known in
         let with_due : put_all i (λ given. record (new_item t given) { due = entry_checks s (names (out-NetState old).spec) net task }) first rows m ≡ sites_of names (placed_net f i new) =
         ap (λ (d : Checks). put_all i (λ given. record (new_item t given) { due = d }) first rows m) (sym h.due_are) ∙ sym placed.0 in
         record { map = ap (λ u. with_next u next) (put ∙ ap (with_sites s) with_due); kept = placed.1 }

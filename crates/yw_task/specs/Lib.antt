@@ -8,5 +8,6 @@ pub mod Leaves
 pub mod Giving
 pub mod Due
 pub mod Items
+pub mod Room
 pub mod Enters
 pub mod Adds

@@ -13,7 +13,6 @@ ghost use Rattle.yw_task.specs.Enters.{OnRefusal};
 ghost use Rattle.yw_task.specs.Giving.{undefined_param};
 ghost use Rattle.yw_task.specs.Items.{AreBefore, row_of};
 ghost use Rattle.yw_tree.specs.Boxed.{IsBoxedNet};
-ghost use Rattle.yw_tree.specs.declared.NetState.{out-NetState};
 
 use crate::ask::task_at;
 use crate::coming::add_items;
@@ -218,7 +217,6 @@ pub fn add(
 ) -> Result<(), StepFault>
     requires task { t < length net.now.tasks }
     requires boxed { IsBoxedNet state.old }
-    requires task_in { t < length (out-NetState state.old).items.items }
     requires room { length at.now < most_numbers }
     requires some { 1 ≤ n }
     requires before { AreBefore at.now n (row_of state.old t) }

@@ -5,11 +5,13 @@ ghost use Rattle.yw_mark.specs.Taking.{taken_places};
 ghost use Rattle.yw_spec.specs.Net.{before};
 ghost use Rattle.yw_state.specs.Identity.{child};
 ghost use Rattle.yw_task.specs.Items.{AreBefore, GetsItems, IsReady, LosesTokens, PutsItem, row_of};
+ghost use Rattle.yw_task.specs.Room.{GetsListAndItems};
 ghost use Rattle.yw_tree.specs.Boxed.{IsBoxedNet};
 ghost use Rattle.yw_tree.specs.Shows.{IsLast};
 ghost use Rattle.yw_tree.specs.declared.NetState.{out-NetState};
 ghost use Rattle.yw_tree.specs.declared.Node.{out-Node};
 
+use crate::room::make_room;
 use std::alloc::{AllocError, Global};
 use yw_base::{Ident, Row};
 use yw_mark::{Taken, take};
@@ -64,9 +66,8 @@ fn ready_item(
     Ok(node)
 }
 
-/// Items of a task come to the net at `at`, ready, numbered from `first` on, each given a row. An `Err` says that no memory was left, and then
-/// the net isn't used again.
-pub fn add_items(
+/// Items of a task that has a list come to the net at `at`, ready, numbered from `first` on, each given a row.
+fn put_items(
     alloc: Global,
     state: &mut NetState,
     at: &Ident,
@@ -90,4 +91,26 @@ pub fn add_items(
         number += 1;
     }
     Ok(())
+}
+
+/// Items of a task come to the net at `at`, ready, numbered from `first` on, each given a row, in a list that comes first where the net has
+/// none for the task. An `Err` says that no memory was left, and then the net isn't used again.
+pub fn add_items(
+    alloc: Global,
+    state: &mut NetState,
+    at: &Ident,
+    t: usize,
+    first: u64,
+    rows: Vec<Row>,
+    due: Checks,
+) -> Result<(), AllocError>
+    requires boxed { IsBoxedNet state.old }
+    requires room { length at.now < most_numbers }
+    requires some { 1 ≤ first }
+    requires numbers { first + length rows.items ≤ number_end }
+    requires before { AreBefore at.now first (row_of state.old t) }
+    ensures { OnOk result (GetsListAndItems at.now t due first rows.items state.old state.new) }
+{
+    make_room(alloc, state, t)?;
+    put_items(alloc, state, at, t, first, rows, due)
 }

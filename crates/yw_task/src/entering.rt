@@ -7,7 +7,6 @@ ghost use Rattle.yw_task.specs.Asked.{is_active};
 ghost use Rattle.yw_task.specs.Completes.{AnswersFirst};
 ghost use Rattle.yw_task.specs.Enters.{Chooses, EnterBreaks, Enters, OnRefusal, by_choice, is_choice};
 ghost use Rattle.yw_tree.specs.Boxed.{IsBoxedNet};
-ghost use Rattle.yw_tree.specs.declared.NetState.{out-NetState};
 ghost use Rattle.yw_within.specs.Within.{most_tasks};
 
 use crate::ask::{ask_enter, task_at};
@@ -90,7 +89,6 @@ pub fn enter(
     requires few { length net.now.tasks ≤ most_tasks }
     requires upstream { IsUpstreamOf net.now up.now }
     requires boxed { IsBoxedNet state.old }
-    requires task_in { t < length (out-NetState state.old).items.items }
     requires room { length at.now < most_numbers }
     requires some { 1 ≤ first }
     ensures ok { IfOk result (Enters net.now state.old at.now t taken first due state.new) }

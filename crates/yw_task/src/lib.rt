@@ -14,6 +14,7 @@ mod giving;
 mod item;
 mod made;
 mod region;
+mod room;
 mod tokens;
 mod waits;
 

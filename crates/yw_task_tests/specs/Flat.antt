@@ -8,7 +8,7 @@ use Rattle.yw_spec.specs.declared.spec.Net.{Net}
 use Rattle.yw_state.specs.Identity.{Ident, is_child}
 use Rattle.yw_state.specs.Map.{lexical}
 use Rattle.yw_tree.specs.Boxed.{IsBoxedNet}
-use Rattle.yw_tree.specs.declared.NetState.{NetState, out-NetState}
+use Rattle.yw_tree.specs.declared.NetState.{NetState}
 use Rattle.yw_tree.specs.declared.Node.{Node, out-Node}
 
 -- an item of task t, with neither a net nor a run
@@ -32,9 +32,8 @@ are_flat t (v ∷ vs) = list_all (is_flat_item t) v.items && ascends v.items && 
 abbrev pub is_before : Ident → ℕ → Node → Bool
 is_before i n x = is_child (out-Node x).id i && list_all (λ k. nat_lt k n) (out-Node x).id
 
--- The net has the task, the boxes have a list for it and are in form, and an item's identity has room.
+-- The net has the task, the boxes are in form, and an item's identity has room.
 pub record MayChange (net : Net) (state : NetState) (i : Ident) (t : ℕ) : Type 0 where
   pub task : t < length net.tasks
   pub boxed : IsBoxedNet state
-  pub task_in : t < length (out-NetState state).items.items
   pub room : length i < most_numbers

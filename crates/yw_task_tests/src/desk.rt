@@ -86,13 +86,14 @@ fn first_marks(alloc: Global, net: &Net) -> Option<Marks> {
     Some(marks)
 }
 
-/// The top net of the specification that a document says, as its case begins with these values.
+/// The top net of the specification that a document says, as its case begins with these values, but without a list of items: such a list comes
+/// with the first item of its task.
 pub fn desk_of(alloc: Global, text: &str, vals: &[Give]) -> Option<Desk> {
     let spec = spec_of(alloc, text)?;
     let net = top_of(&spec)?;
     let marks = first_marks(alloc, net)?;
     let row = row_of(alloc, vals)?;
-    let state = NetState::empty(alloc, 0, spec.top, marks, row, net.tasks.len()).ok()?;
+    let state = NetState::empty(alloc, 0, spec.top, marks, row, 0).ok()?;
     let at = Ident::of_number(alloc, 1).ok()?;
     Some(Desk {
         spec,

@@ -1,7 +1,7 @@
-use Rattle.std.proofs.Common.{None, Some, ap, subst, sym, ◌∙◌, ◌≡◌}
+use Rattle.std.proofs.Common.{None, Some, ap, sym, ◌∙◌, ◌≡◌}
 use Rattle.std.specs.Option.{option_copied_mut}
 use Rattle.yw_nest.proofs.Results.{if_ok}
-use Rattle.yw_state.proofs.Tests.{nowhere, some_same}
+use Rattle.yw_state.proofs.Tests.{nowhere}
 use Rattle.yw_steps.proofs.AddLaw.{adds, allowed, breaks}
 use Rattle.yw_steps.proofs.Results.{first_so, ok_unbroken, refused_so}
 use Rattle.yw_steps.proofs.adding.add.Goals as goal
@@ -10,7 +10,6 @@ use Rattle.yw_task.specs.Adds.{AddBreaks as NetAddBreaks, Adds as NetAdds}
 use Rattle.yw_tree.proofs.NetAt.{net_here}
 use Rattle.yw_tree.proofs.NetBack.{net_back}
 use Rattle.yw_tree.proofs.Parents.{identity_long}
-use Rattle.yw_tree.specs.Coming.{HasTask}
 use Rattle.yw_tree.specs.Places.{net_at, placed_net}
 
 pub unreachable-requires : goal.unreachable-requires
@@ -22,12 +21,6 @@ add-requires-clause-boxed c =
     let i = c.args.at.now in
     let found : net_at f i ≡ Some c.in-Some.state.now = sym (rw c.in-Some.is at c.net_mut.ensures.value) in
     (net_here f i c.in-Some.state.now c.requires.boxed (identity_long i c.net_mut.ensures.identity) found).boxed
-
-pub add-requires-clause-task_in : goal.add-requires-clause-task_in
-add-requires-clause-task_in c =
-    let m = c.requires.may in
-    let found : net_at c.args.forest.now c.args.at.now ≡ Some c.in-Some.state.now = sym (rw c.in-Some.is at c.net_mut.ensures.value) in
-    subst (HasTask c.args.t) (some_same m.state c.in-Some.state.now (sym m.found ∙ found)) m.list
 
 pub add-requires-clause-before : goal.add-requires-clause-before
 add-requires-clause-before c = c.requires.before c.in-Some.state.now (sym (rw c.in-Some.is at c.net_mut.ensures.value))

@@ -8,7 +8,7 @@ use Rattle.yw_task.proofs.EnterTable.{answers_as, is_fault}
 use Rattle.yw_task.proofs.adding.add.Goals as goal
 use Rattle.yw_task.specs.Adds.{AddBreaks, room_rule, value_fault}
 use Rattle.yw_task.specs.Completes.{AnswersFirst, or_else}
-use Rattle.yw_task.specs.Items.{GetsItems}
+use Rattle.yw_task.specs.Room.{GetsListAndItems}
 use Rattle.yw_tree.specs.declared.NetState.{out-NetState}
 
 pub returns-in-Some-clause-breaks : goal.returns-in-Some-clause-breaks
@@ -40,7 +40,7 @@ returns-clause-ok c =
     let s = c.args.state.now in
     adds c.args.net.now s c.add_items.new.state c.args.at.now c.args.t c.task_at-task.result.now c.task_at-task.ensures c.args.value c.args.n c.args.due c.in_ok-given.given
     c.requires.boxed c.in_ok-given.ensures.gives
-    (subst (λ (rows : List Row). GetsItems c.args.at.now c.args.t c.args.due c.args.n rows s c.add_items.new.state) c.in_ok-alone.ensures c.in_ok-add_items.ensures)
+    (subst (λ (rows : List Row). GetsListAndItems c.args.at.now c.args.t c.args.due c.args.n rows s c.add_items.new.state) c.in_ok-alone.ensures c.in_ok-add_items.ensures)
 
 pub returns-clause-breaks : goal.returns-clause-breaks
 returns-clause-breaks c =

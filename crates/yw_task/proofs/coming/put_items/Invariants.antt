@@ -1,6 +1,6 @@
 use Rattle.std.proofs.Common.{length, ◌++◌, ◌+◌, ◌≡◌}
 use Rattle.std.specs.Vec.Iter.{into_iter_items, into_iter_len}
-use Rattle.yw_task.proofs.coming.add_items.Given as goal
+use Rattle.yw_task.proofs.coming.put_items.Given as goal
 use Rattle.yw_task.specs.Items.{AreBefore, GetsItems, row_of}
 use Rattle.yw_tree.specs.Boxed.{IsBoxedNet}
 use Rattle.yw_tree.specs.declared.NetState.{out-NetState}
