@@ -37,6 +37,26 @@ fn first_broken(
     completion_fault(alloc, net, task, &outer.vals, &so_far, item, who, out)
 }
 
+/// The first rule that the completion of an item breaks, of those that are looked at here: `Stage` where it isn't executing, `NotYours` where
+/// another person started it, `Busy` where an exlet is at work on it, and `Mapping` where an assignment would be undefined over what the
+/// task's items make together and the net's values, at the variable of the first such one; `None` where it breaks none. The item stands in
+/// this net, and has made these values, one for each of the task's `outs` and of its sort. An `Err` says that no memory was left. That persons
+/// complete items is the paper's.
+pub fn ask_complete(
+    alloc: Global,
+    forest: &Forest,
+    net: &Net,
+    j: &Ident,
+    who: &Name,
+    out: &Row,
+) -> Result<Option<Refusal>, AllocError>
+    requires boxed { IsForest forest.now }
+    requires may { IsItemIn forest.now net.now j.now }
+    ensures { IfOk result (CompleteBreaks forest.now net.now j.now who.now out.now) }
+{
+    first_broken(alloc, forest, net, j, who, out)
+}
+
 /// The item at an identity is completed, and has made these values. If `due` says so, the check after it is due.
 fn finish_at(forest: &mut Forest, j: &Ident, out: Row, due: Checks)
     requires boxed { IsForest forest.old }

@@ -13,7 +13,7 @@ mod starting;
 mod together;
 
 pub use adding::add;
-pub use completing::complete;
+pub use completing::{ask_complete, complete};
 pub use entering::enter;
 pub use exiting::exit;
 pub use starting::start;
