@@ -10,7 +10,7 @@ use Rattle.yw_base.specs.declared.gate.Gate.TheVariants.{And, Or, Xor}
 use Rattle.yw_enabled.proofs.LeaveLaw.{among_after}
 use Rattle.yw_enabled.proofs.MadeCount.{not_zero}
 use Rattle.yw_enabled.specs.Entered.{EntersFrom}
-use Rattle.yw_enabled.specs.Steps.{EnterComes, ExitComes}
+use Rattle.yw_enabled.specs.Steps.{EnterComes, ExitComes, MayCome}
 use Rattle.yw_mark.specs.Taking.{taken_places}
 use Rattle.yw_mark.specs.declared.join.Taken.{Taken}
 use Rattle.yw_spec.specs.declared.spec.Place.{Place}
@@ -49,9 +49,10 @@ taken_pass s i before Or p all cs j =
     ap (list_all p) (same_numbers cs (filter (marked s i) before) (and_parts (pointwise nat_eq cs (filter (marked s i) before)) (nat_lt 0 (length cs)) j).0) ∙ all_filtered (marked s i) p before all
 
 module _ (s : State) (holds : HoldsWithin s) (i : Ident) (t : ℕ) (x : TaskAt) (is : task_numbered s i t ≡ Some x) where
-  pub enter_comes : (taken : Taken) → is_manual s x ≡ false → EntersFrom s i x (taken_places x.within.part.tokens x.task.before taken) → EnterComes s (case_number i) i t taken
+  -- whoever enters it
+  pub enter_may : (taken : Taken) → EntersFrom s i x (taken_places x.within.part.tokens x.task.before taken) → MayCome s i x taken
   unfolding allows
-  enter_comes taken kind h =
+  enter_may taken h =
       let of = numbered_of s i t x is in
       let w = net_within s holds i x.within of.stands in
       let named = task_found s holds i x of in
@@ -76,14 +77,24 @@ module _ (s : State) (holds : HoldsWithin s) (i : Ident) (t : ℕ) (x : TaskAt) 
       ) in
       let count : length (entry_rows x.task x.within.part.vals) ≡ length r.0 = ap (λ o. length (unwrap_or o [])) r.1 in
       record {
-        of_task = x;
-        numbered = is;
         places = put.0;
         takes = put.1;
+        allowed = subst (λ k. Allowed s (events.Enter i x.task.name put.0 s.next k) nothing) (sym count) allowed;
+      }
+
+  pub enter_comes : (taken : Taken) → is_manual s x ≡ false → EntersFrom s i x (taken_places x.within.part.tokens x.task.before taken) → EnterComes s (case_number i) i t taken
+  enter_comes taken kind h =
+      let may = enter_may taken h in
+      let named = task_found s holds i x (numbered_of s i t x is) in
+      record {
+        of_task = x;
+        numbered = is;
+        places = may.places;
+        takes = may.takes;
         comes = record {
           here = refl;
           automatic = ap (λ o. is_some_and o (λ (y : TaskAt). not (is_manual s y))) named ∙ ap not kind;
-          allowed = subst (λ k. Allowed s (events.Enter i x.task.name put.0 s.next k) nothing) (sym count) allowed;
+          allowed = may.allowed;
         };
       }
 

@@ -3,14 +3,22 @@ use Rattle.std.specs.Prelude.{◌≡◌, ℕ, List, Some, length}
 use Rattle.yw_mark.specs.Taking.{taken_places}
 use Rattle.yw_mark.specs.declared.join.Taken.{Taken}
 use Rattle.yw_spec.specs.declared.spec.Place.{Place}
-use Rattle.yw_state.specs.Allowed.{exit_values, place_numbers}
+use Rattle.yw_state.specs.Allowed.{Allowed, exit_values, place_numbers}
 use Rattle.yw_state.specs.Automatic.{Comes}
 use Rattle.yw_state.specs.Identity.{Ident}
 use Rattle.yw_state.specs.Passing.{split_places}
 use Rattle.yw_state.specs.State.{State, TaskAt}
+use Rattle.yw_state.specs.Texts.{nothing}
 use Rattle.yw_state.specs.declared.event.Event.TheVariants as events
 use Rattle.yw_still.specs.Still.{task_numbered}
 use Rattle.yw_task.specs.Giving.{entry_rows}
+
+-- The task may be entered in the net at i: from the places of this choice, with an item for each row that the entry makes, numbered from the
+-- counter on.
+pub record MayCome (s : State) (i : Ident) (x : TaskAt) (taken : Taken) : Type 0 where
+  pub places : List Place
+  pub takes : place_numbers x.within.net places ≡ Some (taken_places x.within.part.tokens x.task.before taken)
+  pub allowed : Allowed s (events.Enter i x.task.name places s.next (length (entry_rows x.task x.within.part.vals))) nothing
 
 -- The task with this number in the net at i is entered of itself in case n: from the places of this choice, with an item for each row that the
 -- entry makes, numbered from the counter on.

@@ -5,7 +5,7 @@ use Rattle.std.proofs.lemmas.Option.{slice_get_within}
 use Rattle.std.specs.Prelude.{nat_le, not, option_map, slice_get, unwrap_or, ◌&&◌}
 use Rattle.yw_base.specs.Identity.{number_end}
 use Rattle.yw_base.specs.declared.value.Value.{Value}
-use Rattle.yw_enabled.proofs.Coming.{enter_comes}
+use Rattle.yw_enabled.proofs.Coming.{enter_may}
 use Rattle.yw_enabled.proofs.FreeItems.{task_is}
 use Rattle.yw_enabled.specs.Entered.{EntersFirst, EntersFrom}
 use Rattle.yw_enabled.specs.Free.{MayDraw}
@@ -18,14 +18,17 @@ use Rattle.yw_spec.specs.declared.spec.Place.{Place}
 use Rattle.yw_spec.specs.declared.task.Many.{Many}
 use Rattle.yw_spec.specs.declared.task.Task.{Task}
 use Rattle.yw_state.proofs.Tests.{map_some, never, some_same, then_some, there_and}
-use Rattle.yw_state.specs.Automatic.{Comes}
+use Rattle.yw_plain.specs.Plain.{is_plain_event}
+use Rattle.yw_state.specs.Allowed.{Allowed}
+use Rattle.yw_state.specs.Automatic.{case_of, is_automatic}
 use Rattle.yw_state.specs.Identity.{Ident, case_number}
 use Rattle.yw_state.specs.Joins.{has_tokens}
 use Rattle.yw_state.specs.Judged.{is_manual}
 use Rattle.yw_state.specs.Nets.{is_atomic}
 use Rattle.yw_state.specs.Options.{all_of, is_some_and}
 use Rattle.yw_state.specs.Passing.{elements_for, entry_values, given_values, within_bounds}
-use Rattle.yw_state.specs.State.{State, TaskAt}
+use Rattle.yw_state.specs.State.{State, TaskAt, task_at}
+use Rattle.yw_state.specs.Texts.{nothing}
 use Rattle.yw_state.specs.Values.{Row}
 use Rattle.yw_state.specs.Words.{active, clear}
 use Rattle.yw_state.specs.declared.event.Event.{Event}
@@ -37,9 +40,9 @@ use Rattle.yw_tree.specs.declared.Forest.{Forest}
 use Rattle.yw_tree.specs.declared.NetState.{NetState, out-NetState}
 use Rattle.yw_walk.proofs.Leaving.{task_there}
 use Rattle.yw_walk.proofs.Numbered.{are_numbered}
-use Rattle.yw_walk.specs.Finds.{ComesPlainly, FindsEntered, IsEntry}
+use Rattle.yw_walk.specs.Finds.{ComesPlainly, EntersAs, FindsEntered, IsEntry}
 use Rattle.yw_walk.specs.Places.{places_numbered}
-use Rattle.yw_within.proofs.Finding.{element_at}
+use Rattle.yw_within.proofs.Finding.{element_at, numbered_of, task_found}
 use Rattle.yw_within.specs.Within.{HoldsWithin}
 
 -- ---- how many items
@@ -93,63 +96,63 @@ counts_rows s i x count may counts =
 
 -- ---- the entry
 
-abbrev enter_as : Ident → ℕ → ℕ → Taken → TaskAt → Event
-enter_as i next count taken x =
-    events.Enter i x.task.name (places_numbered x.within.net (taken_places x.within.part.tokens x.task.before taken)) next count
-
--- of the task that is the same, and from places that are those with the numbers
-moved : (s : State) (i : Ident) (taken : Taken) (z w : TaskAt) (ps : List Place) → z ≡ w
-    → places_numbered z.within.net (taken_places z.within.part.tokens z.task.before taken) ≡ ps
-    → Comes s (case_number i) (events.Enter i z.task.name ps s.next (length (entry_rows z.task z.within.part.vals)))
-    → Comes s (case_number i) (enter_as i s.next (length (entry_rows w.task w.within.part.vals)) taken w)
-moved s i taken z w ps same named comes =
-    subst (λ (v : TaskAt). Comes s (case_number i) (enter_as i s.next (length (entry_rows v.task v.within.part.vals)) taken v)) same
-    (subst (λ qs. Comes s (case_number i) (events.Enter i z.task.name qs s.next (length (entry_rows z.task z.within.part.vals))))
-    (sym named) comes)
-
 module _ (net : Net) (state : NetState) (i : Ident) (next : ℕ) where
   pub is_entry : (t : ℕ) (task : Task) (taken : Taken) (count : ℕ) → slice_get net.tasks t ≡ Some task
       → ((rows : List Row) → entry_values task (out-NetState state).vals ≡ Some rows → within_bounds task.many (length rows) ≡ true
       → count ≡ length rows)
       → (names : ℕ → List ℕ) (f : Forest) (s : State) (x : TaskAt) → MayDraw names f s i net state next → HoldsWithin s
-      → task_numbered s i t ≡ Some x → is_manual s x ≡ false
-      → EntersFrom s i x (taken_places (out-NetState state).marks x.task.before taken)
-      → ComesPlainly s (case_number i)
+      → task_numbered s i t ≡ Some x → EntersFrom s i x (taken_places (out-NetState state).marks x.task.before taken)
+      → EntersAs s i x.task.name
       (events.Enter i task.name (places_numbered net (taken_places (out-NetState state).marks task.before taken)) next count)
-  is_entry t task taken count at counts names f s x draw holds is kind enters =
+  is_entry t task taken count at counts names f s x draw holds is enters =
       let y : TaskAt = record { number = t; task = task; within = net_with names net state } in
-      let its : x ≡ y = some_same x y (sym is ∙ task_there names f s i net state draw.free.stands t task at) in
+      let there : task_numbered s i t ≡ Some y = task_there names f s i net state draw.free.stands t task at in
+      let its : x ≡ y = some_same x y (sym is ∙ there) in
       let enters_y : EntersFrom s i y (taken_places (out-NetState state).marks task.before taken) = subst
       (λ (z : TaskAt). EntersFrom s i z (taken_places (out-NetState state).marks z.task.before taken)) its enters in
-      let r = enter_comes s holds i t y (task_there names f s i net state draw.free.stands t task at) taken
-      (ap (is_manual s) (sym its) ∙ kind) enters_y in
-      let same : r.of_task ≡ y = some_same r.of_task y (sym r.numbered ∙ task_there names f s i net state draw.free.stands t task at) in
-      let named = are_numbered r.of_task.within.net r.places
-      (taken_places r.of_task.within.part.tokens r.of_task.task.before taken) r.takes in
-      let comes : Comes s (case_number i) (enter_as i s.next (length (entry_rows task (out-NetState state).vals)) taken y) =
-      moved s i taken r.of_task y r.places same named r.comes in
+      let may = enter_may s holds i t y there taken enters_y in
+      let cs : List ℕ = taken_places (out-NetState state).marks task.before taken in
+      let named : places_numbered net cs ≡ may.places = are_numbered net may.places cs may.takes in
+      let long : length (entry_rows task (out-NetState state).vals) ≡ count = counts_rows s i y count enters_y.may counts in
+      let event : events.Enter i task.name may.places s.next (length (entry_rows task (out-NetState state).vals))
+          ≡ events.Enter i task.name (places_numbered net cs) next count =
+      λ k. events.Enter i task.name (sym named k) (draw.next k) (long k) in
       record {
-        comes = subst (λ k. Comes s (case_number i) (enter_as i next k taken y)) (counts_rows s i y count enters_y.may counts)
-            (subst (λ n. Comes s (case_number i)
-            (enter_as i n (length (entry_rows task (out-NetState state).vals)) taken y)) draw.next comes);
-        plain = λ no. refl;
+        places = places_numbered net cs;
+        count = count;
+        is = λ k. events.Enter i (ap (λ (z : TaskAt). z.task.name) (sym its) k) (places_numbered net cs) (sym draw.next k) count;
+        allowed = subst (λ e. Allowed s e nothing) event may.allowed;
       }
 
-  -- and so by each that has these fields
+  -- and so does each that has these fields
   pub made_entry : (t : ℕ) (task : Task) (taken : Taken) (count : ℕ) → slice_get net.tasks t ≡ Some task
       → (j name : List ℕ) (numbers : List ℕ) (places : List Place) → j ≡ i → name ≡ task.name
       → numbers ≡ taken_places (out-NetState state).marks task.before taken → places ≡ places_numbered net numbers
       → ((rows : List Row) → entry_values task (out-NetState state).vals ≡ Some rows → within_bounds task.many (length rows) ≡ true
       → count ≡ length rows)
       → (names : ℕ → List ℕ) (f : Forest) (s : State) (x : TaskAt) → MayDraw names f s i net state next → HoldsWithin s
-      → task_numbered s i t ≡ Some x → is_manual s x ≡ false
-      → EntersFrom s i x (taken_places (out-NetState state).marks x.task.before taken)
-      → ComesPlainly s (case_number i) (events.Enter j name places next count)
+      → task_numbered s i t ≡ Some x → EntersFrom s i x (taken_places (out-NetState state).marks x.task.before taken)
+      → EntersAs s i x.task.name (events.Enter j name places next count)
   made_entry t task taken count at j name numbers places its_net its_name its_numbers its_places counts =
-      λ names f s x draw holds is kind enters.
+      λ names f s x draw holds is enters.
       let whole = its_places ∙ ap (places_numbered net) its_numbers in
-      subst (ComesPlainly s (case_number i)) (λ k. events.Enter (sym its_net k) (sym its_name k) (sym whole k) next count)
-      (is_entry t task taken count at counts names f s x draw holds is kind enters)
+      subst (EntersAs s i x.task.name) (λ k. events.Enter (sym its_net k) (sym its_name k) (sym whole k) next count)
+      (is_entry t task taken count at counts names f s x draw holds is enters)
+
+-- where no person enters the task, the event comes of itself
+comes_plainly : (s : State) → HoldsWithin s → (i : Ident) (t : ℕ) (x : TaskAt) → task_numbered s i t ≡ Some x → is_manual s x ≡ false
+    → (e : Event) → EntersAs s i x.task.name e → ComesPlainly s (case_number i) e
+comes_plainly s holds i t x is kind e enters =
+    let named : task_at s i x.task.name ≡ Some x = task_found s holds i x (numbered_of s i t x is) in
+    let by_itself = ap (λ o. is_some_and o (λ (y : TaskAt). not (is_manual s y))) named ∙ ap not kind in
+    record {
+      comes = record {
+        here = ap case_of enters.is;
+        automatic = ap (is_automatic s) enters.is ∙ by_itself;
+        allowed = enters.allowed;
+      };
+      plain = λ no. ap is_plain_event enters.is;
+    }
 
 pub finds_entered : (h : NetHere) (i : Ident) (next t : ℕ) (taken : Taken) (e : Event)
     → EntersFirst h.net.now h.state.now next (Some (t, taken)) → IsEntry h i next t taken e → FindsEntered h i next (Some e)
@@ -157,7 +160,8 @@ finds_entered h i next t taken e first entry = λ names f s draw holds manual.
     let (task, at) = element_at h.net.now.tasks t first.below in
     let x : TaskAt = record { number = t; task = task; within = net_with names h.net.now h.state.now } in
     let is = task_there names f s i h.net.now h.state.now draw.free.stands t task at in
-    entry names f s x draw holds is (manual x ∙ first.comes.kind task at) (first.comes.enters names f s i x draw is)
+    comes_plainly s holds i t x is (manual x ∙ first.comes.kind task at) e
+    (entry names f s x draw holds is (first.comes.enters names f s i x draw is))
 
 pub finds_none_entered : (h : NetHere) (i : Ident) (next : ℕ) → EntersFirst h.net.now h.state.now next None → FindsEntered h i next None
 finds_none_entered h i next none = λ names f s draw holds manual k x is may.

@@ -15,6 +15,10 @@ use Rattle.yw_state.specs.Automatic.{Comes, IsQuiet}
 use Rattle.yw_state.specs.Identity.{Ident, case_number}
 use Rattle.yw_state.specs.Joins.{Waits, at_output}
 use Rattle.yw_state.specs.Judged.{is_manual}
+use Rattle.yw_state.specs.Texts.{nothing}
+use Rattle.yw_state.specs.Allowed.{Allowed}
+use Rattle.yw_state.specs.declared.event.Event.TheVariants as events
+use Rattle.yw_spec.specs.declared.spec.Place.{Place}
 use Rattle.yw_state.specs.Nets.{is_atomic}
 use Rattle.yw_state.specs.State.{State, TaskAt}
 use Rattle.yw_state.specs.declared.event.Event.{Event}
@@ -54,13 +58,20 @@ IsExit h i t e =
     (names : ℕ → List ℕ) (f : Forest) (s : State) (x : TaskAt) → StandsFree names f s i h.net.now h.state.now → HoldsWithin s
     → task_numbered s i t ≡ Some x → is_leaving s i x ≡ true → ComesPlainly s (case_number i) e
 
--- where the number is drawn next too, and the task may be entered by this choice of its join and by no person, it is entered by this event
+-- The event enters the task of this name in the net at i, whoever does it: from some places, with so many items, numbered from the counter on.
+-- It is allowed.
+pub record EntersAs (s : State) (i : Ident) (name : List ℕ) (e : Event) : Type 0 where
+  pub places : List Place
+  pub count : ℕ
+  pub is : e ≡ events.Enter i name places s.next count
+  pub allowed : Allowed s e nothing
+
+-- where the number is drawn next too, and the task may be entered by this choice of its join, this event enters it
 abbrev pub IsEntry : NetHere → Ident → ℕ → ℕ → Taken → Event → Type 0
 IsEntry h i next t taken e =
     (names : ℕ → List ℕ) (f : Forest) (s : State) (x : TaskAt) → MayDraw names f s i h.net.now h.state.now next → HoldsWithin s
-    → task_numbered s i t ≡ Some x → is_manual s x ≡ false
-    → EntersFrom s i x (taken_places (out-NetState h.state.now).marks x.task.before taken)
-    → ComesPlainly s (case_number i) e
+    → task_numbered s i t ≡ Some x → EntersFrom s i x (taken_places (out-NetState h.state.now).marks x.task.before taken)
+    → EntersAs s i x.task.name e
 
 -- wherever the net stands free, a task is left by this event, or none may be
 abbrev pub FindsLeft : NetHere → Ident → Option Event → Type 0

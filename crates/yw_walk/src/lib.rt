@@ -10,3 +10,4 @@ mod places;
 mod tasks;
 
 pub use next::{is_quiet, next_event};
+pub use tasks::entry_of;

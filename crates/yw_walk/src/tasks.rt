@@ -54,8 +54,9 @@ fn entry_count(task: &Task, vals: &Row) -> u32
     }
 }
 
-/// The entry of a task of the net at an identity, by a choice of its join: its items are numbered from `next` on.
-fn entry_of(
+/// The event that enters a task of the net at an identity, by a choice of its join: its items are numbered from `next` on. An `Err` says that
+/// no memory was left. That an event names the places from which its join takes is our own.
+pub fn entry_of(
     alloc: Global,
     here: &NetHere<'_>,
     at: &Ident,
