@@ -5,7 +5,8 @@ use Rattle.std.specs.Prelude.{Bool, List, MatchOption, None, Option, Some, [], f
 use Rattle.yw_base.specs.Identity.{number_end}
 use Rattle.yw_base.specs.declared.value.Value.{Value}
 use Rattle.yw_cases.proofs.Allows.{only_clear}
-use Rattle.yw_cases.proofs.TaskHere.{its, named, numbered}
+use Rattle.yw_accepted.proofs.Loaded.{accepted_are_within}
+use Rattle.yw_cases.proofs.TaskHere.{its, named, named_so, numbered}
 use Rattle.yw_cases.proofs.Taking.{joined, taken_by}
 use Rattle.yw_cases.proofs.Trying.{fails, next_is, words_of}
 use Rattle.yw_cases.specs.Entering.{IsEntry, candidate, counts, stands_for}
@@ -34,12 +35,16 @@ use Rattle.yw_state.specs.State.{State, TaskAt, task_at}
 use Rattle.yw_state.specs.Texts.{Said, nothing}
 use Rattle.yw_state.specs.Values.{Row}
 use Rattle.yw_state.specs.Words.{active, clear}
+use Rattle.yw_state.specs.declared.event.Event.{Event}
 use Rattle.yw_state.specs.declared.event.Event.TheVariants as events
 use Rattle.yw_still.proofs.Joining.{joins_tokens}
 use Rattle.yw_still.specs.Still.{can_be_entered, may_be_made}
 use Rattle.yw_task.proofs.EnterAsk.{has_marks}
 use Rattle.yw_task.specs.Enters.{is_choice}
 use Rattle.yw_tree.specs.declared.NetState.{out-NetState}
+use Rattle.yw_walk.specs.Finds as walks
+use Rattle.yw_walk.specs.Finds.{EntersAs}
+use Rattle.yw_within.proofs.Finding.{well_holds_within}
 
 -- ---- as the definitions have it
 
@@ -103,7 +108,7 @@ module _ (old : Standing) (may : MayStand old) (i : Ident) (name : List ℕ) (pl
     abbrev vals : Row
     vals = (out-NetState w.state.now).vals
 
-    draw_there : MayDraw (names_of old.known) old.forest s i w.net.now w.state.now old.next
+    pub draw_there : MayDraw (names_of old.known) old.forest s i w.net.now w.state.now old.next
     draw_there =
         record {
           free = record { stands = here.stands; numbers = may.held.well.numbers; free = (words_of old may).clear i };
@@ -219,3 +224,17 @@ module _ (old : Standing) (may : MayStand old) (i : Ident) (name : List ℕ) (pl
             λ y is_y. subst (NoWait s i) (some_same x y (sym (named old i w here name t number task of_net) ∙ is_y)) from.no_wait,
           );
         }
+
+-- ---- the event by which it may be entered
+
+module _ (old : Standing) (may : MayStand old) (i : Ident) (name : List ℕ) (w : NetHere) (here : IsNetHere old.known old.forest (state_of old) i w) (t : ℕ)
+    (number : task_number w.net.now name ≡ Some t) (task : Task) (of_net : slice_get w.net.now.tasks t ≡ Some task) where
+  pub entered_as : (taken : Taken) → MayEnter w.net.now w.state.now t old.next taken → (e : Event) → walks.IsEntry w i old.next t taken e
+      → EntersAs (state_of old) i name e
+  entered_as taken enters e entry =
+      let draw = draw_there old may i name [] 0 0 w here t number task of_net in
+      let is = numbered old i w here name t number task of_net in
+      subst (λ (n : List ℕ). EntersAs (state_of old) i n e) (named_so w.net.now t task name of_net number)
+      (entry (names_of old.known) old.forest (state_of old) (its old i w here name t number task of_net) draw
+      (well_holds_within reader (state_of old) accepted_are_within may.held.well) is
+      (enters (names_of old.known) old.forest (state_of old) i (its old i w here name t number task of_net) draw is))

@@ -3,11 +3,14 @@ use Rattle.std.specs.Prelude.{Bool, List, Some, false, true, ℕ, ◌≡◌}
 use Rattle.yw_cases.specs.State.{state_of}
 use Rattle.yw_cases.specs.declared.standing.Standing.{Standing}
 use Rattle.yw_model.specs.Texts.{reader}
+use Rattle.yw_spec.specs.declared.spec.Place.{Place}
 use Rattle.yw_state.specs.Broken.{Breaks}
 use Rattle.yw_state.specs.Events.{Leads}
+use Rattle.yw_state.specs.Identity.{Ident}
 use Rattle.yw_state.specs.State.{State}
 use Rattle.yw_state.specs.declared.command.Command.TheVariants as commands
 use Rattle.yw_state.specs.declared.event.Event.{Event}
+use Rattle.yw_state.specs.declared.event.Event.TheVariants as events
 use Rattle.yw_state.specs.declared.rule.Refusal.{Refusal}
 use Rattle.yw_tree.specs.Forest.{IsForest}
 
@@ -19,6 +22,10 @@ LeadsNowhere old e = (t : State) → Leads reader (state_of old) e t → ⊥
 abbrev pub IsTried : Standing → Event → Bool → Standing → Type 0
 IsTried old e true new = Leads reader (state_of old) e (state_of new)
 IsTried old e false new = LeadsNowhere old e × (new ≡ old)
+
+-- no event enters the task of this name in the net at i
+abbrev pub IsEnteredNowhere : Standing → Ident → List ℕ → Type 0
+IsEnteredNowhere old i name = (places : List Place) (first count : ℕ) → LeadsNowhere old (events.Enter i name places first count)
 
 -- a load of this text breaks this rule first
 abbrev pub IsUnfit : Standing → List ℕ → Refusal → Type 0

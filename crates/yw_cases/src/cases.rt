@@ -1,8 +1,8 @@
 // All that is kept, so that an event leads from one state that is well to another.
-ghost use Rattle.std.specs.Prelude.{◌≡◌, IfOk, OnErr, true};
+ghost use Rattle.std.specs.Prelude.{◌≡◌, IfOk, MatchOption, OnErr, true};
 ghost use Rattle.yw_cases.specs.Ended.{ended_of};
 ghost use Rattle.yw_cases.specs.State.{MayStand, state_of};
-ghost use Rattle.yw_cases.specs.Tried.{IsTried, IsUnfit};
+ghost use Rattle.yw_cases.specs.Tried.{IsEnteredNowhere, IsTried, IsUnfit};
 ghost use Rattle.yw_library.specs.Accepts.{IfRefused};
 ghost use Rattle.yw_model.specs.Texts.{reader};
 ghost use Rattle.yw_plain.specs.Plain.{is_plain_event};
@@ -10,14 +10,16 @@ ghost use Rattle.yw_state.specs.Events.{Leads};
 ghost use Rattle.yw_state.specs.Map.{get};
 ghost use Rattle.yw_state.specs.State.{opening};
 ghost use Rattle.yw_state.specs.declared.event.Event.TheVariants as events;
+ghost use Rattle.yw_walk.specs.Finds.{EntersAs};
 
 use crate::EndedTable;
+use crate::entered::entry_event;
 use crate::event::try_event;
 use crate::library::load;
 use crate::standing::Standing;
 use std::alloc::{AllocError, Global};
 use std::marker::Model;
-use yw_base::Name;
+use yw_base::{Ident, Name};
 use yw_known::Known;
 use yw_library::LibraryFault;
 use yw_state::{Event, Way};
@@ -116,6 +118,15 @@ impl Cases {
                 Err(LibraryFault::Memory)
             }
         }
+    }
+
+    /// The event by which a task may be entered now, whoever does it, by its name in the net at an identity: it takes from the places of one choice
+    /// of the task's join, and its items are numbered from `next` on. `None` comes exactly where no event enters the task. An `Err` says that no
+    /// memory was left.
+    pub fn entry_event(&self, at: &Ident, name: &Name) -> Result<Option<Event>, AllocError>
+        ensures { IfOk result (λ found. MatchOption found (IsEnteredNowhere self.now at.now name.now) (EntersAs (state_of self.now) at.now name.now)) }
+    {
+        entry_event(self.alloc, &self.standing, at, name)
     }
 
     /// The state is well, it is that of what is known and of the forest, and it is plain. A law: nothing is done.

@@ -6,6 +6,7 @@ mod adding;
 mod cases;
 mod completing;
 mod ended;
+mod entered;
 mod entering;
 mod event;
 mod exiting;
