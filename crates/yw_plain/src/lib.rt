@@ -1,6 +1,8 @@
-//! States without rules, runs, suspensions and checks, as each is that is reached until rule trees and exlets are built. Each law is the contract
-//! of a function that does nothing: it holds of all states.
+//! States without rules, runs, suspensions and checks, as each is that is reached until rule trees and exlets are built, and states without
+//! worklets. Each law is the contract of a function that does nothing: it holds of all states.
 #![tactic(auto)]
+
+mod worklets;
 
 ghost use Rattle.std.specs.Prelude.{◌≡◌, true};
 ghost use Rattle.yw_plain.specs.Plain.{IsPlain, PlainWords, is_plain_event};
@@ -8,6 +10,8 @@ ghost use Rattle.yw_state.specs.Events.{after};
 ghost use Rattle.yw_state.specs.State.{State, opening};
 ghost use Rattle.yw_state.specs.Texts.{Said};
 ghost use Rattle.yw_state.specs.declared.event.Event.{Event};
+
+pub use worklets::{no_worklet_no_net, no_worklet_stays, opening_has_no_worklet};
 
 /// The state before anything was done is plain.
 pub fn opening_is_plain()
