@@ -1,2 +1,4 @@
-pub mod Standing
-pub mod Deciding
+pub mod Coming
+pub mod Fronts
+pub mod Commands
+pub mod Loads
