@@ -1,11 +1,14 @@
 -- Where a command breaks no rule, the event that is made of it is the one that it asks for, and leads on.
 use Rattle.std.proofs.Common.{◌≡◌, ◌∙◌, List, Option, Some, None, ap, refl, subst, sym, true, ℕ}
-use Rattle.std.specs.Prelude.{option_map}
+use Rattle.std.specs.Prelude.{option_and_then, option_map}
 use Rattle.yw_accepted.proofs.Loaded.{accepted_are_within}
 use Rattle.yw_asked.proofs.CasesAsked as cases
 use Rattle.yw_asked.proofs.ItemsAsked as items
+use Rattle.yw_asked.proofs.TasksAsked as tasks
 use Rattle.yw_asked.specs.Asked.{HasEvent}
-use Rattle.yw_breaks.specs.Events.{LaunchAsks}
+use Rattle.yw_base.specs.declared.value.Value.{Value}
+use Rattle.yw_breaks.specs.Events.{AddAsks, LaunchAsks}
+use Rattle.yw_breaks.specs.Finds.{BreaksNext}
 use Rattle.yw_built.specs.Built.{is_built}
 use Rattle.yw_cases.specs.State.{MayStand, state_of}
 use Rattle.yw_cases.specs.declared.standing.Standing.{Standing}
@@ -13,20 +16,21 @@ use Rattle.yw_engine.specs.Decides.{BreaksNow, LeadsOn}
 use Rattle.yw_library.specs.Holdings.{with_library}
 use Rattle.yw_model.specs.Texts.{reader}
 use Rattle.yw_spec.specs.declared.spec.Net.{Net}
-use Rattle.yw_state.proofs.Tests.{nowhere, some_same}
+use Rattle.yw_state.proofs.Tests.{map_some, nowhere, some_same}
 use Rattle.yw_state.specs.Allowed.{are_roles}
 use Rattle.yw_state.specs.Automatic.{case_of}
 use Rattle.yw_state.specs.Broken.{checks}
 use Rattle.yw_state.specs.Events.{Leads}
-use Rattle.yw_state.specs.Given.{launch_values}
+use Rattle.yw_state.specs.Given.{element_value, launch_values}
 use Rattle.yw_state.specs.Identity.{Ident, case_number}
 use Rattle.yw_state.specs.Legal.{IsAsked}
-use Rattle.yw_state.specs.State.{State, top_called}
+use Rattle.yw_state.specs.State.{State, TaskAt, task_at, top_called}
 use Rattle.yw_state.specs.declared.command.Command.{Command}
 use Rattle.yw_state.specs.declared.command.Command.TheVariants as commands
 use Rattle.yw_state.specs.declared.command.Given.{Given}
 use Rattle.yw_state.specs.declared.event.Event.{Event}
 use Rattle.yw_state.specs.declared.event.Event.TheVariants as events
+use Rattle.yw_state.specs.declared.rule.Refusal.{Refusal}
 use Rattle.yw_within.proofs.Finding.{well_holds_within}
 use Rattle.yw_within.specs.Within.{HoldsWithin}
 
@@ -43,79 +47,124 @@ as_asked h c e (d, t, asked, leads) only =
 holds_within : (h : Standing) → MayStand h → HoldsWithin (state_of h)
 holds_within h may = well_holds_within reader (state_of h) accepted_are_within may.held.well
 
--- ---- of a launch
+-- ---- events that are made of something
 
--- the event that is asked for is a launch under this number
-launch_is : (n : ℕ) (name : List ℕ) (gs : List Given) (o : Option Net) (e : Event) → Some e ≡ option_map (λ (net : Net). events.Launch n name (launch_values net.vars gs)) o
-    → (is_built e ≡ true) × (case_of e ≡ Some n)
-launch_is n name gs None e is = nowhere (sym is)
-launch_is n name gs (Some net) e is =
-    let same = some_same e (events.Launch n name (launch_values net.vars gs)) is in
-    (ap is_built same, ap case_of same)
+-- what is so of each of these is so of the one that is asked for
+of_kind : {A : Type 0} (g : A → Event) (m : Option ℕ) → ((x : A) → (is_built (g x) ≡ true) × (case_of (g x) ≡ m)) → (o : Option A) (e : Event) → Some e ≡ option_map g o
+    → (is_built e ≡ true) × (case_of e ≡ m)
+of_kind g m kind o e is =
+    let x = map_some g o e (sym is) in
+    (ap is_built (sym x.2) ∙ (kind x.0).0, ap case_of (sym x.2) ∙ (kind x.0).1)
+
+-- where there is nothing to make it of, none is asked for
+of_nothing : {A B : Type 0} (g : A → Event) (o : Option A) (e : Event) → o ≡ None → Some e ≡ option_map g o → B
+of_nothing g o e none is = nowhere (sym (ap (option_map g) none) ∙ sym is)
 
 next_is : (h : Standing) → (state_of h).next ≡ h.next
 unfolding with_library
 next_is h = refl
 
--- a launch that breaks no rule has a net
-no_launch : {A : Type 0} (n : ℕ) (name : List ℕ) (gs : List Given) (o : Option Net) (e : Event) → o ≡ None
-    → Some e ≡ option_map (λ (net : Net). events.Launch n name (launch_values net.vars gs)) o → A
-no_launch n name gs o e none is = nowhere (sym (ap (option_map (λ (net : Net). events.Launch n name (launch_values net.vars gs))) none) ∙ sym is)
+-- ---- a launch
 
--- what is found of it
-abbrev pub LaunchFound : Standing → List ℕ → List Given → Option Event → Type 0
-LaunchFound h name gs found = LaunchAsks h.known h.next name gs found
+module _ (h : Standing) (may : MayStand h) (name : List ℕ) (gs : List Given) where
+  abbrev LaunchFound : Option Event → Type 0
+  LaunchFound found = LaunchAsks h.known h.next name gs found
 
-module _ (h : Standing) (may : MayStand h) where
-  module _ (name : List ℕ) (gs : List Given) (unbroken : BreaksNow h (commands.Launch name gs) None) where
-    pub launch_there : (found : Option Event) → found ≡ None → LaunchFound h name gs found → ⊥
+  pub launch_breaks_now : (found : Option Refusal) → BreaksNext h.known h.next (commands.Launch name gs) found → BreaksNow h (commands.Launch name gs) found
+  launch_breaks_now found breaks = breaks h.forest (state_of h) may.held (next_is h)
+
+  module _ (found : Option Event) (asks : LaunchFound found) where
+    pub launch_there : BreaksNow h (commands.Launch name gs) None → found ≡ None → ⊥
     unfolding IsAsked
-    launch_there found none asks =
+    launch_there unbroken none =
         let (d, t, asked, leads) = cases.launch_has_event reader (state_of h) (holds_within h may) name gs unbroken in
-        no_launch (state_of h).next name gs (top_called (state_of h) name) d (subst (LaunchFound h name gs) none asks h.forest (state_of h) may.held) asked
+        of_nothing (λ (net : Net). events.Launch (state_of h).next name (launch_values net.vars gs)) (top_called (state_of h) name) d
+        (subst LaunchFound none asks h.forest (state_of h) may.held) asked
 
-    module _ (found : Option Event) (e : Event) (is : found ≡ Some e) (asks : LaunchFound h name gs found) where
+    module _ (e : Event) (is : found ≡ Some e) where
       launch_asked : IsAsked reader (state_of h) (commands.Launch name gs) e
-      launch_asked = subst (LaunchFound h name gs) is asks h.forest (state_of h) may.held (next_is h)
+      launch_asked = subst LaunchFound is asks h.forest (state_of h) may.held (next_is h)
 
-      pub launch_asks : Asks h (commands.Launch name gs) e
+      pub launch_asks : BreaksNow h (commands.Launch name gs) None → Asks h (commands.Launch name gs) e
       unfolding IsAsked
-      launch_asks =
+      launch_asks unbroken =
           as_asked h (commands.Launch name gs) e (cases.launch_has_event reader (state_of h) (holds_within h may) name gs unbroken)
           (λ d asked. some_same d e (asked ∙ sym launch_asked))
 
-      its_kind : (is_built e ≡ true) × (case_of e ≡ Some (state_of h).next)
+      launch_kind : (is_built e ≡ true) × (case_of e ≡ Some (state_of h).next)
       unfolding IsAsked
-      its_kind = launch_is (state_of h).next name gs (top_called (state_of h) name) e launch_asked
+      launch_kind =
+          of_kind (λ (net : Net). events.Launch (state_of h).next name (launch_values net.vars gs)) (Some (state_of h).next) (λ net. (refl, refl)) (top_called (state_of h) name) e
+          launch_asked
 
       pub launch_built : is_built e ≡ true
-      launch_built = its_kind.0
+      launch_built = launch_kind.0
 
       pub launch_case : case_of e ≡ Some h.next
-      launch_case = its_kind.1 ∙ ap (λ n. Some n) (next_is h)
+      launch_case = launch_kind.1 ∙ ap (λ n. Some n) (next_is h)
 
-  pub start_asks : (who : List ℕ) (j : Ident) → BreaksNow h (commands.Start who j) None → Asks h (commands.Start who j) (events.Start j who)
-  unfolding IsAsked
-  start_asks who j unbroken =
-      as_asked h (commands.Start who j) (events.Start j who) (items.start_has_event reader (state_of h) may.held.well who j unbroken) (λ d asked. asked)
+-- ---- an addition
+
+module _ (h : Standing) (may : MayStand h) (who : List ℕ) (i : Ident) (t : List ℕ) (value : Option Value) where
+  abbrev AddFound : Option Event → Type 0
+  AddFound found = AddAsks h.known h.forest h.next i t value found
+
+  module _ (found : Option Event) (asks : AddFound found) where
+    pub add_there : BreaksNow h (commands.Add who i t value) None → found ≡ None → ⊥
+    unfolding IsAsked
+    add_there unbroken none =
+        let (d, s, asked, leads) = tasks.add_has_event reader (state_of h) may.held.well (holds_within h may) who i t value unbroken in
+        of_nothing (λ (v : Value). events.Add i t v (state_of h).next) (option_and_then (λ (x : TaskAt). element_value x.task value) (task_at (state_of h) i t)) d
+        (subst AddFound none asks (state_of h) may.held) asked
+
+    module _ (e : Event) (is : found ≡ Some e) where
+      add_asked : IsAsked reader (state_of h) (commands.Add who i t value) e
+      add_asked = subst AddFound is asks (state_of h) may.held (next_is h) who
+
+      pub add_asks : BreaksNow h (commands.Add who i t value) None → Asks h (commands.Add who i t value) e
+      unfolding IsAsked
+      add_asks unbroken =
+          as_asked h (commands.Add who i t value) e (tasks.add_has_event reader (state_of h) may.held.well (holds_within h may) who i t value unbroken)
+          (λ d asked. some_same d e (asked ∙ sym add_asked))
+
+      add_kind : (is_built e ≡ true) × (case_of e ≡ Some (case_number i))
+      unfolding IsAsked
+      add_kind =
+          of_kind (λ (v : Value). events.Add i t v (state_of h).next) (Some (case_number i)) (λ v. (refl, refl))
+          (option_and_then (λ (x : TaskAt). element_value x.task value) (task_at (state_of h) i t)) e add_asked
+
+      pub add_built : is_built e ≡ true
+      add_built = add_kind.0
+
+      pub add_case : (n : ℕ) → n ≡ case_number i → case_of e ≡ Some n
+      add_case n same = add_kind.1 ∙ ap (λ k. Some k) (sym same)
+
+-- ---- events whose fields the command has
 
 module _ (h : Standing) where
-  pub cancel_asks : (j : Ident) → BreaksNow h (commands.Cancel j) None → Asks h (commands.Cancel j) (events.Cancel (case_number j))
+  pub start_asks : MayStand h → (who : List ℕ) (j : Ident) → BreaksNow h (commands.Start who j) None → Asks h (commands.Start who j) (events.Start j who)
   unfolding IsAsked
-  cancel_asks j unbroken =
-      as_asked h (commands.Cancel j) (events.Cancel (case_number j)) (cases.cancel_has_event reader (state_of h) j unbroken) (λ d asked. asked)
+  start_asks may who j unbroken =
+      as_asked h (commands.Start who j) (events.Start j who) (items.start_has_event reader (state_of h) may.held.well who j unbroken) (λ d asked. asked)
 
-  pub advance_asks : (j : Ident) → BreaksNow h (commands.Advance j) None → Asks h (commands.Advance j) (events.Advance (case_number j))
-  unfolding IsAsked
-  advance_asks j unbroken =
-      as_asked h (commands.Advance j) (events.Advance (case_number j)) (cases.advance_has_event reader (state_of h) j unbroken) (λ d asked. asked)
+  module _ (j : Ident) (n : ℕ) (same : n ≡ case_number j) where
+    pub cancel_asks : BreaksNow h (commands.Cancel j) None → Asks h (commands.Cancel j) (events.Cancel n)
+    unfolding IsAsked
+    cancel_asks unbroken =
+        as_asked h (commands.Cancel j) (events.Cancel n) (cases.cancel_has_event reader (state_of h) j unbroken) (λ d asked. asked ∙ ap events.Cancel (sym same))
 
-  pub person_asks : (name : List ℕ) (roles : List (List ℕ)) → are_roles roles ≡ true → Asks h (commands.Person name roles) (events.Person name roles)
-  unfolding IsAsked
-  person_asks name roles right =
-      as_asked h (commands.Person name roles) (events.Person name roles) (cases.person_has_event reader (state_of h) name roles right) (λ d asked. asked)
+    pub advance_asks : BreaksNow h (commands.Advance j) None → Asks h (commands.Advance j) (events.Advance n)
+    unfolding IsAsked
+    advance_asks unbroken =
+        as_asked h (commands.Advance j) (events.Advance n) (cases.advance_has_event reader (state_of h) j unbroken) (λ d asked. asked ∙ ap events.Advance (sym same))
 
-  -- a person breaks no rule
-  pub person_unbroken : (name : List ℕ) (roles : List (List ℕ)) → BreaksNow h (commands.Person name roles) None
-  unfolding checks
-  person_unbroken name roles = refl
+  module _ (name : List ℕ) (roles : List (List ℕ)) where
+    pub person_asks : are_roles roles ≡ true → Asks h (commands.Person name roles) (events.Person name roles)
+    unfolding IsAsked
+    person_asks right =
+        as_asked h (commands.Person name roles) (events.Person name roles) (cases.person_has_event reader (state_of h) name roles right) (λ d asked. asked)
+
+    -- a person breaks no rule
+    pub person_unbroken : BreaksNow h (commands.Person name roles) None
+    unfolding checks
+    person_unbroken = refl

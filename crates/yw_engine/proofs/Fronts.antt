@@ -1,14 +1,17 @@
 -- What a command of a case breaks first, from what is tried in front, that its case is quiet, and what is tried behind.
-use Rattle.std.proofs.Common.{◌≡◌, List, Option, Some, None, subst, sym, ℕ}
+use Rattle.std.proofs.Common.{◌≡◌, Err, IfOk, List, None, Ok, Option, Result, Some, refl, subst, sym, ℕ}
 use Rattle.std.specs.Prelude.{option_map}
+use Rattle.yw_breaks.specs.Finds.{FindsNext, FindsPlain}
 use Rattle.yw_breaks.specs.Tables.{Joins}
-use Rattle.yw_cases.specs.State.{state_of}
+use Rattle.yw_cases.specs.State.{MayStand, state_of}
 use Rattle.yw_cases.specs.declared.standing.Standing.{Standing}
 use Rattle.yw_engine.specs.Decides.{BreaksNow, IsInFront}
+use Rattle.yw_library.specs.Holdings.{with_library}
 use Rattle.yw_model.specs.Texts.{reader}
 use Rattle.yw_state.proofs.Tests.{nowhere}
 use Rattle.yw_state.specs.Broken.{Check, First, placeless}
 use Rattle.yw_state.specs.Identity.{Ident, case_number}
+use Rattle.yw_state.specs.State.{State}
 use Rattle.yw_state.specs.declared.command.Command.{Command}
 use Rattle.yw_state.specs.declared.rule.Refusal.{Refusal}
 use Rattle.yw_state.specs.declared.rule.Rule.{Rule}
@@ -19,17 +22,33 @@ module _ (h : Standing) (c : Command) (j : Ident) (front rest : List Check) (joi
   at_case found is = subst (λ (k : ℕ). IsInFront h rule k found) of is
 
   -- a rule that is broken in front, or that the case isn't quiet
-  pub refused : (refusal : Refusal) → IsInFront h rule n (Some refusal) → BreaksNow h c (Some refusal)
-  refused refusal is = in_front rule refusal first (at_case (Some refusal) is)
+  pub refused : (found : Option Refusal) (refusal : Refusal) → found ≡ Some refusal → IsInFront h rule n found → BreaksNow h c (Some refusal)
+  refused found refusal some is = in_front rule refusal first (at_case (Some refusal) (subst (IsInFront h rule n) some is))
     where
-      in_front : (r : Option Rule) (found : Refusal) → First front (option_map placeless r) → IsInFront h r (case_number j) (Some found) → BreaksNow h c (Some found)
-      in_front (Some r) found is_first e = subst (λ (o : Option Refusal). BreaksNow h c o) (sym e) (joins.in_front (placeless r) is_first)
-      in_front None found is_first e = subst (λ (o : Refusal). BreaksNow h c (Some o)) (sym e.1) (joins.moving is_first e.0)
+      in_front : (r : Option Rule) (it : Refusal) → First front (option_map placeless r) → IsInFront h r (case_number j) (Some it) → BreaksNow h c (Some it)
+      in_front (Some r) it is_first e = subst (λ (o : Option Refusal). BreaksNow h c o) (sym e) (joins.in_front (placeless r) is_first)
+      in_front None it is_first e = subst (λ (o : Refusal). BreaksNow h c (Some o)) (sym e.1) (joins.moving is_first e.0)
 
   -- else what is broken behind
-  pub behind : (found : Option Refusal) → IsInFront h rule n None → First rest found → BreaksNow h c found
-  behind found is last = then_behind rule first (at_case None is)
+  pub behind : {E : Type 0} (found : Option Refusal) → found ≡ None → IsInFront h rule n found → (result : Result (Option Refusal) E) → IfOk result (First rest) → IfOk result (BreaksNow h c)
+  behind found none is (Ok last) broken = then_behind rule first (at_case None (subst (IsInFront h rule n) none is))
     where
-      then_behind : (r : Option Rule) → First front (option_map placeless r) → IsInFront h r (case_number j) None → BreaksNow h c found
+      then_behind : (r : Option Rule) → First front (option_map placeless r) → IsInFront h r (case_number j) None → BreaksNow h c last
       then_behind (Some r) is_first e = nowhere e
-      then_behind None is_first quiet = joins.behind found is_first quiet last
+      then_behind None is_first quiet = joins.behind last is_first quiet broken
+  behind found none is (Err fault) broken = tt
+
+-- ---- what is found of what is held
+
+next_is : (h : Standing) → (state_of h).next ≡ h.next
+unfolding with_library
+next_is h = refl
+
+module _ {E : Type 0} (h : Standing) (may : MayStand h) (table : State → List Check) where
+  pub plainly : (result : Result (Option Refusal) E) → IfOk result (FindsPlain h.known h.forest table) → IfOk result (First (table (state_of h)))
+  plainly (Ok found) finds = finds (state_of h) may.held may.plain
+  plainly (Err fault) finds = tt
+
+  pub with_next : (result : Result (Option Refusal) E) → IfOk result (FindsNext h.known h.forest h.next table) → IfOk result (First (table (state_of h)))
+  with_next (Ok found) finds = finds (state_of h) may.held may.plain (next_is h)
+  with_next (Err fault) finds = tt

@@ -19,7 +19,7 @@ use crate::work::{Work, try_owned};
 use crate::{Decided, EngineFault};
 use std::alloc::{AllocError, Global};
 use std::marker::Model;
-use yw_cases::Standing;
+use yw_cases::nothing;
 use yw_library::Library;
 use yw_state::{Command, Event, Rule};
 use yw_tree::Forest;
@@ -61,7 +61,7 @@ impl Engine {
         Engine {
             work: Work {
                 alloc,
-                standing: Standing::new(alloc),
+                standing: nothing(alloc),
             },
             spent: false,
         }

@@ -1,14 +1,14 @@
 // What is held between two events, and one event after another.
-ghost use Rattle.std.specs.Prelude.{◌≡◌, IfOk, OnOk, is_none, true};
+ghost use Rattle.std.specs.Prelude.{◌≡◌, IfOk, OnOk, true};
+ghost use Rattle.yw_built.specs.Built.{is_built};
 ghost use Rattle.yw_cases.specs.State.{MayStand};
 ghost use Rattle.yw_cases.specs.Tried.{IsTried};
-ghost use Rattle.yw_plain.specs.Plain.{is_plain_event};
 
 use std::alloc::{AllocError, Global};
 use yw_cases::{Standing, try_event};
 use yw_settle::Machine;
 use yw_state::Event;
-use yw_walk::next_event;
+use yw_walk::{is_quiet, next_event};
 
 /// What events are done to. It is the machine that takes what comes of itself.
 #[derive(Drop)]
@@ -17,30 +17,11 @@ pub struct Work {
     pub standing: Standing,
 }
 
-/// There is no event.
-fn is_none(found: Option<Event>) -> bool
-    ensures { result ≡ is_none found }
-{
-    match found {
-        Some(_) => false,
-        None => true,
-    }
-}
-
-/// Does an event, where it is allowed, as `yw_cases::try_event` says.
-pub fn try_owned(work: &mut Work, event: Event) -> Result<bool, AllocError>
-    requires stands { MayStand work.old.standing }
-    requires plain { is_plain_event event ≡ true }
-    ensures tried { IfOk result (λ leads. IsTried work.old.standing event leads work.new.standing) }
-    ensures stands { OnOk result (MayStand work.new.standing) }
-{
-    try_event(work.alloc, &mut work.standing, &event)
-}
-
 impl Work {
     ghost use Rattle.std.specs.Prelude.{◌≡◌, ◌↔◌, IfOk, IsTrue, OnOk, true};
     ghost use Rattle.yw_built.specs.Built.{is_built};
     ghost use Rattle.yw_cases.specs.State.{MayStand, state_of};
+    ghost use Rattle.yw_cases.specs.Tried.{IsTried};
     ghost use Rattle.yw_engine.specs.Decides.{IsDone, IsNext, LeadsOn};
     ghost use Rattle.yw_state.specs.Automatic.{IsQuiet};
 
@@ -50,13 +31,8 @@ impl Work {
         ensures { IfOk result (IsNext self.now.standing case) }
     {
         let standing = &self.standing;
-        next_event(
-            self.alloc,
-            &standing.known,
-            &standing.forest,
-            case,
-            standing.next,
-        )
+        let (known, forest) = (&standing.known, &standing.forest);
+        next_event(self.alloc, known, forest, case, standing.next)
     }
 
     /// Nothing comes of itself in a case. An `Err` says that no memory was left.
@@ -64,7 +40,20 @@ impl Work {
         requires { MayStand self.now.standing }
         ensures { IfOk result (λ quiet. IsTrue quiet ↔ IsQuiet (state_of self.now.standing) case) }
     {
-        Ok(is_none(self.next_event(case)?))
+        let standing = &self.standing;
+        let (known, forest) = (&standing.known, &standing.forest);
+        is_quiet(self.alloc, known, forest, case, standing.next)
+    }
+
+    /// Does an event, where it is allowed: `true`, and what is held is then that after it; else `false`, and nothing has changed. An `Err` says
+    /// that no memory was left; what is held then is told nowhere.
+    fn try_event(&mut self, event: &Event) -> Result<bool, AllocError>
+        requires stands { MayStand self.old.standing }
+        requires built { is_built event.now ≡ true }
+        ensures tried { IfOk result (λ leads. IsTried self.old.standing event.now leads self.new.standing) }
+        ensures stands { OnOk result (MayStand self.new.standing) }
+    {
+        try_event(self.alloc, &mut self.standing, event)
     }
 
     /// Does an event that is allowed. An `Err` says that no memory was left; what is held then is told nowhere.
@@ -74,11 +63,21 @@ impl Work {
         requires leads { LeadsOn self.old.standing event.now }
         ensures { OnOk result (IsDone self.old.standing event.now self.new.standing) }
     {
-        if !try_event(self.alloc, &mut self.standing, event)? {
+        if !self.try_event(event)? {
             unreachable!();
         }
         Ok(())
     }
+}
+
+/// Does an event, as `Work::try_event` says.
+pub fn try_owned(work: &mut Work, event: Event) -> Result<bool, AllocError>
+    requires stands { MayStand work.old.standing }
+    requires built { is_built event ≡ true }
+    ensures tried { IfOk result (λ leads. IsTried work.old.standing event leads work.new.standing) }
+    ensures stands { OnOk result (MayStand work.new.standing) }
+{
+    work.try_event(&event)
 }
 
 impl Machine for Work {
