@@ -44,8 +44,8 @@ pub fn net_stands()
     ensures is { (s : State) → HoldsWithin s → (i : Ident) (n : NetAt) → net_at s i ≡ Some n → NetIs s i n.net }
 {}
 
-/// A task may get items, where the net's identity leaves room for a number; the numbers that are drawn next are free, and those of the task's
-/// items are lower.
+/// A task may get items, where the net's identity leaves room for a number; the numbers that are drawn next are free, and those of
+/// the task's items are lower.
 pub fn task_may_grow()
     ensures may { (names : ℕ → List ℕ) (f : Forest) (s : State) → StandsWell names f s
         → (i : Ident) (n : NetAt) (t : ℕ) → net_at s i ≡ Some n → t < length n.net.tasks → length i < most_numbers → TaskMayGrow f n.net i t }

@@ -116,7 +116,5 @@ pub fn are_drawn(state: &NetState, at: &Ident, t: usize, n: u64) -> bool
 pub fn may_change(net: &Net, state: &NetState, at: &Ident, t: usize) -> bool
     ensures { IsTrue result → MayChange net.now state.now at.now t }
 {
-    t < net.tasks.len()
-        && is_flat(state)
-        && at.numbers().len() < MOST_NUMBERS
+    t < net.tasks.len() && is_flat(state) && at.numbers().len() < MOST_NUMBERS
 }

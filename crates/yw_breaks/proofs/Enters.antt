@@ -1,0 +1,140 @@
+-- What an entry breaks first behind the check that the case is quiet.
+use Rattle.std.proofs.Common.{Bool, List, None, Option, Some, [], ap, length, refl, subst, sym, ℕ, ◌+◌, ◌∙◌, ◌∷◌, ◌≡◌}
+use Rattle.std.specs.Prelude.{drop, is_none, nat_lt, not, option_and_then, option_map, slice_get, take, unwrap_or, if◌then◌else◌}
+use Rattle.yw_base.specs.Identity.{number_end}
+use Rattle.yw_breaks.proofs.Held.{role_is}
+use Rattle.yw_breaks.proofs.Joining.{behind, in_front}
+use Rattle.yw_breaks.proofs.Rows.{broken_row, idle_row, place_row, rule_row}
+use Rattle.yw_breaks.specs.Enter.{EnterBreaks}
+use Rattle.yw_breaks.specs.Nets.{IsTaskNamed}
+use Rattle.yw_breaks.specs.Persons.{has_role, lacks_role, worker_rule}
+use Rattle.yw_breaks.specs.Tables.{enter_rest}
+use Rattle.yw_known.specs.Held.{IsHeld}
+use Rattle.yw_known.specs.Here.{IsNetHere, as_net_at}
+use Rattle.yw_known.specs.Names.{names_of}
+use Rattle.yw_known.specs.declared.here.NetHere.{NetHere}
+use Rattle.yw_library.specs.Holdings.{Holdings}
+use Rattle.yw_plain.proofs.Words.{words}
+use Rattle.yw_plain.specs.Plain.{IsPlain}
+use Rattle.yw_spec.specs.declared.spec.Net.{Net}
+use Rattle.yw_spec.specs.declared.task.Task.{Task}
+use Rattle.yw_state.proofs.Tests.{some_same}
+use Rattle.yw_state.specs.Broken as table
+use Rattle.yw_state.specs.Broken.{First, enter_checks, is_spent, misses_bounds, placed, placeless, test, test_at}
+use Rattle.yw_state.specs.Identity.{Ident}
+use Rattle.yw_state.specs.Judged.{is_manual}
+use Rattle.yw_state.specs.Map.{get}
+use Rattle.yw_state.specs.Nets.{is_atomic, task_number}
+use Rattle.yw_state.specs.Options.{is_some_and}
+use Rattle.yw_state.specs.Passing.{within_bounds}
+use Rattle.yw_state.specs.State.{NetAt, NetPart, State, TaskAt, net_of, net_part, task_at, task_in}
+use Rattle.yw_state.specs.Words as word
+use Rattle.yw_state.specs.declared.rule.Refusal.{Refusal}
+use Rattle.yw_state.specs.declared.rule.Rule.{Rule}
+use Rattle.yw_state.specs.declared.rule.Rule.TheVariants as rules
+use Rattle.yw_task.proofs.EnterAsk.{net_with, task_stands}
+use Rattle.yw_task.specs.Asked.{AsksEnter, enter_shown}
+use Rattle.yw_task.specs.Giving.{count_rule, entry_fault, entry_rows, undefined_entry}
+use Rattle.yw_tree.specs.declared.Forest.{Forest}
+use Rattle.yw_tree.specs.declared.NetState.{out-NetState}
+
+-- ---- the net has no such task
+
+pub no_net : (s : State) (i : Ident) (name : List ℕ) → net_part s i ≡ None → task_at s i name ≡ None
+no_net s i name e =
+    ap (λ o. option_and_then (λ (n : NetAt). option_and_then (task_in n) (task_number n.net name))
+    (option_and_then (λ (p : NetPart). option_map (λ (w : Net). let m : NetAt = record { part = p; net = w } in m) (net_of s p)) o)) e
+
+pub no_task : (known : Holdings) (f : Forest) (s : State) (i : Ident) (h : NetHere) (name : List ℕ) → IsNetHere known f s i h → task_number h.net.now name ≡ None → task_at s i name ≡ None
+no_task known f s i h name here e =
+    ap (option_and_then (λ (n : NetAt). option_and_then (task_in n) (task_number n.net name))) here.at ∙ ap (option_and_then (task_in (as_net_at known h))) e
+
+pub unknown_task : (s : State) (who : List ℕ) (i : Ident) (name : List ℕ) → task_at s i name ≡ None → First (enter_rest s who i name) (Some (placeless rules.UnknownTask))
+unknown_task s who i name e = broken_row (is_none (task_at s i name)) (ap is_none e) rules.UnknownTask (drop 4 (enter_checks s who i name))
+
+-- ---- it has it
+
+abbrev by_itself : State → TaskAt → Bool
+by_itself s x = not (is_manual s x)
+
+abbrev lacks : State → List ℕ → TaskAt → Bool
+lacks s who x = not (has_role (unwrap_or (get s.persons who) []) x.task.role)
+
+abbrev spent : State → TaskAt → Bool
+spent s x = is_spent s (length (entry_rows x.task x.within.part.vals))
+
+module _ (known : Holdings) (f : Forest) (s : State) (who : List ℕ) (i : Ident) (x : NetHere) (t next : ℕ) (task : Task) (h : IsHeld known f s) (plain : IsPlain s) (drawn : s.next ≡ next) (here : IsNetHere known f s i x) (at : slice_get x.net.now.tasks t ≡ Some task) where
+  abbrev its : TaskAt
+  its = record { number = t; task = task; within = net_with (names_of known) x.net.now x.state.now }
+
+  pub stands : task_at s i task.name ≡ Some (record { number = t; task = task; within = net_with (names_of known) x.net.now x.state.now })
+  stands = task_stands (names_of known) f s i x.net.now x.state.now here.stands x.spec.now here.within t task at
+
+  told : (p : TaskAt → Bool) → is_some_and (task_at s i task.name) p ≡ p (record { number = t; task = task; within = net_with (names_of known) x.net.now x.state.now })
+  told p = ap (λ o. is_some_and o p) stands
+
+  worker : First (take 2 (drop 4 (enter_checks s who i task.name))) (option_map placeless (worker_rule known who task))
+  worker =
+      rule_row (is_some_and (task_at s i task.name) (by_itself s)) (not (is_atomic task)) (told (by_itself s) ∙ ap not ((words s plain).manual its)) rules.ByItself
+      (test (is_some_and (task_at s i task.name) (lacks s who)) rules.Role ∷ []) (if lacks_role known who task then Some rules.Role else None)
+      (rule_row (is_some_and (task_at s i task.name) (lacks s who)) (lacks_role known who task) (told (lacks s who) ∙ role_is known f s h who task) rules.Role [] None refl)
+
+  shown : (o : Option Rule) → AsksEnter x.net.now x.state.now t o → First (take 4 (drop 6 (enter_checks s who i task.name))) (option_map placeless o)
+  shown o asks =
+      idle_row (word.held s i) ((words s plain).held i) rules.Held (enter_shown s who i task.name) (option_map placeless o)
+      (asks (names_of known) f s i who x.spec.now task here.stands here.within at)
+
+  later : First (drop 10 (enter_checks s who i task.name)) (entry_fault task (out-NetState x.state.now).vals next)
+  later =
+      let vals = (out-NetState x.state.now).vals in
+      let count = length (entry_rows task vals) in
+      place_row (option_and_then table.undefined_entry (task_at s i task.name)) (undefined_entry task vals) (ap (option_and_then table.undefined_entry) stands) rules.Mapping
+      (test (is_some_and (task_at s i task.name) misses_bounds) rules.Count ∷ test (is_some_and (task_at s i task.name) (spent s)) rules.Numbers ∷ []) (option_map placeless (count_rule task next count))
+      (rule_row (is_some_and (task_at s i task.name) misses_bounds) (not (within_bounds task.many count)) (told misses_bounds) rules.Count
+      (test (is_some_and (task_at s i task.name) (spent s)) rules.Numbers ∷ []) (if nat_lt number_end (next + count) then Some rules.Numbers else None)
+      (rule_row (is_some_and (task_at s i task.name) (spent s)) (nat_lt number_end (next + count)) (told (spent s) ∙ ap (λ n. nat_lt number_end (n + count)) drawn) rules.Numbers [] None refl))
+
+  by_worker : (r : Rule) → worker_rule known who task ≡ Some r → First (drop 4 (enter_checks s who i task.name)) (Some (placeless r))
+  by_worker r e =
+      in_front (take 2 (drop 4 (enter_checks s who i task.name))) (drop 6 (enter_checks s who i task.name)) (placeless r)
+      (subst (λ (o : Option Rule). First (take 2 (drop 4 (enter_checks s who i task.name))) (option_map placeless o)) e worker)
+
+  past_worker : worker_rule known who task ≡ None → (found : Option Refusal) → First (drop 6 (enter_checks s who i task.name)) found → First (drop 4 (enter_checks s who i task.name)) found
+  past_worker e found g =
+      behind (take 2 (drop 4 (enter_checks s who i task.name))) (drop 6 (enter_checks s who i task.name)) found
+      (subst (λ (o : Option Rule). First (take 2 (drop 4 (enter_checks s who i task.name))) (option_map placeless o)) e worker) g
+
+  by_net : (r : Rule) → AsksEnter x.net.now x.state.now t (Some r) → First (drop 6 (enter_checks s who i task.name)) (Some (placeless r))
+  by_net r asks = in_front (take 4 (drop 6 (enter_checks s who i task.name))) (drop 10 (enter_checks s who i task.name)) (placeless r) (shown (Some r) asks)
+
+  by_values : AsksEnter x.net.now x.state.now t None → First (drop 6 (enter_checks s who i task.name)) (entry_fault task (out-NetState x.state.now).vals next)
+  by_values asks = behind (take 4 (drop 6 (enter_checks s who i task.name))) (drop 10 (enter_checks s who i task.name)) (entry_fault task (out-NetState x.state.now).vals next) (shown None asks) later
+
+  pub known_task : (found : Option Refusal) → First (drop 4 (enter_checks s who i task.name)) found → First (enter_rest s who i task.name) found
+  known_task found g = idle_row (is_none (task_at s i task.name)) (ap is_none stands) rules.UnknownTask (drop 4 (enter_checks s who i task.name)) found g
+
+-- ---- whatever the state
+
+module _ (known : Holdings) (who : List ℕ) (x : NetHere) (t next : ℕ) (u : Task) (mine : slice_get x.net.now.tasks t ≡ Some u) where
+  pub worker_breaks : (r : Rule) → worker_rule known who u ≡ Some r → EnterBreaks known who x t next (Some (placeless r))
+  worker_breaks r e = λ f s i task h plain drawn here at.
+      by_worker known f s who i x t next task h plain drawn here at r (ap (worker_rule known who) (sym (some_same u task (sym mine ∙ at))) ∙ e)
+
+  pub net_breaks : worker_rule known who u ≡ None → (r : Rule) → AsksEnter x.net.now x.state.now t (Some r) → EnterBreaks known who x t next (Some (placeless r))
+  net_breaks e r asks = λ f s i task h plain drawn here at.
+      past_worker known f s who i x t next task h plain drawn here at (ap (worker_rule known who) (sym (some_same u task (sym mine ∙ at))) ∙ e) (Some (placeless r))
+      (by_net known f s who i x t next task h plain drawn here at r asks)
+
+  pub values_break : worker_rule known who u ≡ None → AsksEnter x.net.now x.state.now t None → EnterBreaks known who x t next (entry_fault u (out-NetState x.state.now).vals next)
+  values_break e asks = λ f s i task h plain drawn here at.
+      let same : task ≡ u = sym (some_same u task (sym mine ∙ at)) in
+      subst (λ (z : Task). First (drop 4 (enter_checks s who i task.name)) (entry_fault z (out-NetState x.state.now).vals next)) same
+      (past_worker known f s who i x t next task h plain drawn here at (ap (worker_rule known who) same ∙ e) (entry_fault task (out-NetState x.state.now).vals next)
+      (by_values known f s who i x t next task h plain drawn here at asks))
+
+  -- by the task's name
+  pub named_breaks : (name : List ℕ) → IsTaskNamed x.net.now name t → (found : Option Refusal) → EnterBreaks known who x t next found
+      → (f : Forest) (s : State) (i : Ident) → IsHeld known f s → IsPlain s → s.next ≡ next → IsNetHere known f s i x → First (enter_rest s who i name) found
+  named_breaks name is found breaks f s i h plain drawn here =
+      subst (λ n. First (enter_rest s who i n) found) is.named
+      (known_task known f s who i x t next is.task h plain drawn here is.at found (breaks f s i is.task h plain drawn here is.at))

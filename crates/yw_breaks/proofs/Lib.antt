@@ -1,0 +1,14 @@
+pub mod Joining
+pub mod Whole
+pub mod Rows
+pub mod Held
+pub mod Fronts
+pub mod Named
+pub mod Starts
+pub mod Counts
+pub mod Enters
+pub mod Launches
+pub mod Completes
+pub mod Adds
+pub mod Allowed
+pub mod Asking

@@ -1,0 +1,11 @@
+-- The rule that a start breaks first behind the check that the case is quiet, by what stands at the item.
+use Rattle.std.specs.Prelude.{ℕ, List, Option}
+use Rattle.std.specs.Option.{option_or}
+use Rattle.yw_breaks.specs.Persons.{worker_rule}
+use Rattle.yw_known.specs.declared.here.ItemHere.{ItemHere}
+use Rattle.yw_library.specs.Holdings.{Holdings}
+use Rattle.yw_state.specs.declared.rule.Rule.{Rule}
+use Rattle.yw_task.specs.Asked.{start_fault}
+
+abbrev pub start_rule : Holdings → List ℕ → ItemHere → Option Rule
+start_rule known who h = option_or (worker_rule known who h.task.now) (start_fault h.item.now)

@@ -1,0 +1,38 @@
+// The net of a case, and its tasks.
+ghost use Rattle.std.specs.Prelude.{◌≡◌, ◌<◌, None, IfSome, MatchOption, length, slice_get};
+ghost use Rattle.yw_breaks.specs.Nets.{IsTaskNamed, IsWithinHere};
+ghost use Rattle.yw_known.specs.Held.{IsHeld};
+ghost use Rattle.yw_known.specs.Here.{IsNetHere};
+ghost use Rattle.yw_state.specs.Nets.{task_number};
+ghost use Rattle.yw_state.specs.State.{State, net_part};
+
+use yw_base::{Ident, Name};
+use yw_known::{Known, NetHere, task_called};
+use yw_spec::Net;
+use yw_tree::Forest;
+
+/// The net of the case, item or run at an identity, and that its specification is within, whatever the state.
+pub fn net_there<'a>(known: &'a Known, forest: &'a Forest, at: &Ident) -> Option<NetHere<'a>>
+    ensures here { (s : State) → IsHeld known.now forest.now s
+        → MatchOption result (net_part s at.now ≡ None) (IsNetHere known.now forest.now s at.now) }
+    ensures within { IfSome result IsWithinHere }
+{
+    let _ = at.numbers();
+    known.are_named();
+    let state = forest.net(at)?;
+    let found = known.net(state.spec, state.net)?;
+    Some(NetHere {
+        state,
+        net: found.net,
+        up: found.up,
+        spec: found.spec,
+    })
+}
+
+/// The number of the task with this name in a net.
+pub fn task_named(net: &Net, name: &Name) -> Option<usize>
+    ensures none { result ≡ None → task_number net.now name.now ≡ None }
+    ensures some { IfSome result (IsTaskNamed net.now name.now) }
+{
+    task_called(net, name)
+}

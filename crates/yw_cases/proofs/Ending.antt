@@ -1,0 +1,71 @@
+-- A case is over, or goes on.
+use Rattle.std.proofs.Common.{◌∙◌}
+use Rattle.std.specs.Prelude.{Bool, List, false, is_some, refl, true, ℕ, ◌∷◌, [], ◌≡◌}
+use Rattle.yw_base.specs.Identity.{is_identity}
+use Rattle.yw_cases.proofs.Allows.{finish_as}
+use Rattle.yw_cases.proofs.Trying.{done, fails, placed_over, words_of}
+use Rattle.yw_cases.specs.Ended.{ended_of}
+use Rattle.yw_cases.specs.State.{MayStand, state_of}
+use Rattle.yw_cases.specs.Tried.{IsDone, LeadsNowhere, Tries}
+use Rattle.yw_cases.specs.declared.standing.Standing.{Standing}
+use Rattle.yw_known.proofs.Items.{case_is}
+use Rattle.yw_nest.specs.Cases.{Cancels, Finishes, with_ended}
+use Rattle.yw_nest.specs.Does.{NeedsNothing}
+use Rattle.yw_state.proofs.Standing.{at_net}
+use Rattle.yw_state.proofs.Tests.{by_test, there_and}
+use Rattle.yw_state.specs.Allowed.{allows}
+use Rattle.yw_state.specs.Events.{after}
+use Rattle.yw_state.specs.Identity.{case_ident}
+use Rattle.yw_state.specs.Joins.{at_output, marked}
+use Rattle.yw_state.specs.Map.{insert}
+use Rattle.yw_state.specs.State.{NetAt, is_case, net_at}
+use Rattle.yw_state.specs.Texts.{nothing}
+use Rattle.yw_state.specs.declared.event.Event.TheVariants as events
+use Rattle.yw_state.specs.declared.part.Way.{Way}
+use Rattle.yw_state.specs.declared.part.Way.TheVariants.{Cancelled, Finished}
+use Rattle.yw_tree.specs.Cases.{case_at}
+use Rattle.yw_tree.specs.declared.Forest.{Forest}
+
+module _ (old : Standing) (may : MayStand old) (n : ℕ) where
+  -- at no number but an identity's is a net at its end
+  pub no_number : (is_identity (n ∷ []) ≡ true → ⊥) → at_output (state_of old) (case_ident n) ≡ false
+  no_number off =
+      by_test (at_output (state_of old) (case_ident n))
+      (λ (ends : at_output (state_of old) (case_ident n) ≡ true).
+      let net = there_and (net_at (state_of old) (case_ident n)) (λ (w : NetAt). marked (state_of old) (case_ident n) w.net.output) ends in
+      let stands = at_net (state_of old) (case_ident n) net.0 net.1 in
+      absurd (off (may.held.well.numbers.identities (case_ident n) stands.0 stands.1)))
+      (λ e. e)
+
+  -- ---- it is finished
+
+  pub not_finished : at_output (state_of old) (case_ident n) ≡ false → LeadsNowhere old (events.Finish n)
+  not_finished e = fails old (events.Finish n) (λ said. finish_as (state_of old) (words_of old may) n said ∙ e)
+
+  module _ (f : Forest) (es : List (ℕ × Way)) where
+    pub finished : at_output (state_of old) (case_ident n) ≡ true → ended_of es ≡ insert (ended_of old.ended) n Finished → Finishes n old.forest f
+        → IsDone old (events.Finish n) (record old { forest = f; ended = es })
+    finished e put does =
+        done old may (λ names. events.Finish n) NeedsNothing (with_ended n Finished) (events.Finish n) (record old { forest = f; ended = es }) does tt refl
+        (placed_over old f es n Finished put) refl (finish_as (state_of old) (words_of old may) n nothing ∙ e, tt)
+
+  -- ---- it is cancelled, or goes on
+
+  pub case_there : is_case (state_of old) (case_ident n) ≡ is_some (case_at n old.forest.cases)
+  case_there = case_is old.known old.forest (state_of old) may.held n
+
+  pub not_cancelled : is_case (state_of old) (case_ident n) ≡ false → LeadsNowhere old (events.Cancel n)
+  unfolding allows
+  not_cancelled e = fails old (events.Cancel n) (λ said. e)
+
+  pub cancelled : (f : Forest) (es : List (ℕ × Way)) → is_case (state_of old) (case_ident n) ≡ true → ended_of es ≡ insert (ended_of old.ended) n Cancelled
+      → Cancels n old.forest f → IsDone old (events.Cancel n) (record old { forest = f; ended = es })
+  unfolding allows
+  cancelled f es e put does =
+      done old may (λ names. events.Cancel n) NeedsNothing (with_ended n Cancelled) (events.Cancel n) (record old { forest = f; ended = es }) does tt refl
+      (placed_over old f es n Cancelled put) refl (e, tt)
+
+  pub advanced : (b : Bool) → is_case (state_of old) (case_ident n) ≡ b → Tries old (events.Advance n) b old
+  unfolding allows after
+  advanced true e = record { leads = record { said = nothing; says = refl; allowed = (e, tt); then = refl }; boxed = may.held.boxed }
+  advanced false e = (fails old (events.Advance n) (λ said. e), refl)

@@ -1,0 +1,221 @@
+-- Whether a task's entry is allowed.
+use Rattle.std.proofs.Common.{ap, length, subst, suc, sym, ◌∙◌}
+use Rattle.std.proofs.lemmas.Bool.{and_from, and_parts, eq-eqb, eqb-true}
+use Rattle.std.specs.Prelude.{Bool, List, MatchOption, None, Option, Some, [], false, map, nat_le, not, option_map, slice_get, true, ℕ, ◌&&◌, ◌+◌, ◌==◌, ◌∷◌, ◌≡◌}
+use Rattle.yw_base.specs.Identity.{number_end}
+use Rattle.yw_base.specs.declared.value.Value.{Value}
+use Rattle.yw_cases.proofs.Allows.{only_clear}
+use Rattle.yw_cases.proofs.TaskHere.{its, named, numbered}
+use Rattle.yw_cases.proofs.Taking.{joined, taken_by}
+use Rattle.yw_cases.proofs.Trying.{fails, next_is, words_of}
+use Rattle.yw_cases.specs.Entering.{IsEntry, candidate, counts, stands_for}
+use Rattle.yw_cases.specs.State.{MayStand, state_of}
+use Rattle.yw_cases.specs.Tried.{LeadsNowhere}
+use Rattle.yw_cases.specs.declared.standing.Standing.{Standing}
+use Rattle.yw_enabled.specs.Entered.{MayEnter, MayNotEnter, item_count}
+use Rattle.yw_enabled.specs.Free.{MayDraw}
+use Rattle.yw_known.specs.Here.{IsNetHere}
+use Rattle.yw_known.specs.Names.{names_of}
+use Rattle.yw_known.specs.declared.here.NetHere.{NetHere}
+use Rattle.yw_mark.specs.Taking.{taken_places}
+use Rattle.yw_mark.specs.declared.join.Taken.{Taken}
+use Rattle.yw_model.specs.Texts.{reader}
+use Rattle.yw_spec.specs.declared.spec.Place.{Place}
+use Rattle.yw_spec.specs.declared.task.Task.{Task}
+use Rattle.yw_state.proofs.Tests.{map_some, never, some_same, then_some, there_and}
+use Rattle.yw_state.specs.Allowed.{allows, place_numbers}
+use Rattle.yw_state.specs.Events.{Leads}
+use Rattle.yw_state.specs.Identity.{Ident}
+use Rattle.yw_state.specs.Joins.{NoWait, has_tokens, joins}
+use Rattle.yw_state.specs.Nets.{task_number}
+use Rattle.yw_state.specs.Options.{all_of, is_some_and}
+use Rattle.yw_state.specs.Passing.{elements_for, entry_values, given_values, within_bounds}
+use Rattle.yw_state.specs.State.{State, TaskAt, task_at}
+use Rattle.yw_state.specs.Texts.{Said, nothing}
+use Rattle.yw_state.specs.Values.{Row}
+use Rattle.yw_state.specs.Words.{active, clear}
+use Rattle.yw_state.specs.declared.event.Event.TheVariants as events
+use Rattle.yw_still.proofs.Joining.{joins_tokens}
+use Rattle.yw_still.specs.Still.{can_be_entered, may_be_made}
+use Rattle.yw_task.proofs.EnterAsk.{has_marks}
+use Rattle.yw_task.specs.Enters.{is_choice}
+use Rattle.yw_tree.specs.declared.NetState.{out-NetState}
+
+-- ---- as the definitions have it
+
+abbrev pub draws : State → ℕ → ℕ → Bool
+draws s first count = first == s.next && nat_le (first + count) number_end
+
+abbrev takes_from : State → Ident → TaskAt → List Place → Bool
+takes_from s i x places = is_some_and (place_numbers x.within.net places) (joins x.task.join s i x.task.before)
+
+abbrev makes : TaskAt → ℕ → Bool
+makes x count = is_some_and (entry_values x.task x.within.part.vals) (λ rows. length rows == count) && within_bounds x.task.many count
+
+abbrev pub may_enter : State → Ident → List Place → ℕ → ℕ → TaskAt → Bool
+may_enter s i places first count x = not (active s i x.number) && takes_from s i x places && makes x count && draws s first count
+
+-- ---- how many items come
+
+pub all_long : {A B : Type 0} (f : A → Option B) (xs : List A) (ys : List B) → all_of (map f xs) ≡ Some ys → length ys ≡ length xs
+all_long f [] ys e = ap length (sym (some_same [] ys e))
+all_long {B = B} f (x ∷ xs) ys e =
+    let y = then_some (λ (z : B). option_map (λ zs. z ∷ zs) (all_of (map f xs))) (f x) ys e in
+    let rest = map_some (λ zs. y.0 ∷ zs) (all_of (map f xs)) ys y.2 in
+    ap length (sym rest.2) ∙ ap (λ k. suc k) (all_long f xs rest.0 rest.1)
+
+pub rows_counted : (t : Task) (vals : Row) (rows : List Row) → entry_values t vals ≡ Some rows → item_count t vals ≡ Some (length rows)
+rows_counted t vals rows e =
+    let es = then_some (λ (os : List (Option Value)). all_of (map (given_values t vals) os)) (elements_for t.many vals) rows e in
+    ap (option_map (λ (os : List (Option Value)). length os)) es.1 ∙ ap Some (sym (all_long (given_values t vals) es.0 rows es.2))
+
+-- ---- what is said of the task
+
+module _ (old : Standing) (i : Ident) (name : List ℕ) (places : List Place) (first count : ℕ) where
+  abbrev EntryIs : Option (ℕ × Taken) → Type 0
+  EntryIs o = MatchOption o (LeadsNowhere old (events.Enter i name places first count)) (IsEntry old i name places first count)
+
+  pub entry_found : (o : Option (ℕ × Taken)) (p : ℕ × Taken) → o ≡ Some p → EntryIs o → IsEntry old i name places first count p
+  entry_found o p is found = subst EntryIs is found
+
+  pub no_entry : (o : Option (ℕ × Taken)) → o ≡ None → EntryIs o → LeadsNowhere old (events.Enter i name places first count)
+  no_entry o is found = subst EntryIs is found
+
+module _ (old : Standing) (may : MayStand old) (i : Ident) (name : List ℕ) (places : List Place) (first count : ℕ) where
+  abbrev s : State
+  s = state_of old
+
+  pub enter_as : (said : Said) → allows s (events.Enter i name places first count) said ≡ is_some_and (task_at s i name) (may_enter s i places first count)
+  unfolding allows
+  enter_as said = only_clear s (words_of old may) i (is_some_and (task_at s i name) (may_enter s i places first count))
+
+  pub no_task : task_at s i name ≡ None → LeadsNowhere old (events.Enter i name places first count)
+  no_task none = fails old (events.Enter i name places first count) (λ said. enter_as said ∙ ap (λ o. is_some_and o (may_enter s i places first count)) none)
+
+  module _ (w : NetHere) (here : IsNetHere old.known old.forest s i w) (t : ℕ) (number : task_number w.net.now name ≡ Some t) (task : Task)
+      (of_net : slice_get w.net.now.tasks t ≡ Some task) where
+    abbrev x : TaskAt
+    x = its old i w here name t number task of_net
+
+    abbrev marks : List ℕ
+    marks = (out-NetState w.state.now).marks
+
+    abbrev vals : Row
+    vals = (out-NetState w.state.now).vals
+
+    draw_there : MayDraw (names_of old.known) old.forest s i w.net.now w.state.now old.next
+    draw_there =
+        record {
+          free = record { stands = here.stands; numbers = may.held.well.numbers; free = (words_of old may).clear i };
+          spec = w.spec.now;
+          within = here.within;
+          next = next_is old;
+        }
+
+    -- ---- what an entry that is allowed tells
+
+    pub record Entering : Type 0 where
+      pub idle : not (active s i t) ≡ true
+      pub cs : List ℕ
+      pub are : place_numbers w.net.now places ≡ Some cs
+      pub taken : joins task.join s i task.before cs ≡ true
+      pub rows : List Row
+      pub made : entry_values task vals ≡ Some rows
+      pub as_many : length rows ≡ count
+      pub bounds : within_bounds task.many count ≡ true
+      pub same : first ≡ s.next
+      pub room : nat_le (first + count) number_end ≡ true
+
+    pub entering : may_enter s i places first count x ≡ true → Entering
+    entering e =
+        let one = and_parts (not (active s i t) && takes_from s i x places && makes x count) (draws s first count) e in
+        let two = and_parts (not (active s i t) && takes_from s i x places) (makes x count) one.0 in
+        let three = and_parts (not (active s i t)) (takes_from s i x places) two.0 in
+        let cs = there_and (place_numbers w.net.now places) (joins task.join s i task.before) three.1 in
+        let made = and_parts (is_some_and (entry_values task vals) (λ rs. length rs == count)) (within_bounds task.many count) two.1 in
+        let rows = there_and (entry_values task vals) (λ rs. length rs == count) made.0 in
+        let drawn = and_parts (first == s.next) (nat_le (first + count) number_end) one.1 in
+        record {
+          idle = three.0;
+          cs = cs.0;
+          are = cs.1;
+          taken = cs.2;
+          rows = rows.0;
+          made = rows.1;
+          as_many = eqb-true (length rows.0) count rows.2;
+          bounds = made.1;
+          same = eqb-true first s.next drawn.0;
+          room = drawn.1;
+        }
+
+    its_entry : (z : State) → Leads reader s (events.Enter i name places first count) z → may_enter s i places first count x ≡ true
+    its_entry z leads =
+        let found = there_and (task_at s i name) (may_enter s i places first count) (sym (enter_as leads.said) ∙ leads.allowed.0) in
+        subst (λ (y : TaskAt). may_enter s i places first count y ≡ true) (some_same found.0 x (sym found.1 ∙ named old i w here name t number task of_net)) found.2
+
+    can_enter : Entering → can_be_entered s i x ≡ true
+    can_enter h =
+        let made : is_some_and (entry_values task vals) (may_be_made s x) ≡ true =
+        ap (λ o. is_some_and o (may_be_made s x)) h.made
+        ∙ and_from (within_bounds task.many (length h.rows)) (nat_le (s.next + length h.rows) number_end)
+        (ap (within_bounds task.many) h.as_many ∙ h.bounds) ((λ j. nat_le (sym h.same j + h.as_many j) number_end) ∙ h.room) in
+        and_from (clear s i && not (active s i t) && has_tokens task.join s i task.before) (is_some_and (entry_values task vals) (may_be_made s x))
+        (and_from (clear s i && not (active s i t)) (has_tokens task.join s i task.before) (and_from (clear s i) (not (active s i t)) ((words_of old may).clear i) h.idle)
+        (joins_tokens s i task.before task.join h.cs h.taken)) made
+
+    pub not_entered : MayNotEnter w.net.now w.state.now t old.next → LeadsNowhere old (events.Enter i name places first count)
+    not_entered out z leads =
+        let waits = out (names_of old.known) old.forest s i x draw_there (numbered old i w here name t number task of_net) (can_enter (entering (its_entry z leads))) in
+        leads.allowed.1 x (named old i w here name t number task of_net) waits.0 waits.1
+
+    pub not_drawn : (first == old.next && counts task vals count) ≡ false → LeadsNowhere old (events.Enter i name places first count)
+    not_drawn e z leads =
+        let h = entering (its_entry z leads) in
+        never (sym e ∙ and_from (first == old.next) (counts task vals count) (eq-eqb first old.next (h.same ∙ next_is old))
+        (ap (λ o. is_some_and o (λ k. k == count)) (rows_counted task vals h.rows h.made) ∙ eq-eqb (length h.rows) count h.as_many))
+
+    pub not_taken : stands_for w.net.now marks task.before places (candidate task.join w.net.now places) ≡ false → LeadsNowhere old (events.Enter i name places first count)
+    not_taken e z leads =
+        let h = entering (its_entry z leads) in
+        never (sym e ∙ joined s i marks (has_marks (names_of old.known) old.forest s i w.net.now w.state.now here.stands) w.net.now task.before places task.join h.cs h.are h.taken)
+
+    -- ---- and where it is allowed
+
+    pub is_entry : (own : Taken) → MayEnter w.net.now w.state.now t old.next own → (first == old.next && counts task vals count) ≡ true
+        → stands_for w.net.now marks task.before places (candidate task.join w.net.now places) ≡ true → (taken : Taken) → taken ≡ candidate task.join w.net.now places
+        → IsEntry old i name places first count (t, taken)
+    is_entry own enters drawn stands taken is =
+        let from = enters (names_of old.known) old.forest s i x draw_there (numbered old i w here name t number task of_net) in
+        let one = and_parts (clear s i && not (active s i t) && has_tokens task.join s i task.before) (is_some_and (entry_values task vals) (may_be_made s x)) from.may in
+        let two = and_parts (clear s i && not (active s i t)) (has_tokens task.join s i task.before) one.0 in
+        let idle = (and_parts (clear s i) (not (active s i t)) two.0).1 in
+        let rows = there_and (entry_values task vals) (may_be_made s x) one.1 in
+        let fits = and_parts (within_bounds task.many (length rows.0)) (nat_le (s.next + length rows.0) number_end) rows.2 in
+        let both = and_parts (first == old.next) (counts task vals count) drawn in
+        let as_many : length rows.0 ≡ count =
+        eqb-true (length rows.0) count (sym (ap (λ o. is_some_and o (λ k. k == count)) (rows_counted task vals rows.0 rows.1)) ∙ both.1) in
+        let same : first ≡ s.next = eqb-true first old.next both.0 ∙ sym (next_is old) in
+        let marked = has_marks (names_of old.known) old.forest s i w.net.now w.state.now here.stands in
+        let by = taken_by s i marks marked w.net.now task.before places task.join two.1 stands in
+        let takes : takes_from s i x places ≡ true = ap (λ o. is_some_and o (joins task.join s i task.before)) by.numbers ∙ by.joins_them in
+        let made : makes x count ≡ true =
+        and_from (is_some_and (entry_values task vals) (λ rs. length rs == count)) (within_bounds task.many count)
+        (ap (λ o. is_some_and o (λ rs. length rs == count)) rows.1 ∙ eq-eqb (length rows.0) count as_many) (ap (within_bounds task.many) (sym as_many) ∙ fits.0) in
+        let draw : draws s first count ≡ true =
+        and_from (first == s.next) (nat_le (first + count) number_end) (eq-eqb first s.next same) ((λ j. nat_le (same j + sym as_many j) number_end) ∙ fits.1) in
+        let all : may_enter s i places first count x ≡ true =
+        and_from (not (active s i t) && takes_from s i x places && makes x count) (draws s first count)
+        (and_from (not (active s i t) && takes_from s i x places) (makes x count) (and_from (not (active s i t)) (takes_from s i x places) idle takes) made) draw in
+        record {
+          net = w;
+          here = here;
+          task = task;
+          number = number;
+          of_net = of_net;
+          numbers = by.numbers ∙ ap (λ z. Some (taken_places marks task.before z)) (sym is);
+          chosen = ap (λ z. is_choice task.join marks task.before z) is ∙ by.chosen;
+          allowed = (
+            enter_as nothing ∙ ap (λ o. is_some_and o (may_enter s i places first count)) (named old i w here name t number task of_net) ∙ all,
+            λ y is_y. subst (NoWait s i) (some_same x y (sym (named old i w here name t number task of_net) ∙ is_y)) from.no_wait,
+          );
+        }

@@ -1,0 +1,60 @@
+-- A person, and a specification that is loaded.
+use Rattle.std.proofs.Common.{ap, subst, sym, ◌∙◌}
+use Rattle.std.specs.Prelude.{Bool, List, false, refl, true, ℕ, ◌≡◌}
+use Rattle.yw_cases.specs.Ended.{ended_of}
+use Rattle.yw_cases.specs.State.{MayStand, state_of}
+use Rattle.yw_cases.specs.Tried.{IsDone, LeadsNowhere, Tries}
+use Rattle.yw_cases.specs.declared.standing.Standing.{Standing}
+use Rattle.yw_known.proofs.Names.{load_keeps_sites}
+use Rattle.yw_known.specs.Names.{names_of}
+use Rattle.yw_library.specs.Always.{AlwaysLeads, IsTried}
+use Rattle.yw_library.specs.Holdings.{AddsSpec, Holdings, with_library, with_person}
+use Rattle.yw_model.proofs.Loading.{person_leads_to, person_roles}
+use Rattle.yw_model.specs.Texts.{reader}
+use Rattle.yw_state.proofs.Tests.{never}
+use Rattle.yw_state.specs.Allowed.{are_roles}
+use Rattle.yw_state.specs.Events.{Leads, after}
+use Rattle.yw_state.specs.State.{Sites, State, opening}
+use Rattle.yw_state.specs.Texts.{nothing}
+use Rattle.yw_state.specs.declared.event.Event.TheVariants as events
+use Rattle.yw_tree.specs.Forest.{sites_of}
+
+module _ (old : Standing) where
+  -- all but persons and specifications
+  abbrev base : Sites → State
+  base m = record opening { next = old.next; sites = m; ended = ended_of old.ended }
+
+  pub no_person : (name : List ℕ) (roles : List (List ℕ)) → are_roles roles ≡ false → LeadsNowhere old (events.Person name roles)
+  no_person name roles wrong t leads = never (sym wrong ∙ person_roles (state_of old) t name roles leads)
+
+  module _ (may : MayStand old) (new : Holdings) where
+    pub person_done : (name n : List ℕ) (roles r : List (List ℕ)) → n ≡ name → r ≡ roles → are_roles roles ≡ true
+        → ((s : State) → with_library s new ≡ after (with_library s old.known) (events.Person n r) nothing)
+        → new ≡ with_person old.known (record { name = n; roles = r }) → IsDone old (events.Person name roles) (record old { known = new })
+    person_done name n roles r same_name same_roles right reached place =
+        let names : names_of new ≡ names_of old.known = ap (λ (z : Holdings). names_of z) place in
+        let said : after (state_of old) (events.Person n r) nothing ≡ after (state_of old) (events.Person name roles) nothing = λ i. after (state_of old) (events.Person (same_name i) (same_roles i)) nothing in
+        record {
+          leads = person_leads_to (state_of old) (state_of (record old { known = new })) name roles right
+              (ap (λ (z : ℕ → List ℕ). with_library (base (sites_of z old.forest)) new) names ∙ reached (base (sites_of (names_of old.known) old.forest)) ∙ said);
+          boxed = may.held.boxed;
+        }
+
+    load_done : (name text : List ℕ) → AlwaysLeads old.known (events.Load name text) new → AddsSpec old.known new name text
+        → IsDone old (events.Load name text) (record old { known = new })
+    load_done name text always adds =
+        let sites : sites_of (names_of old.known) old.forest ≡ sites_of (names_of new) old.forest =
+        load_keeps_sites old.known old.forest (state_of old) adds.loaded may.held ∙ ap (λ (z : Holdings). sites_of (names_of z) old.forest) (sym adds.behind) in
+        record {
+          leads = subst (Leads reader (state_of old) (events.Load name text)) (ap (λ (m : Sites). with_library (base m) new) sites)
+              (always (base (sites_of (names_of old.known) old.forest)));
+          boxed = may.held.boxed;
+        }
+
+    pub load_tried : (name text : List ℕ) (leads : Bool) → IsTried old.known (events.Load name text) leads new → (leads ≡ true → AddsSpec old.known new name text)
+        → Tries old (events.Load name text) leads (record old { known = new })
+    load_tried name text true tried adds = load_done name text tried (adds refl)
+    load_tried name text false tried adds = (
+      λ t leads. tried.0 (base (sites_of (names_of old.known) old.forest)) t leads,
+      ap (λ (z : Holdings). let n : Standing = record old { known = z } in n) tried.1,
+    )

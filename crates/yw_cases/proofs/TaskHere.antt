@@ -1,0 +1,54 @@
+-- A task of a net that stands, found by its name.
+use Rattle.std.proofs.Common.{ap, subst, ◌∙◌}
+use Rattle.std.proofs.lemmas.List.Quantifiers.{position-Some}
+use Rattle.std.proofs.lemmas.Option.{get_or_from_slice_get}
+use Rattle.std.proofs.lemmas.Slice.Eq.{bytes_eq-Decides}
+use Rattle.std.specs.Prelude.{List, None, Some, option_and_then, option_map, slice_get, true, ℕ, ◌≡◌}
+use Rattle.std.specs.Str.{bytes_eq}
+use Rattle.yw_cases.proofs.HereLaw.{no_net}
+use Rattle.yw_cases.specs.State.{state_of}
+use Rattle.yw_cases.specs.declared.standing.Standing.{Standing}
+use Rattle.yw_known.specs.Here.{IsNetHere, as_net_at}
+use Rattle.yw_known.specs.declared.here.NetHere.{NetHere}
+use Rattle.yw_spec.specs.declared.spec.Net.{Net}
+use Rattle.yw_spec.specs.declared.task.Task.{Task}
+use Rattle.yw_state.specs.Identity.{Ident}
+use Rattle.yw_state.specs.Nets.{task_number}
+use Rattle.yw_state.specs.State.{NetAt, State, TaskAt, net_part, task_at, task_in}
+use Rattle.yw_still.specs.Still.{task_numbered}
+
+module _ (s : State) (i : Ident) (name : List ℕ) where
+  pub no_net_no_task : net_part s i ≡ None → task_at s i name ≡ None
+  no_net_no_task none = ap (option_and_then (λ (n : NetAt). option_and_then (task_in n) (task_number n.net name))) (no_net s i none)
+
+module _ (old : Standing) (i : Ident) (w : NetHere) (here : IsNetHere old.known old.forest (state_of old) i w) (name : List ℕ) where
+  abbrev of_number : ℕ → Task → TaskAt
+  of_number t task = record { number = t; task = task; within = as_net_at old.known w }
+
+  pub no_name_no_task : task_number w.net.now name ≡ None → task_at (state_of old) i name ≡ None
+  no_name_no_task none =
+      ap (option_and_then (λ (n : NetAt). option_and_then (task_in n) (task_number n.net name))) here.at ∙ ap (option_and_then (task_in (as_net_at old.known w))) none
+
+  module _ (t : ℕ) (number : task_number w.net.now name ≡ Some t) where
+    by_number : task_at (state_of old) i name ≡ task_in (as_net_at old.known w) t
+    by_number =
+        ap (option_and_then (λ (n : NetAt). option_and_then (task_in n) (task_number n.net name))) here.at ∙ ap (option_and_then (task_in (as_net_at old.known w))) number
+
+    pub no_number_no_task : slice_get w.net.now.tasks t ≡ None → task_at (state_of old) i name ≡ None
+    no_number_no_task none = by_number ∙ ap (option_map (of_number t)) none
+
+    module _ (task : Task) (of_net : slice_get w.net.now.tasks t ≡ Some task) where
+      abbrev pub its : TaskAt
+      its = record { number = t; task = task; within = as_net_at old.known w }
+
+      pub named : task_at (state_of old) i name ≡ Some its
+      named = by_number ∙ ap (option_map (of_number t)) of_net
+
+      pub numbered : task_numbered (state_of old) i t ≡ Some its
+      numbered = ap (option_and_then (λ (n : NetAt). task_in n t)) here.at ∙ ap (option_map (of_number t)) of_net
+
+-- it has the name by which it is found
+pub named_so : (net : Net) (t : ℕ) (task : Task) (name : List ℕ) → slice_get net.tasks t ≡ Some task → task_number net name ≡ Some t → task.name ≡ name
+named_so net t task name at number =
+    let passes = (position-Some (λ (u : Task). bytes_eq u.name name) net.tasks t task number).1 in
+    (bytes_eq-Decides task.name name).0 (subst (λ (u : Task). bytes_eq u.name name ≡ true) (get_or_from_slice_get net.tasks t task task at) passes)

@@ -1,0 +1,132 @@
+-- What an event leads to, from what is done to the forest; and that one whose test fails leads nowhere.
+use Rattle.std.proofs.Common.{ap, subst, sym, ◌∙◌}
+use Rattle.std.specs.Prelude.{Bool, List, [], false, refl, true, ℕ, ◌≡◌}
+use Rattle.yw_accepted.proofs.Loaded.{accepted_are_sound}
+use Rattle.yw_cases.specs.Ended.{ended_of}
+use Rattle.yw_cases.specs.State.{MayStand, state_of}
+use Rattle.yw_cases.specs.Tried.{IsDone, IsTried, LeadsNowhere, Tries}
+use Rattle.yw_cases.specs.declared.standing.Standing.{Standing}
+use Rattle.yw_invariant.proofs.EventsWell.{event_keeps_well}
+use Rattle.yw_invariant.proofs.FromOpening.{opening_is_well}
+use Rattle.yw_known.specs.Names.{names_of}
+use Rattle.yw_library.specs.Holdings as library
+use Rattle.yw_library.specs.Holdings.{Holdings, with_library}
+use Rattle.yw_model.specs.Texts.{reader}
+use Rattle.yw_nest.specs.Cases.{with_ended}
+use Rattle.yw_nest.specs.Does.{Does}
+use Rattle.yw_nest.specs.Stands.{StandsWell}
+use Rattle.yw_plain.proofs.Keeping.{event_keeps}
+use Rattle.yw_plain.proofs.Started.{none_stays}
+use Rattle.yw_plain.proofs.Words as plain
+use Rattle.yw_plain.specs.Plain.{IsPlain, PlainWords, is_plain_event}
+use Rattle.yw_plain.specs.Worklets.{HasNoWorklet}
+use Rattle.yw_state.proofs.Tests.{never, nowhere}
+use Rattle.yw_state.specs.After.{with_next, with_sites}
+use Rattle.yw_state.specs.Allowed.{Allowed, allows}
+use Rattle.yw_state.specs.Events.{after}
+use Rattle.yw_state.specs.Map.{Map, empty, insert}
+use Rattle.yw_state.specs.State.{State, opening}
+use Rattle.yw_state.specs.Texts.{Said, Says, nothing}
+use Rattle.yw_state.specs.Well.{IsWell}
+use Rattle.yw_state.specs.declared.event.Event.{Event}
+use Rattle.yw_state.specs.declared.part.Way.{Way}
+use Rattle.yw_tree.specs.Forest.{IsForest, sites_of}
+use Rattle.yw_tree.specs.declared.Forest.{Forest}
+use Rattle.std.specs.Ordering.{nat_cmp}
+
+-- ---- what is so of the state
+
+pub next_is : (h : Standing) → (state_of h).next ≡ h.next
+unfolding with_library
+next_is h = refl
+
+module _ (old : Standing) (may : MayStand old) where
+  pub words_of : PlainWords (state_of old)
+  words_of = plain.words (state_of old) may.plain
+
+  pub stands_well : StandsWell (names_of old.known) old.forest (state_of old)
+  stands_well = record { boxed = may.held.boxed; sites = may.held.sites; numbers = may.held.well.numbers; nets = may.held.well.nets }
+
+  -- ---- after an event that is done
+
+  pub done_stands : (e : Event) (new : Standing) → is_plain_event e ≡ true → IsDone old e new → MayStand new
+  unfolding with_library
+  done_stands e new plain done =
+      record {
+        held = record {
+          library = refl;
+          boxed = done.boxed;
+          sites = refl;
+          well = event_keeps_well reader accepted_are_sound (state_of old) may.held.well e (state_of new) done.leads;
+        };
+        plain = subst IsPlain (sym done.leads.then) (event_keeps (state_of old) e done.leads.said may.plain plain);
+        no_worklet = subst HasNoWorklet (sym done.leads.then) (none_stays (state_of old) may.held.well.numbers may.held.well.nets may.held.well.parents e done.leads.said may.no_worklet plain done.leads.allowed);
+      }
+
+  -- ---- an event is done
+
+  pub done : (event : (ℕ → List ℕ) → Event) (Needs : (ℕ → List ℕ) → State → Type 0) (rest : State → State) (e : Event) (new : Standing)
+      → Does event Needs rest old.forest new.forest → Needs (names_of old.known) (state_of old) → event (names_of old.known) ≡ e
+      → with_sites (rest (state_of old)) (sites_of (names_of old.known) new.forest) ≡ state_of new → Says reader (state_of old) e nothing → Allowed (state_of old) e nothing
+      → IsDone old e new
+  done event Needs rest e new does needs same placed says allowed =
+      let names : ℕ → List ℕ = names_of old.known in
+      record {
+        leads = record {
+          said = nothing;
+          says = says;
+          allowed = allowed;
+          then = sym (ap (λ z. after (state_of old) z nothing) (sym same) ∙ does.leads names (state_of old) nothing may.held.sites needs ∙ placed);
+        };
+        boxed = does.boxed;
+      }
+
+-- ---- the state of what is kept, once parts of it are others
+
+module _ (old : Standing) (f : Forest) where
+  pub placed : with_sites (state_of old) (sites_of (names_of old.known) f) ≡ state_of (record old { forest = f })
+  unfolding with_library
+  placed = refl
+
+  pub placed_next : (k : ℕ) → with_sites (with_next (state_of old) k) (sites_of (names_of old.known) f) ≡ state_of (record old { forest = f; next = k })
+  unfolding with_library
+  placed_next k = refl
+
+  pub placed_over : (es : List (ℕ × Way)) (n : ℕ) (way : Way) → ended_of es ≡ insert (ended_of old.ended) n way
+      → with_sites (with_ended n way (state_of old)) (sites_of (names_of old.known) f) ≡ state_of (record old { forest = f; ended = es })
+  unfolding with_library
+  placed_over es n way put =
+      ap (λ (m : Map nat_cmp Way). with_library (record opening { next = old.next; sites = sites_of (names_of old.known) f; ended = m }) old.known) (sym put)
+
+-- ---- an event whose test fails
+
+pub fails : (old : Standing) (e : Event) → ((said : Said) → allows (state_of old) e said ≡ false) → LeadsNowhere old e
+fails old e test t leads = never (sym (test leads.said) ∙ leads.allowed.0)
+
+-- ---- all that is kept
+
+pub as_tried : (old : Standing) (e : Event) (leads : Bool) (new : Standing) → Tries old e leads new → IsTried old e leads new
+as_tried old e true new tried = tried.leads
+as_tried old e false new tried = tried
+
+pub tried_stands : (old : Standing) (may : MayStand old) (e : Event) (leads : Bool) (new : Standing) → is_plain_event e ≡ true → Tries old e leads new → MayStand new
+tried_stands old may e true new plain tried = done_stands old may e new plain tried
+tried_stands old may e false new plain tried = subst MayStand (sym tried.1) may
+
+opening_plain : IsPlain opening
+opening_plain = record { rules = refl; run = λ j x at. nowhere at; suspended = λ j x at. nowhere at; due = λ j x at. nowhere at }
+
+-- where nothing is kept
+pub opens : (known : Holdings) (f : Forest) → known ≡ library.nothing → ((names : ℕ → List ℕ) → sites_of names f ≡ empty)
+    → state_of (record { known = known; forest = f; ended = []; next = 1 }) ≡ opening
+unfolding with_library
+opens known f none sites = λ i. with_library (record opening { next = 1; sites = sites (names_of known) i; ended = empty }) (none i)
+
+pub opening_stands : (h : Standing) → state_of h ≡ opening → IsForest h.forest → MayStand h
+unfolding with_library
+opening_stands h is boxed =
+    record {
+      held = record { library = refl; boxed = boxed; sites = refl; well = subst (IsWell reader) (sym is) (opening_is_well reader) };
+      plain = subst IsPlain (sym is) opening_plain;
+      no_worklet = subst HasNoWorklet (sym is) (record { started = λ j x at. nowhere at });
+    }

@@ -1,0 +1,62 @@
+use Rattle.std.proofs.Common.{sym, ◌∙◌}
+use Rattle.yw_cases.proofs.EntryLaw.{is_entry, no_task, not_drawn, not_entered, not_taken}
+use Rattle.yw_cases.proofs.TaskHere.{no_name_no_task, no_net_no_task, no_number_no_task}
+use Rattle.yw_cases.proofs.entering.entry.Goals as goal
+use Rattle.yw_cases.specs.Entering.{candidate, stands_for}
+use Rattle.yw_cases.specs.State.{state_of}
+use Rattle.yw_tree.proofs.Removed.{within}
+use Rattle.yw_tree.specs.declared.NetState.{out-NetState}
+
+pub returns-in_default : goal.returns-in_default
+returns-in_default c = no_task c.args.standing.now c.requires c.args.at.now c.args.name.now c.args.places.now c.args.first c.args.count (no_net_no_task (state_of c.args.standing.now) c.args.at.now c.args.name.now (c.in_default.ensures _ c.requires.held))
+
+pub returns-in_default-task_called : goal.returns-in_default-task_called
+returns-in_default-task_called c =
+    no_task c.args.standing.now c.requires c.args.at.now c.args.name.now c.args.places.now c.args.first c.args.count
+    (no_name_no_task c.args.standing.now c.args.at.now c.in-Some.here (c.in-Some.ensures _ c.requires.held) c.args.name.now (sym c.in_default-task_called.ensures))
+
+pub returns-in_default-get : goal.returns-in_default-get
+returns-in_default-get c =
+    no_task c.args.standing.now c.requires c.args.at.now c.args.name.now c.args.places.now c.args.first c.args.count
+    (no_number_no_task c.args.standing.now c.args.at.now c.in-Some.here (c.in-Some.ensures _ c.requires.held) c.args.name.now c.in-Some-task_called.t (sym c.in-Some-task_called.ensures)
+    (sym c.in_default-get.ensures))
+
+pub may_be_entered-requires-clause-task : goal.may_be_entered-requires-clause-task
+may_be_entered-requires-clause-task c = within c.in-Some.here.net.now.tasks c.in-Some-task_called.t c.in-Some-get.task.now (sym c.in-Some-get.ensures)
+
+pub may_be_entered-requires-clause-few : goal.may_be_entered-requires-clause-few
+may_be_entered-requires-clause-few c = let here = c.in-Some.ensures (state_of c.args.standing.now) c.requires.held in here.within.few
+
+pub may_be_entered-requires-clause-upstream : goal.may_be_entered-requires-clause-upstream
+may_be_entered-requires-clause-upstream c = let here = c.in-Some.ensures (state_of c.args.standing.now) c.requires.held in here.upstream
+
+pub returns-in_default-may_be_entered : goal.returns-in_default-may_be_entered
+returns-in_default-may_be_entered c =
+    not_entered c.args.standing.now c.requires c.args.at.now c.args.name.now c.args.places.now c.args.first c.args.count c.in-Some.here (c.in-Some.ensures _ c.requires.held) c.in-Some-task_called.t
+    (sym c.in-Some-task_called.ensures) c.in-Some-get.task.now (sym c.in-Some-get.ensures)
+    (c.may_be_entered.ensures.none c.in_default-may_be_entered.is)
+
+pub returns-then-not-draws_items : goal.returns-then-not-draws_items
+returns-then-not-draws_items c =
+    not_drawn c.args.standing.now c.requires c.args.at.now c.args.name.now c.args.places.now c.args.first c.args.count c.in-Some.here (c.in-Some.ensures _ c.requires.held) c.in-Some-task_called.t
+    (sym c.in-Some-task_called.ensures) c.in-Some-get.task.now (sym c.in-Some-get.ensures)
+    (sym c.draws_items.ensures ∙ c.if-not-draws_items.true)
+
+pub returns-then-not-branch : goal.returns-then-not-branch
+returns-then-not-branch c =
+    let net = c.in-Some.here.net.now in
+    let marks = (out-NetState c.in-Some.here.state.now).marks in
+    let taken = c.candidate-taken.ensures ∙ (λ i. candidate c.in-Some-get.task.now.join net (c.as_slice.ensures i)) in
+    not_taken c.args.standing.now c.requires c.args.at.now c.args.name.now c.args.places.now c.args.first c.args.count c.in-Some.here (c.in-Some.ensures _ c.requires.held) c.in-Some-task_called.t
+    (sym c.in-Some-task_called.ensures) c.in-Some-get.task.now (sym c.in-Some-get.ensures)
+    (sym (λ i. stands_for net marks (c.as_slice-2.ensures i) (c.as_slice-3.ensures i) (taken i)) ∙ sym c.in_ok-stands_for.ensures ∙ c.if-not-branch.true)
+
+pub returns : goal.returns
+returns c =
+    let net = c.in-Some.here.net.now in
+    let marks = (out-NetState c.in-Some.here.state.now).marks in
+    let taken = c.candidate-taken.ensures ∙ (λ i. candidate c.in-Some-get.task.now.join net (c.as_slice.ensures i)) in
+    is_entry c.args.standing.now c.requires c.args.at.now c.args.name.now c.args.places.now c.args.first c.args.count c.in-Some.here (c.in-Some.ensures _ c.requires.held) c.in-Some-task_called.t
+    (sym c.in-Some-task_called.ensures) c.in-Some-get.task.now (sym c.in-Some-get.ensures)
+    c.in-Some-may_be_entered.field-0 c.in-Some-may_be_entered.ensures.some (sym c.draws_items.ensures ∙ c.if-not-draws_items.false)
+    (sym (λ i. stands_for net marks (c.as_slice-2.ensures i) (c.as_slice-3.ensures i) (taken i)) ∙ sym c.in_ok-stands_for.ensures ∙ c.if-not-branch.false) c.candidate-taken.result taken

@@ -1,0 +1,5 @@
+use Rattle.std.proofs.Common.{take, ◌≡◌}
+use Rattle.yw_cases.proofs.rows.copy_row.Given as goal
+
+abbrev pub invariant-loop-value : goal.invariant-loop-value
+invariant-loop-value l = (l.copy ≡ take l.value-index l.value-items) × (l.value-items ≡ l.row)

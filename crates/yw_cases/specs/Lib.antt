@@ -1,0 +1,11 @@
+pub mod Ended
+pub mod Rows
+pub mod Here
+pub mod Items
+pub mod State
+pub mod Tried
+pub mod Completing
+pub mod Steps
+pub mod Exiting
+pub mod Entering
+pub mod Adding

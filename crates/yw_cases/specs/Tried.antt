@@ -1,0 +1,28 @@
+-- Whether an event leads on, and what it leads to.
+use Rattle.std.specs.Prelude.{Bool, false, true, ◌≡◌}
+use Rattle.yw_cases.specs.State.{state_of}
+use Rattle.yw_cases.specs.declared.standing.Standing.{Standing}
+use Rattle.yw_model.specs.Texts.{reader}
+use Rattle.yw_state.specs.Events.{Leads}
+use Rattle.yw_state.specs.State.{State}
+use Rattle.yw_state.specs.declared.event.Event.{Event}
+use Rattle.yw_tree.specs.Forest.{IsForest}
+
+-- the event leads nowhere
+abbrev pub LeadsNowhere : Standing → Event → Type 0
+LeadsNowhere old e = (t : State) → Leads reader (state_of old) e t → ⊥
+
+-- the event is allowed and leads to the state that new stands for; or it leads nowhere, and nothing has changed
+abbrev pub IsTried : Standing → Event → Bool → Standing → Type 0
+IsTried old e true new = Leads reader (state_of old) e (state_of new)
+IsTried old e false new = LeadsNowhere old e × (new ≡ old)
+
+-- The event leads on, and the forest is well boxed.
+pub record IsDone (old : Standing) (e : Event) (new : Standing) : Type 0 where
+  pub leads : Leads reader (state_of old) e (state_of new)
+  pub boxed : IsForest new.forest
+
+-- the same, of what is kept as an event is done
+abbrev pub Tries : Standing → Event → Bool → Standing → Type 0
+Tries old e true new = IsDone old e new
+Tries old e false new = LeadsNowhere old e × (new ≡ old)

@@ -1,0 +1,186 @@
+// A task is entered.
+ghost use Rattle.std.specs.Prelude.{◌≡◌, ◌==◌, ◌&&◌, IfOk, MatchOption, filter};
+ghost use Rattle.yw_cases.specs.Entering.{IsEntry, candidate, counts, first_number, stands_for};
+ghost use Rattle.yw_cases.specs.State.{MayStand};
+ghost use Rattle.yw_cases.specs.Steps.{IsAnswer};
+ghost use Rattle.yw_cases.specs.Tried.{LeadsNowhere, Tries};
+ghost use Rattle.yw_enabled.specs.Entered.{item_count};
+ghost use Rattle.yw_mark.specs.Tokens.{is_marked};
+ghost use Rattle.yw_state.specs.Nets.{is_among};
+ghost use Rattle.yw_state.specs.declared.event.Event.TheVariants as events;
+
+use crate::here::known_net;
+use crate::places::{are_numbered, place_number};
+use crate::refusals::was_entered;
+use crate::standing::Standing;
+use crate::whole::NO_CHECKS;
+use std::alloc::{AllocError, Global};
+use yw_base::{Gate, Ident, Name, Row};
+use yw_enabled::may_be_entered;
+use yw_expr::view;
+use yw_known::{net_here, task_called};
+use yw_mark::{Taken, is_marked};
+use yw_spec::{Net, Place, PlaceList, Task};
+use yw_state::Marks;
+use yw_task::element_count;
+
+/// How many items an entry makes: one, or one for each element of the list over which the task runs. `None` where the list is undefined.
+fn item_count(task: &Task, vals: &Row) -> Option<usize>
+    ensures { result ≡ item_count task.now vals.now }
+{
+    match &task.many {
+        Some(many) => Some(element_count(view(&many.each, vals)?)),
+        None => Some(1),
+    }
+}
+
+/// An entry makes so many items, numbered from `first` on, which is drawn next.
+fn draws_items(task: &Task, vals: &Row, next: u64, first: u64, count: u32) -> bool
+    ensures { result ≡ (first == next && counts task.now vals.now count) }
+{
+    first == next && item_count(task, vals) == Some(count as usize)
+}
+
+/// The number of the first of these places, or 0.
+fn first_number(net: &Net, places: &[Place]) -> usize
+    ensures { result ≡ first_number net.now places.now }
+{
+    match places {
+        [] => 0,
+        [place, ..] => place_number(net, place).unwrap_or(0),
+    }
+}
+
+/// The choice of a join that may stand for these places.
+fn candidate(net: &Net, join: Gate, places: &[Place]) -> Taken
+    ensures { result ≡ candidate join net.now places.now }
+{
+    match join {
+        Gate::And => Taken::All,
+        Gate::Xor => Taken::One(first_number(net, places)),
+        Gate::Or => Taken::Marked,
+    }
+}
+
+/// It is one of these.
+fn is_among(places: &[usize], c: usize) -> bool
+    ensures { result ≡ is_among places.now c }
+{
+    places.iter().any(|place| c == *place)
+}
+
+/// Those of the places that are marked. An `Err` says that no memory was left.
+fn marked_among(alloc: Global, marks: &Marks, places: &[usize]) -> Result<Vec<usize>, AllocError>
+    ensures { IfOk result (λ marked. marked.items ≡ filter (is_marked marks.now) places.now) }
+{
+    places
+        .iter()
+        .copied()
+        .filter(|c| is_marked(marks, *c))
+        .collect(alloc)
+}
+
+/// The choice stands for exactly these places. An `Err` says that no memory was left.
+fn stands_for(
+    alloc: Global,
+    net: &Net,
+    marks: &Marks,
+    before: &[usize],
+    places: &[Place],
+    taken: Taken,
+) -> Result<bool, AllocError>
+    ensures { IfOk result (λ is. is ≡ stands_for net.now marks.now before.now places.now taken) }
+{
+    match taken {
+        Taken::All => Ok(are_numbered(net, places, before)),
+        Taken::One(c) => {
+            Ok(is_marked(marks, c) && is_among(before, c) && are_numbered(net, places, &[c]))
+        }
+        Taken::Marked => {
+            let marked = marked_among(alloc, marks, before)?;
+            Ok(are_numbered(net, places, &marked))
+        }
+    }
+}
+
+/// The number of the task and the choice of its join, where its entry is allowed. An `Err` says that no memory was left.
+fn entry(
+    alloc: Global,
+    standing: &Standing,
+    at: &Ident,
+    name: &Name,
+    places: &PlaceList,
+    first: u64,
+    count: u32,
+) -> Result<Option<(usize, Taken)>, AllocError>
+    requires { MayStand standing.now }
+    ensures { IfOk result (λ found. MatchOption found (LeadsNowhere standing.now (events.Enter at.now name.now places.now first count))
+        (IsEntry standing.now at.now name.now places.now first count)) }
+{
+    let Some(here) = net_here(&standing.known, &standing.forest, at) else {
+        return Ok(None);
+    };
+    let Some(t) = task_called(here.net, name) else {
+        return Ok(None);
+    };
+    let Some(task) = here.net.tasks.get(t) else {
+        return Ok(None);
+    };
+    let Some(_) = may_be_entered(here.net, here.state, here.up, t, standing.next) else {
+        return Ok(None);
+    };
+    if !draws_items(task, &here.state.vals, standing.next, first, count) {
+        return Ok(None);
+    }
+    let taken = candidate(here.net, task.join, places.as_slice());
+    if !stands_for(
+        alloc,
+        here.net,
+        &here.state.marks,
+        task.before.as_slice(),
+        places.as_slice(),
+        taken,
+    )? {
+        return Ok(None);
+    }
+    Ok(Some((t, taken)))
+}
+
+/// A task is entered, and so many items come, numbered from `first` on, where that is allowed.
+pub fn try_enter(
+    alloc: Global,
+    standing: &mut Standing,
+    at: &Ident,
+    name: &Name,
+    places: &PlaceList,
+    first: u64,
+    count: u32,
+) -> Result<bool, AllocError>
+    requires { MayStand standing.old }
+    ensures { IfOk result (λ leads. Tries standing.old (events.Enter at.now name.now places.now first count) leads standing.new) }
+{
+    // No work is done here: this says that a task may get items.
+    yw_steps::laws::task_may_grow();
+    let Some((t, taken)) = entry(alloc, standing, at, name, places, first, count)? else {
+        return Ok(false);
+    };
+    let Some(found) = known_net(&standing.known, &standing.forest, at) else {
+        return Ok(false);
+    };
+    let step = yw_steps::enter(
+        alloc,
+        &mut standing.forest,
+        found.net,
+        found.up,
+        at,
+        t,
+        taken,
+        first,
+        NO_CHECKS,
+    );
+    if !was_entered(step)? {
+        return Ok(false);
+    }
+    standing.next = first + count as u64;
+    Ok(true)
+}

@@ -1,0 +1,85 @@
+// A task exits.
+ghost use Rattle.std.specs.Prelude.{◌≡◌, IfOk, MatchOption};
+ghost use Rattle.yw_cases.specs.Exiting.{IsExit, IsSplitTo};
+ghost use Rattle.yw_cases.specs.State.{MayStand};
+ghost use Rattle.yw_cases.specs.Tried.{LeadsNowhere, Tries};
+ghost use Rattle.yw_state.specs.declared.event.Event.TheVariants as events;
+
+use crate::here::known_net;
+use crate::places::are_numbered;
+use crate::standing::Standing;
+use std::alloc::{AllocError, Global};
+use yw_base::{Ident, Name};
+use yw_enabled::may_be_left;
+use yw_known::{net_here, task_called};
+use yw_mark::split_places;
+use yw_spec::{Net, PlaceList, Task};
+use yw_task::{items_in, kept_values};
+use yw_tree::NetState;
+
+/// A token comes to exactly these places where the task with number `t` exits. An `Err` says that no memory was left.
+fn splits_to(
+    alloc: Global,
+    net: &Net,
+    state: &NetState,
+    t: usize,
+    task: &Task,
+    places: &PlaceList,
+) -> Result<bool, AllocError>
+    ensures { IfOk result (λ is. is ≡ IsSplitTo net.now state.now t task.now places.now) }
+{
+    let values = kept_values(alloc, task, items_in(state, t), &state.vals)?;
+    let numbers = split_places(alloc, task, &values)?;
+    Ok(are_numbered(net, places.as_slice(), numbers.as_slice()))
+}
+
+/// The number of the task, where its exit to these places is allowed. An `Err` says that no memory was left.
+fn exiting_task(
+    alloc: Global,
+    standing: &Standing,
+    at: &Ident,
+    name: &Name,
+    places: &PlaceList,
+) -> Result<Option<usize>, AllocError>
+    requires { MayStand standing.now }
+    ensures { IfOk result (λ task. MatchOption task (LeadsNowhere standing.now (events.Exit at.now name.now places.now))
+        (IsExit standing.now at.now name.now places.now)) }
+{
+    let Some(here) = net_here(&standing.known, &standing.forest, at) else {
+        return Ok(None);
+    };
+    let Some(t) = task_called(here.net, name) else {
+        return Ok(None);
+    };
+    let Some(task) = here.net.tasks.get(t) else {
+        return Ok(None);
+    };
+    if !may_be_left(alloc, here.net, here.state, t)? {
+        return Ok(None);
+    }
+    if !splits_to(alloc, here.net, here.state, t, task, places)? {
+        return Ok(None);
+    }
+    Ok(Some(t))
+}
+
+/// A task exits, and a token comes to each of these places, where that is allowed.
+pub fn try_exit(
+    alloc: Global,
+    standing: &mut Standing,
+    at: &Ident,
+    name: &Name,
+    places: &PlaceList,
+) -> Result<bool, AllocError>
+    requires { MayStand standing.old }
+    ensures { IfOk result (λ leads. Tries standing.old (events.Exit at.now name.now places.now) leads standing.new) }
+{
+    let Some(t) = exiting_task(alloc, standing, at, name, places)? else {
+        return Ok(false);
+    };
+    let Some(found) = known_net(&standing.known, &standing.forest, at) else {
+        return Ok(false);
+    };
+    let _numbers = yw_steps::exit(alloc, &mut standing.forest, found.net, at, t, false)?;
+    Ok(true)
+}

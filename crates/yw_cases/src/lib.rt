@@ -1,0 +1,23 @@
+//! Persons, specifications and cases as one, and each event, which is done where it is allowed. The README of the crate says which clause proves
+//! what.
+#![tactic(auto)]
+
+mod adding;
+mod cases;
+mod completing;
+mod ended;
+mod entering;
+mod event;
+mod exiting;
+mod here;
+mod items;
+mod library;
+mod places;
+mod refusals;
+mod rows;
+mod standing;
+mod whole;
+
+pub use cases::Cases;
+pub use ended::EndedTable;
+pub use standing::Standing;

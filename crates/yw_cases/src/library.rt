@@ -1,0 +1,47 @@
+// Persons, and specifications that are loaded.
+ghost use Rattle.std.specs.Prelude.{◌≡◌, IfOk};
+ghost use Rattle.yw_cases.specs.State.{MayStand};
+ghost use Rattle.yw_cases.specs.Tried.{Tries};
+ghost use Rattle.yw_state.specs.Allowed.{are_roles};
+ghost use Rattle.yw_state.specs.declared.event.Event.TheVariants as events;
+
+use crate::standing::Standing;
+use std::alloc::{AllocError, Global};
+use yw_base::{Name, NameList};
+use yw_library::copy_of_names;
+
+const MOST_ROLES: usize = 64;
+
+/// A person may have these roles: at most 64, and none twice.
+fn are_roles(roles: &NameList) -> bool
+    ensures { result ≡ are_roles roles.now }
+{
+    roles.len() <= MOST_ROLES && roles.are_distinct()
+}
+
+/// Sets a person's roles, where a person may have them.
+pub fn try_person(
+    alloc: Global,
+    standing: &mut Standing,
+    name: &Name,
+    roles: &NameList,
+) -> Result<bool, AllocError>
+    requires { MayStand standing.old }
+    ensures { IfOk result (λ leads. Tries standing.old (events.Person name.now roles.now) leads standing.new) }
+{
+    if !are_roles(roles) {
+        return Ok(false);
+    }
+    let copies = copy_of_names(alloc, roles.as_slice())?;
+    standing.known.person(name.copy()?, copies)?;
+    Ok(true)
+}
+
+/// Loads the specification that a text says under this name, where that is allowed.
+pub fn try_load(standing: &mut Standing, name: &Name, text: &str) -> Result<bool, AllocError>
+    requires { MayStand standing.old }
+    ensures { IfOk result (λ leads. Tries standing.old (events.Load name.now text.now) leads standing.new) }
+{
+    let leads = standing.known.load_as(name, text)?;
+    Ok(leads)
+}

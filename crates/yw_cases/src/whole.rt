@@ -1,0 +1,129 @@
+// Cases that begin, and that are over.
+ghost use Rattle.std.specs.Prelude.{◌≡◌, IfOk};
+ghost use Rattle.yw_cases.specs.Rows.{may_begin};
+ghost use Rattle.yw_cases.specs.State.{MayStand, state_of};
+ghost use Rattle.yw_cases.specs.Tried.{Tries};
+ghost use Rattle.yw_spec.specs.declared.spec.Net.{Net};
+ghost use Rattle.yw_state.specs.Allowed.{launch_fits};
+ghost use Rattle.yw_state.specs.Identity.{case_ident};
+ghost use Rattle.yw_state.specs.Joins.{at_output};
+ghost use Rattle.yw_state.specs.Nets.{top_net};
+ghost use Rattle.yw_state.specs.Options.{is_some_and};
+ghost use Rattle.yw_state.specs.State.{is_case};
+ghost use Rattle.yw_state.specs.declared.event.Event.TheVariants as events;
+
+use crate::here::{draws, net_at_output};
+use crate::rows::{copy_row, launch_fits};
+use crate::standing::Standing;
+use std::alloc::{AllocError, Global};
+use yw_base::{Ident, Name, Row};
+use yw_spec::Spec;
+use yw_state::{Checks, Way};
+
+/// No check is due: no tree has a rule.
+pub const NO_CHECKS: Checks = Checks {
+    pre: false,
+    select: false,
+    post: false,
+};
+
+/// A case of the specification may begin with these values.
+fn begins_with(spec: &Spec, values: &Row) -> bool
+    ensures { result ≡ is_some_and (top_net spec.now) (λ (net : Net). launch_fits net.vars values.now) }
+{
+    match spec.nets.get(spec.top) {
+        Some(net) => launch_fits(net.vars.as_slice(), values.as_slice()),
+        None => false,
+    }
+}
+
+/// It may begin with them under this number, where that of `next` is drawn next.
+fn may_begin(spec: &Spec, next: u64, n: u64, values: &Row) -> bool
+    ensures { result ≡ may_begin spec.now next n values.now }
+{
+    draws(next, n, 1) && begins_with(spec, values)
+}
+
+/// Begins a case, where that is allowed.
+pub fn try_launch(
+    alloc: Global,
+    standing: &mut Standing,
+    n: u64,
+    name: &Name,
+    values: &Row,
+) -> Result<bool, AllocError>
+    requires { MayStand standing.old }
+    ensures { IfOk result (λ leads. Tries standing.old (events.Launch n name.now values.now) leads standing.new) }
+{
+    let Some((spec, number)) = standing.known.spec_named(name) else {
+        return Ok(false);
+    };
+    if !may_begin(spec, standing.next, n, values) {
+        return Ok(false);
+    }
+    let copy = copy_row(alloc, values)?;
+    yw_nest::launch(
+        alloc,
+        &mut standing.forest,
+        spec,
+        number,
+        n,
+        copy,
+        NO_CHECKS,
+    )?;
+    standing.next = n + 1;
+    Ok(true)
+}
+
+/// The net of the case with this number is at its end. An `Err` says that no memory was left.
+fn case_at_output(alloc: Global, standing: &Standing, n: u64) -> Result<bool, AllocError>
+    requires { MayStand standing.now }
+    ensures { IfOk result (λ ends. ends ≡ at_output (state_of standing.now) (case_ident n)) }
+{
+    match Ident::from_numbers(vec![in alloc; n]?) {
+        Some(at) => Ok(net_at_output(&standing.known, &standing.forest, &at)),
+        None => Ok(false),
+    }
+}
+
+/// Finishes a case, where that is allowed.
+pub fn try_finish(alloc: Global, standing: &mut Standing, n: u64) -> Result<bool, AllocError>
+    requires { MayStand standing.old }
+    ensures { IfOk result (λ leads. Tries standing.old (events.Finish n) leads standing.new) }
+{
+    if !case_at_output(alloc, standing, n)? {
+        return Ok(false);
+    }
+    standing.ended.put(n, Way::Finished)?;
+    yw_nest::finish(&mut standing.forest, n);
+    Ok(true)
+}
+
+/// A case of this number stands.
+fn case_stands(standing: &Standing, n: u64) -> bool
+    requires { MayStand standing.now }
+    ensures { result ≡ is_case (state_of standing.now) (case_ident n) }
+{
+    standing.forest.case(n).is_some()
+}
+
+/// Cancels a case, where one of this number stands.
+pub fn try_cancel(standing: &mut Standing, n: u64) -> Result<bool, AllocError>
+    requires { MayStand standing.old }
+    ensures { IfOk result (λ leads. Tries standing.old (events.Cancel n) leads standing.new) }
+{
+    if !case_stands(standing, n) {
+        return Ok(false);
+    }
+    standing.ended.put(n, Way::Cancelled)?;
+    yw_nest::cancel(&mut standing.forest, n);
+    Ok(true)
+}
+
+/// A case of this number stands, so that what follows of itself may come. Nothing changes.
+pub fn may_advance(standing: &Standing, n: u64) -> bool
+    requires { MayStand standing.now }
+    ensures { Tries standing.now (events.Advance n) result standing.now }
+{
+    case_stands(standing, n)
+}

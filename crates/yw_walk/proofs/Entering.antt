@@ -1,0 +1,171 @@
+-- A task that may be entered by no person is entered by the event that is made of it.
+use Rattle.std.proofs.Common.{List, None, Option, Some, [], ap, false, length, map, refl, subst, suc, sym, true, ⊎_elim, ℕ, ◌+◌, ◌∙◌, ◌∷◌, ◌≡◌, ◌≤◌}
+use Rattle.std.proofs.lemmas.Bool.{and_parts, leb-true}
+use Rattle.std.proofs.lemmas.Option.{slice_get_within}
+use Rattle.std.specs.Prelude.{nat_le, not, option_map, slice_get, unwrap_or, ◌&&◌}
+use Rattle.yw_base.specs.Identity.{number_end}
+use Rattle.yw_base.specs.declared.value.Value.{Value}
+use Rattle.yw_enabled.proofs.Coming.{enter_comes}
+use Rattle.yw_enabled.proofs.FreeItems.{task_is}
+use Rattle.yw_enabled.specs.Entered.{EntersFirst, EntersFrom}
+use Rattle.yw_enabled.specs.Free.{MayDraw}
+use Rattle.yw_expr.specs.Meaning.{val}
+use Rattle.yw_known.specs.declared.here.NetHere.{NetHere}
+use Rattle.yw_mark.specs.Taking.{OfTask, taken_places}
+use Rattle.yw_mark.specs.declared.join.Taken.{Taken}
+use Rattle.yw_spec.specs.declared.spec.Net.{Net}
+use Rattle.yw_spec.specs.declared.spec.Place.{Place}
+use Rattle.yw_spec.specs.declared.task.Many.{Many}
+use Rattle.yw_spec.specs.declared.task.Task.{Task}
+use Rattle.yw_state.proofs.Tests.{map_some, never, some_same, then_some, there_and}
+use Rattle.yw_state.specs.Automatic.{Comes}
+use Rattle.yw_state.specs.Identity.{Ident, case_number}
+use Rattle.yw_state.specs.Joins.{has_tokens}
+use Rattle.yw_state.specs.Judged.{is_manual}
+use Rattle.yw_state.specs.Nets.{is_atomic}
+use Rattle.yw_state.specs.Options.{all_of, is_some_and}
+use Rattle.yw_state.specs.Passing.{elements_for, entry_values, given_values, within_bounds}
+use Rattle.yw_state.specs.State.{State, TaskAt}
+use Rattle.yw_state.specs.Values.{Row}
+use Rattle.yw_state.specs.Words.{active, clear}
+use Rattle.yw_state.specs.declared.event.Event.{Event}
+use Rattle.yw_state.specs.declared.event.Event.TheVariants as events
+use Rattle.yw_still.specs.Still.{can_be_entered, may_be_made, task_numbered}
+use Rattle.yw_task.proofs.EnterAsk.{net_with}
+use Rattle.yw_task.specs.Giving.{elements, entry_rows}
+use Rattle.yw_tree.specs.declared.Forest.{Forest}
+use Rattle.yw_tree.specs.declared.NetState.{NetState, out-NetState}
+use Rattle.yw_walk.proofs.Leaving.{task_there}
+use Rattle.yw_walk.proofs.Numbered.{are_numbered}
+use Rattle.yw_walk.specs.Finds.{ComesPlainly, FindsEntered, IsEntry}
+use Rattle.yw_walk.specs.Places.{places_numbered}
+use Rattle.yw_within.proofs.Finding.{element_at}
+use Rattle.yw_within.specs.Within.{HoldsWithin}
+
+-- ---- how many items
+
+as_long : {A B : Type 0} (f : A → Option B) (xs : List A) (ys : List B) → all_of (map f xs) ≡ Some ys → length ys ≡ length xs
+as_long f [] ys e = ap length (sym (some_same [] ys e))
+as_long {A} {B} f (x ∷ xs) ys e =
+    let y = then_some (λ (z : B). option_map (λ zs. z ∷ zs) (all_of (map f xs))) (f x) ys e in
+    let rest = map_some (λ zs. y.0 ∷ zs) (all_of (map f xs)) ys y.2 in
+    ap length (sym rest.2) ∙ ap (λ k. suc k) (as_long f xs rest.0 rest.1)
+
+-- one for each element
+rows_long : (t : Task) (vals : Row) (rows : List Row) → entry_values t vals ≡ Some rows
+    → option_map (λ (es : List (Option Value)). length es) (elements_for t.many vals) ≡ Some (length rows)
+rows_long t vals rows e =
+    let es = then_some (λ (os : List (Option Value)). all_of (map (given_values t vals) os)) (elements_for t.many vals) rows e in
+    ap (option_map (λ (os : List (Option Value)). length os)) es.1 ∙ ap (λ k. Some k) (sym (as_long (given_values t vals) es.0 rows es.2))
+
+length_somes : (vs : List Value) → length (map (λ (v : Value). Some v) vs) ≡ length vs
+length_somes [] = refl
+length_somes (v ∷ vs) = ap (λ k. suc k) (length_somes vs)
+
+-- the elements of a list, where there is one
+pub list_counts : (task : Task) (vals : Row) (m : Many) (v : Value) → task.many ≡ Some m → Some v ≡ val m.each vals → (rows : List Row)
+    → entry_values task vals ≡ Some rows → within_bounds task.many (length rows) ≡ true
+    → (length (elements v) ≡ length rows) × (length rows ≤ m.max)
+list_counts task vals m v many is rows made within =
+    let long = rows_long task vals rows made in
+    let by_list : option_map (λ (es : List (Option Value)). length es) (elements_for task.many vals) ≡ Some (length (elements v)) =
+    ap (λ o. option_map (λ (es : List (Option Value)). length es) (elements_for o vals)) many
+    ∙ ap (λ o. option_map (λ (es : List (Option Value)). length es) (option_map (λ w. map (λ (z : Value). Some z) (elements w)) o)) (sym is)
+    ∙ ap (λ k. Some k) (length_somes (elements v)) in
+    let bounds = and_parts (nat_le m.min (length rows)) (nat_le (length rows) m.max)
+    (ap (λ o. within_bounds o (length rows)) (sym many) ∙ within) in
+    (some_same (length (elements v)) (length rows) (sym by_list ∙ long), leb-true (length rows) m.max bounds.1)
+
+-- the number of a row, as it is counted
+abbrev counted : State → TaskAt → ℕ → Type 0
+counted s x count =
+    (rows : List Row) → entry_values x.task x.within.part.vals ≡ Some rows → within_bounds x.task.many (length rows) ≡ true
+    → count ≡ length rows
+
+counts_rows : (s : State) (i : Ident) (x : TaskAt) (count : ℕ) → can_be_entered s i x ≡ true → counted s x count
+    → length (entry_rows x.task x.within.part.vals) ≡ count
+counts_rows s i x count may counts =
+    let made = and_parts (clear s i && not (active s i x.number) && has_tokens x.task.join s i x.task.before)
+    (is_some_and (entry_values x.task x.within.part.vals) (may_be_made s x)) may in
+    let r = there_and (entry_values x.task x.within.part.vals) (may_be_made s x) made.1 in
+    let bounds = and_parts (within_bounds x.task.many (length r.0)) (nat_le (s.next + length r.0) number_end) r.2 in
+    ap (λ o. length (unwrap_or o [])) r.1 ∙ sym (counts r.0 r.1 bounds.0)
+
+-- ---- the entry
+
+abbrev enter_as : Ident → ℕ → ℕ → Taken → TaskAt → Event
+enter_as i next count taken x =
+    events.Enter i x.task.name (places_numbered x.within.net (taken_places x.within.part.tokens x.task.before taken)) next count
+
+-- of the task that is the same, and from places that are those with the numbers
+moved : (s : State) (i : Ident) (taken : Taken) (z w : TaskAt) (ps : List Place) → z ≡ w
+    → places_numbered z.within.net (taken_places z.within.part.tokens z.task.before taken) ≡ ps
+    → Comes s (case_number i) (events.Enter i z.task.name ps s.next (length (entry_rows z.task z.within.part.vals)))
+    → Comes s (case_number i) (enter_as i s.next (length (entry_rows w.task w.within.part.vals)) taken w)
+moved s i taken z w ps same named comes =
+    subst (λ (v : TaskAt). Comes s (case_number i) (enter_as i s.next (length (entry_rows v.task v.within.part.vals)) taken v)) same
+    (subst (λ qs. Comes s (case_number i) (events.Enter i z.task.name qs s.next (length (entry_rows z.task z.within.part.vals))))
+    (sym named) comes)
+
+module _ (net : Net) (state : NetState) (i : Ident) (next : ℕ) where
+  pub is_entry : (t : ℕ) (task : Task) (taken : Taken) (count : ℕ) → slice_get net.tasks t ≡ Some task
+      → ((rows : List Row) → entry_values task (out-NetState state).vals ≡ Some rows → within_bounds task.many (length rows) ≡ true
+      → count ≡ length rows)
+      → (names : ℕ → List ℕ) (f : Forest) (s : State) (x : TaskAt) → MayDraw names f s i net state next → HoldsWithin s
+      → task_numbered s i t ≡ Some x → is_manual s x ≡ false
+      → EntersFrom s i x (taken_places (out-NetState state).marks x.task.before taken)
+      → ComesPlainly s (case_number i)
+      (events.Enter i task.name (places_numbered net (taken_places (out-NetState state).marks task.before taken)) next count)
+  is_entry t task taken count at counts names f s x draw holds is kind enters =
+      let y : TaskAt = record { number = t; task = task; within = net_with names net state } in
+      let its : x ≡ y = some_same x y (sym is ∙ task_there names f s i net state draw.free.stands t task at) in
+      let enters_y : EntersFrom s i y (taken_places (out-NetState state).marks task.before taken) = subst
+      (λ (z : TaskAt). EntersFrom s i z (taken_places (out-NetState state).marks z.task.before taken)) its enters in
+      let r = enter_comes s holds i t y (task_there names f s i net state draw.free.stands t task at) taken
+      (ap (is_manual s) (sym its) ∙ kind) enters_y in
+      let same : r.of_task ≡ y = some_same r.of_task y (sym r.numbered ∙ task_there names f s i net state draw.free.stands t task at) in
+      let named = are_numbered r.of_task.within.net r.places
+      (taken_places r.of_task.within.part.tokens r.of_task.task.before taken) r.takes in
+      let comes : Comes s (case_number i) (enter_as i s.next (length (entry_rows task (out-NetState state).vals)) taken y) =
+      moved s i taken r.of_task y r.places same named r.comes in
+      record {
+        comes = subst (λ k. Comes s (case_number i) (enter_as i next k taken y)) (counts_rows s i y count enters_y.may counts)
+            (subst (λ n. Comes s (case_number i)
+            (enter_as i n (length (entry_rows task (out-NetState state).vals)) taken y)) draw.next comes);
+        plain = λ no. refl;
+      }
+
+  -- and so by each that has these fields
+  pub made_entry : (t : ℕ) (task : Task) (taken : Taken) (count : ℕ) → slice_get net.tasks t ≡ Some task
+      → (j name : List ℕ) (numbers : List ℕ) (places : List Place) → j ≡ i → name ≡ task.name
+      → numbers ≡ taken_places (out-NetState state).marks task.before taken → places ≡ places_numbered net numbers
+      → ((rows : List Row) → entry_values task (out-NetState state).vals ≡ Some rows → within_bounds task.many (length rows) ≡ true
+      → count ≡ length rows)
+      → (names : ℕ → List ℕ) (f : Forest) (s : State) (x : TaskAt) → MayDraw names f s i net state next → HoldsWithin s
+      → task_numbered s i t ≡ Some x → is_manual s x ≡ false
+      → EntersFrom s i x (taken_places (out-NetState state).marks x.task.before taken)
+      → ComesPlainly s (case_number i) (events.Enter j name places next count)
+  made_entry t task taken count at j name numbers places its_net its_name its_numbers its_places counts =
+      λ names f s x draw holds is kind enters.
+      let whole = its_places ∙ ap (places_numbered net) its_numbers in
+      subst (ComesPlainly s (case_number i)) (λ k. events.Enter (sym its_net k) (sym its_name k) (sym whole k) next count)
+      (is_entry t task taken count at counts names f s x draw holds is kind enters)
+
+pub finds_entered : (h : NetHere) (i : Ident) (next t : ℕ) (taken : Taken) (e : Event)
+    → EntersFirst h.net.now h.state.now next (Some (t, taken)) → IsEntry h i next t taken e → FindsEntered h i next (Some e)
+finds_entered h i next t taken e first entry = λ names f s draw holds manual.
+    let (task, at) = element_at h.net.now.tasks t first.below in
+    let x : TaskAt = record { number = t; task = task; within = net_with names h.net.now h.state.now } in
+    let is = task_there names f s i h.net.now h.state.now draw.free.stands t task at in
+    entry names f s x draw holds is (manual x ∙ first.comes.kind task at) (first.comes.enters names f s i x draw is)
+
+pub finds_none_entered : (h : NetHere) (i : Ident) (next : ℕ) → EntersFirst h.net.now h.state.now next None → FindsEntered h i next None
+finds_none_entered h i next none = λ names f s draw holds manual k x is may.
+    let y = task_is names f s i h.net.now h.state.now draw.free k x is in
+    let parts = and_parts (not (is_manual s x)) (can_be_entered s i x) may in
+    ⊎_elim
+    (λ (atomic : OfTask h.net.now k (λ task. is_atomic task ≡ true)).
+    let kind : is_manual s x ≡ true = manual x ∙ ap (λ (z : TaskAt). is_atomic z.task) (sym y.2) ∙ atomic y.0 y.1 in
+    never (ap not (sym kind) ∙ parts.0))
+    (λ out. out names f s i x draw is parts.1)
+    (none k (slice_get_within h.net.now.tasks k y.0 y.1))

@@ -1,0 +1,96 @@
+-- A task that may be left is left by the event that is made of it.
+use Rattle.std.proofs.Common.{List, None, Some, ap, refl, subst, sym, true, ℕ, ◌∙◌, ◌≡◌}
+use Rattle.std.proofs.lemmas.Option.{slice_get_within}
+use Rattle.std.specs.Prelude.{option_and_then, option_map, slice_get}
+use Rattle.yw_enabled.proofs.Coming.{exit_comes}
+use Rattle.yw_enabled.proofs.FreeItems.{task_is}
+use Rattle.yw_enabled.specs.Free.{StandsFree}
+use Rattle.yw_enabled.specs.Left.{LeavesFirst}
+use Rattle.yw_known.specs.declared.here.NetHere.{NetHere}
+use Rattle.yw_spec.specs.declared.spec.Net.{Net}
+use Rattle.yw_spec.specs.declared.spec.Place.{Place}
+use Rattle.yw_spec.specs.declared.task.Task.{Task}
+use Rattle.yw_state.proofs.Tests.{some_same}
+use Rattle.yw_state.specs.Allowed.{exit_values}
+use Rattle.yw_state.specs.Automatic.{Comes}
+use Rattle.yw_state.specs.Identity.{Ident, case_number}
+use Rattle.yw_state.specs.Passing.{kept_values, made_rows, split_places}
+use Rattle.yw_state.specs.State.{NetAt, State, TaskAt, task_in}
+use Rattle.yw_state.specs.Values.{Row}
+use Rattle.yw_state.specs.declared.event.Event.{Event}
+use Rattle.yw_state.specs.declared.event.Event.TheVariants as events
+use Rattle.yw_still.specs.Still.{is_leaving, task_numbered}
+use Rattle.yw_task.proofs.EnterAsk.{its_items, its_net, net_with}
+use Rattle.yw_task.proofs.MadeLaw.{made_rows_are}
+use Rattle.yw_task.specs.Making.{rows_made}
+use Rattle.yw_task.specs.Standing.{NetStands}
+use Rattle.yw_tree.specs.Shows.{items_in}
+use Rattle.yw_tree.specs.declared.Forest.{Forest}
+use Rattle.yw_tree.specs.declared.NetState.{NetState, out-NetState}
+use Rattle.yw_walk.proofs.Numbered.{are_numbered}
+use Rattle.yw_walk.specs.Finds.{ComesPlainly, FindsLeft, IsExit}
+use Rattle.yw_walk.specs.Places.{places_numbered}
+use Rattle.yw_within.proofs.Finding.{element_at}
+use Rattle.yw_within.specs.Within.{HoldsWithin}
+
+-- the exit of a task, to the places of its split
+abbrev exit_as : State → Ident → TaskAt → Event
+exit_as s i x = events.Exit i x.task.name (places_numbered x.within.net (split_places x.task (exit_values s i x)))
+
+-- the task with this number, in a net that stands
+pub task_there : (names : ℕ → List ℕ) (f : Forest) (s : State) (i : Ident) (net : Net) (state : NetState) → NetStands names f s i net state
+    → (t : ℕ) (task : Task) → slice_get net.tasks t ≡ Some task
+    → task_numbered s i t ≡ Some (record { number = t; task = task; within = net_with names net state })
+task_there names f s i net state h t task at =
+    ap (option_and_then (λ (n : NetAt). task_in n t)) (its_net names f s i net state h)
+    ∙ ap (option_map (λ (u : Task). record { number = t; task = u; within = net_with names net state })) at
+
+module _ (net : Net) (state : NetState) (i : Ident) where
+  pub is_exit : (t : ℕ) (task : Task) → slice_get net.tasks t ≡ Some task → (names : ℕ → List ℕ) (f : Forest) (s : State) (x : TaskAt)
+      → StandsFree names f s i net state → HoldsWithin s
+      → task_numbered s i t ≡ Some x → is_leaving s i x ≡ true
+      → ComesPlainly s (case_number i)
+      (events.Exit i task.name
+      (places_numbered net (split_places task (kept_values task (rows_made (items_in state t)) (out-NetState state).vals))))
+  is_exit t task at names f s x free holds is may =
+      let r = exit_comes s holds i t x is may in
+      let same : r.of_task ≡ x = some_same r.of_task x (sym r.numbered ∙ is) in
+      let named = are_numbered r.of_task.within.net r.places (split_places r.of_task.task (exit_values s i r.of_task)) r.puts in
+      let comes : Comes s (case_number i) (exit_as s i x) =
+      subst (λ (z : TaskAt). Comes s (case_number i) (exit_as s i z)) same
+      (subst (λ ps. Comes s (case_number i) (events.Exit i r.of_task.task.name ps)) (sym named) r.comes) in
+      let y : TaskAt = record { number = t; task = task; within = net_with names net state } in
+      let its : x ≡ y = some_same x y (sym is ∙ task_there names f s i net state free.stands t task at) in
+      let values : exit_values s i y ≡ kept_values task (rows_made (items_in state t)) (out-NetState state).vals =
+      ap (λ es. kept_values task (made_rows es) (out-NetState state).vals) (its_items names f s i net state free.stands t)
+      ∙ ap (λ rows. kept_values task rows (out-NetState state).vals) (made_rows_are (items_in state t)) in
+      let event : exit_as s i x ≡ events.Exit i task.name
+      (places_numbered net (split_places task (kept_values task (rows_made (items_in state t)) (out-NetState state).vals))) =
+      ap (exit_as s i) its ∙ ap (λ (vals : Row). events.Exit i task.name (places_numbered net (split_places task vals))) values in
+      record { comes = subst (Comes s (case_number i)) event comes; plain = λ no. refl }
+
+  -- and so by each that has these fields
+  pub made_exit : (t : ℕ) (task : Task) → slice_get net.tasks t ≡ Some task → (j name : List ℕ) (numbers : List ℕ) (places : List Place)
+      → j ≡ i → name ≡ task.name
+      → numbers ≡ split_places task (kept_values task (rows_made (items_in state t)) (out-NetState state).vals)
+      → places ≡ places_numbered net numbers
+      → (names : ℕ → List ℕ) (f : Forest) (s : State) (x : TaskAt) → StandsFree names f s i net state → HoldsWithin s
+      → task_numbered s i t ≡ Some x → is_leaving s i x ≡ true
+      → ComesPlainly s (case_number i) (events.Exit j name places)
+  made_exit t task at j name numbers places its_net its_name its_numbers its_places = λ names f s x free holds is may.
+      let whole = its_places ∙ ap (places_numbered net) its_numbers in
+      subst (ComesPlainly s (case_number i)) (λ k. events.Exit (sym its_net k) (sym its_name k) (sym whole k))
+      (is_exit t task at names f s x free holds is may)
+
+pub finds_left : (h : NetHere) (i : Ident) (t : ℕ) (e : Event) → LeavesFirst h.net.now h.state.now (Some t) → IsExit h i t e
+    → FindsLeft h i (Some e)
+finds_left h i t e first exit = λ names f s free holds.
+    let (task, at) = element_at h.net.now.tasks t first.below in
+    let x : TaskAt = record { number = t; task = task; within = net_with names h.net.now h.state.now } in
+    let is = task_there names f s i h.net.now h.state.now free.stands t task at in
+    exit names f s x free holds is (first.leaves names f s i x free is)
+
+pub finds_none_left : (h : NetHere) (i : Ident) → LeavesFirst h.net.now h.state.now None → FindsLeft h i None
+finds_none_left h i none = λ names f s free holds k x is.
+    let y = task_is names f s i h.net.now h.state.now free k x is in
+    none k (slice_get_within h.net.now.tasks k y.0 y.1) names f s i x free is

@@ -1,0 +1,6 @@
+mod Numbered
+mod Leaving
+mod Entering
+mod Stepping
+mod NetThere
+mod AllStill

@@ -1,0 +1,126 @@
+-- What comes of itself at one identity, and in a case: found, or nothing.
+use Rattle.std.specs.List.{All, Contains}
+use Rattle.std.specs.Prelude.{◌≡◌, ◌↔◌, ℕ, Bool, IsTrue, List, MatchOption, Option, Some, true, false}
+use Rattle.yw_base.specs.Gates.{is_or}
+use Rattle.yw_enabled.specs.Entered.{EntersFrom}
+use Rattle.yw_enabled.specs.Free.{MayDraw, StandsFree}
+use Rattle.yw_known.specs.Held.{IsHeld}
+use Rattle.yw_known.specs.declared.here.NetHere.{NetHere}
+use Rattle.yw_library.specs.Holdings.{Holdings}
+use Rattle.yw_mark.specs.Taking.{taken_places}
+use Rattle.yw_mark.specs.declared.join.Taken.{Taken}
+use Rattle.yw_path.specs.Upstream.{IsUpstreamOf}
+use Rattle.yw_plain.specs.Plain.{IsPlain, is_plain_event}
+use Rattle.yw_state.specs.Automatic.{Comes, IsQuiet}
+use Rattle.yw_state.specs.Identity.{Ident, case_number}
+use Rattle.yw_state.specs.Joins.{Waits, at_output}
+use Rattle.yw_state.specs.Judged.{is_manual}
+use Rattle.yw_state.specs.Nets.{is_atomic}
+use Rattle.yw_state.specs.State.{State, TaskAt}
+use Rattle.yw_state.specs.declared.event.Event.{Event}
+use Rattle.yw_still.specs.Still.{CaseIsStill, IsStill, case_ends, is_entering, is_leaving, item_goes_on, task_numbered}
+use Rattle.yw_tree.specs.declared.Forest.{Forest}
+use Rattle.yw_tree.specs.declared.NetState.{out-NetState}
+use Rattle.yw_within.specs.Within.{HoldsWithin, NetIsWithin}
+use Rattle.yw_plain.specs.Worklets.{HasNoWorklet}
+
+-- The event comes of itself in case n. Where no worklet stands for an item it is of neither a rule tree nor an exlet.
+pub record ComesPlainly (s : State) (n : ℕ) (e : Event) : Type 0 where
+  pub comes : Comes s n e
+  pub plain : HasNoWorklet s → is_plain_event e ≡ true
+
+-- ---- the net at an identity
+
+-- The net is within its specification, and the upstream is its own.
+pub record IsKnownHere (h : NetHere) : Type 0 where
+  pub within : NetIsWithin h.spec.now h.net.now
+  pub upstream : IsUpstreamOf h.net.now h.up.now
+
+-- no task of the net at i may be left
+abbrev pub NoneLeft : State → Ident → Type 0
+NoneLeft s i = (k : ℕ) (x : TaskAt) → task_numbered s i k ≡ Some x → is_leaving s i x ≡ false
+
+-- a task of the net at i that may be entered by no person has an OR-join that waits
+abbrev pub NoneEntered : State → Ident → Type 0
+NoneEntered s i = (k : ℕ) (x : TaskAt) → task_numbered s i k ≡ Some x → is_entering s i x ≡ true → IsTrue (is_or x.task.join) × Waits s i x
+
+-- persons enter the atomic tasks and no others
+abbrev pub AtomicIsManual : State → Type 0
+AtomicIsManual s = (x : TaskAt) → is_manual s x ≡ is_atomic x.task
+
+-- wherever the net stands free and its task with this number may be left, it is left by this event
+abbrev pub IsExit : NetHere → Ident → ℕ → Event → Type 0
+IsExit h i t e =
+    (names : ℕ → List ℕ) (f : Forest) (s : State) (x : TaskAt) → StandsFree names f s i h.net.now h.state.now → HoldsWithin s
+    → task_numbered s i t ≡ Some x → is_leaving s i x ≡ true → ComesPlainly s (case_number i) e
+
+-- where the number is drawn next too, and the task may be entered by this choice of its join and by no person, it is entered by this event
+abbrev pub IsEntry : NetHere → Ident → ℕ → ℕ → Taken → Event → Type 0
+IsEntry h i next t taken e =
+    (names : ℕ → List ℕ) (f : Forest) (s : State) (x : TaskAt) → MayDraw names f s i h.net.now h.state.now next → HoldsWithin s
+    → task_numbered s i t ≡ Some x → is_manual s x ≡ false
+    → EntersFrom s i x (taken_places (out-NetState h.state.now).marks x.task.before taken)
+    → ComesPlainly s (case_number i) e
+
+-- wherever the net stands free, a task is left by this event, or none may be
+abbrev pub FindsLeft : NetHere → Ident → Option Event → Type 0
+FindsLeft h i found =
+    (names : ℕ → List ℕ) (f : Forest) (s : State) → StandsFree names f s i h.net.now h.state.now → HoldsWithin s
+    → MatchOption found (NoneLeft s i) (ComesPlainly s (case_number i))
+
+-- where the number is drawn next too, a task is entered by this event, or none may be
+abbrev pub FindsEntered : NetHere → Ident → ℕ → Option Event → Type 0
+FindsEntered h i next found =
+    (names : ℕ → List ℕ) (f : Forest) (s : State) → MayDraw names f s i h.net.now h.state.now next → HoldsWithin s → AtomicIsManual s
+    → MatchOption found (NoneEntered s i) (ComesPlainly s (case_number i))
+
+-- ---- an identity
+
+-- What is known, the forest and the number that is drawn next stand for this state, which has neither rules nor exlets.
+pub record StandsFor (known : Holdings) (f : Forest) (next : ℕ) (s : State) : Type 0 where
+  pub held : IsHeld known f s
+  pub plain : IsPlain s
+  pub drawn : s.next ≡ next
+
+-- the case is finished by this event, or isn't at its end
+abbrev pub FindsFinish : Ident → Bool → Option Event → Type 0
+FindsFinish j ends found =
+    (s : State) → IsPlain s → at_output s j ≡ ends → MatchOption found (case_ends s j ≡ false) (ComesPlainly s (case_number j))
+
+-- the item goes on by this event, or it doesn't
+abbrev pub FindsStep : Holdings → Forest → Ident → Bool → Option Event → Type 0
+FindsStep known f j ends found =
+    (s : State) → IsHeld known f s → IsPlain s → at_output s j ≡ ends
+    → MatchOption found (item_goes_on s j ≡ false) (ComesPlainly s (case_number j))
+
+-- a task of the net there is left or entered by this event, or none may be
+abbrev pub FindsTasks : Holdings → Forest → Ident → ℕ → Option Event → Type 0
+FindsTasks known f j next found =
+    (s : State) → StandsFor known f next s → MatchOption found (NoneLeft s j × NoneEntered s j) (ComesPlainly s (case_number j))
+
+-- the item goes on by this event, or a task of the net there is left or entered by it; or nothing of this is so
+abbrev pub FindsItemOrTasks : Holdings → Forest → Ident → ℕ → Bool → Option Event → Type 0
+FindsItemOrTasks known f j next ends found =
+    (s : State) → StandsFor known f next s → at_output s j ≡ ends
+    → MatchOption found ((item_goes_on s j ≡ false) × NoneLeft s j × NoneEntered s j) (ComesPlainly s (case_number j))
+
+-- this event comes of itself there, or nothing does
+abbrev pub FindsAt : Holdings → Forest → Ident → ℕ → Option Event → Type 0
+FindsAt known f j next found = (s : State) → StandsFor known f next s → MatchOption found (IsStill s j) (ComesPlainly s (case_number j))
+
+-- at one of these identities this event comes of itself, or each of them is still
+abbrev pub FindsAmong : Holdings → Forest → List Ident → ℕ → Option Event → Type 0
+FindsAmong known f js next found =
+    (s : State) → StandsFor known f next s
+    → MatchOption found (All (IsStill s) js) (λ e. (j : Ident) × Contains js j × ComesPlainly s (case_number j) e)
+
+-- ---- a case
+
+-- this event comes of itself in the case, or each identity in it is still, and so it is quiet
+abbrev pub FindsNext : Holdings → Forest → ℕ → ℕ → Option Event → Type 0
+FindsNext known f n next found =
+    (s : State) → StandsFor known f next s → MatchOption found (CaseIsStill s n × IsQuiet s n) (ComesPlainly s n)
+
+-- whether the case is quiet
+abbrev pub TellsQuiet : Holdings → Forest → ℕ → ℕ → Bool → Type 0
+TellsQuiet known f n next quiet = (s : State) → StandsFor known f next s → IsTrue quiet ↔ IsQuiet s n

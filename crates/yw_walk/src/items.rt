@@ -1,0 +1,53 @@
+// What comes of itself of a case and of an item.
+ghost use Rattle.std.specs.Prelude.{◌≡◌, IfOk};
+ghost use Rattle.yw_enabled.specs.Items.{event_of};
+ghost use Rattle.yw_walk.specs.Finds.{FindsFinish, FindsStep};
+
+use std::alloc::{AllocError, Global};
+use yw_base::Ident;
+use yw_enabled::{ItemStep, item_step};
+use yw_known::{Known, item_here};
+use yw_state::Event;
+use yw_tree::Forest;
+
+/// The end of the case at an identity, where `ends` says that its net is at its end. `None` of other identities, and where it isn't.
+pub fn finish_of(id: &Ident, ends: bool) -> Option<Event>
+    ensures { FindsFinish id.now ends result }
+{
+    match id.numbers() {
+        [number] if ends => Some(Event::Finish { case: *number }),
+        _ => None,
+    }
+}
+
+/// The event of a step of the item at an identity.
+fn event_of(step: ItemStep, item: Ident) -> Event
+    ensures { result ≡ event_of step item }
+{
+    match step {
+        ItemStep::StartSub => Event::StartSub { item },
+        ItemStep::CompleteSub => Event::CompleteSub { item },
+        ItemStep::CompleteEmpty => Event::CompleteEmpty { item },
+        ItemStep::CompleteWorklet => Event::CompleteWorklet { item },
+    }
+}
+
+/// How the item at an identity goes on, where `ends` says whether a net stands there that is at its end. `None` where no item stands there,
+/// and where it doesn't go on. An `Err` says that no memory was left.
+pub fn step_at(
+    alloc: Global,
+    known: &Known,
+    forest: &Forest,
+    id: &Ident,
+    ends: bool,
+) -> Result<Option<Event>, AllocError>
+    ensures { IfOk result (FindsStep known.now forest.now id.now ends) }
+{
+    let Some(here) = item_here(alloc, known, forest, id)? else {
+        return Ok(None);
+    };
+    let Some(step) = item_step(here.item, here.task, ends) else {
+        return Ok(None);
+    };
+    Ok(Some(event_of(step, id.copy(alloc)?)))
+}

@@ -1,0 +1,12 @@
+//! The next event that comes of itself in a case, by a look at each identity that stands in it, in states without rules and exlets. The
+//! README of the crate says which clause proves what.
+#![tactic(auto)]
+
+mod identity;
+mod items;
+mod nets;
+mod next;
+mod places;
+mod tasks;
+
+pub use next::{is_quiet, next_event};

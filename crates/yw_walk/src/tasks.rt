@@ -1,0 +1,95 @@
+// What comes of itself of the tasks of a net.
+ghost use Rattle.std.specs.Prelude.{◌≡◌, ◌<◌, IfOk, List, Some, length, true};
+ghost use Rattle.yw_state.specs.Passing.{entry_values, within_bounds};
+ghost use Rattle.yw_state.specs.Values.{Row};
+ghost use Rattle.yw_walk.specs.Finds.{FindsEntered, FindsLeft, IsEntry, IsExit, IsKnownHere};
+
+use crate::places::{places_of, taken_from};
+use std::alloc::{AllocError, Global};
+use yw_base::{Ident, Row};
+use yw_enabled::{first_entered, first_left};
+use yw_expr::view;
+use yw_known::NetHere;
+use yw_mark::{Taken, split_places};
+use yw_spec::Task;
+use yw_state::Event;
+use yw_task::{element_count, items_in, kept_values, task_at};
+
+/// The exit of a task of the net at an identity: a token comes to each place of its split.
+fn exit_of(alloc: Global, here: &NetHere<'_>, at: &Ident, t: usize) -> Result<Event, AllocError>
+    requires { t < length here.now.net.now.tasks }
+    ensures { IfOk result (IsExit here.now at.now t) }
+{
+    let task = task_at(here.net, t);
+    let vals = kept_values(alloc, task, items_in(here.state, t), &here.state.vals)?;
+    let numbers = split_places(alloc, task, &vals)?;
+    Ok(Event::Exit {
+        net: at.copy(alloc)?,
+        task: task.name.copy()?,
+        places: places_of(alloc, here.net, numbers.as_slice())?,
+    })
+}
+
+/// The exit of the first task of the net at an identity that may be left; `None` where none may. An `Err` says that no memory was left.
+pub fn exit_at(alloc: Global, here: &NetHere<'_>, at: &Ident) -> Result<Option<Event>, AllocError>
+    ensures { IfOk result (FindsLeft here.now at.now) }
+{
+    match first_left(alloc, here.net, here.state)? {
+        Some(t) => Ok(Some(exit_of(alloc, here, at, t)?)),
+        None => Ok(None),
+    }
+}
+
+/// How many items an entry makes, where they are within the task's bounds.
+fn entry_count(task: &Task, vals: &Row) -> u32
+    ensures { (rows : List Row) → entry_values task.now vals.now ≡ Some rows → within_bounds task.now.many (length rows) ≡ true
+        → result ≡ length rows }
+{
+    let Some(many) = &task.many else {
+        return 1;
+    };
+    match view(&many.each, vals) {
+        Some(list) => element_count(list).min(many.max as usize) as u32,
+        None => 0,
+    }
+}
+
+/// The entry of a task of the net at an identity, by a choice of its join: its items are numbered from `next` on.
+fn entry_of(
+    alloc: Global,
+    here: &NetHere<'_>,
+    at: &Ident,
+    next: u64,
+    t: usize,
+    taken: Taken,
+) -> Result<Event, AllocError>
+    requires { t < length here.now.net.now.tasks }
+    ensures { IfOk result (IsEntry here.now at.now next t taken) }
+{
+    let task = task_at(here.net, t);
+    let numbers = taken_from(alloc, task, &here.state.marks, taken)?;
+    Ok(Event::Enter {
+        net: at.copy(alloc)?,
+        task: task.name.copy()?,
+        places: places_of(alloc, here.net, numbers.as_slice())?,
+        first: next,
+        count: entry_count(task, &here.state.vals),
+    })
+}
+
+/// The entry of the first task of the net at an identity that may be entered by no person; `None` where none may. Its items are numbered
+/// from `next` on, the number that is drawn next. An `Err` says that no memory was left.
+pub fn entry_at(
+    alloc: Global,
+    here: &NetHere<'_>,
+    at: &Ident,
+    next: u64,
+) -> Result<Option<Event>, AllocError>
+    requires { IsKnownHere here.now }
+    ensures { IfOk result (FindsEntered here.now at.now next) }
+{
+    match first_entered(here.net, here.state, here.up, next) {
+        Some((t, taken)) => Ok(Some(entry_of(alloc, here, at, next, t, taken)?)),
+        None => Ok(None),
+    }
+}
