@@ -1,12 +1,12 @@
 -- Events that are built are of neither a rule tree nor an exlet, and the other way round; and what comes of itself leads to one state.
-use Rattle.std.proofs.Common.{◌≡◌, ◌↔◌, ◌∙◌, Bool, Err, IfOk, IsTrue, None, Ok, OnOk, Option, Result, Some, ap, false, refl, subst, sym, true, ℕ}
+use Rattle.std.proofs.Common.{◌≡◌, ◌↔◌, ◌∙◌, Bool, Err, IfOk, IsTrue, None, Ok, Option, Result, Some, ap, false, refl, subst, sym, true, ℕ}
 use Rattle.yw_built.specs.Built.{is_built}
-use Rattle.yw_cases.proofs.Trying.{as_tried, tried_stands}
 use Rattle.yw_cases.specs.State.{MayStand, state_of}
-use Rattle.yw_cases.specs.Tried.{IsTried, Tries}
+use Rattle.yw_cases.specs.Tried.{IsTried}
 use Rattle.yw_cases.specs.declared.standing.Standing.{Standing}
 use Rattle.yw_engine.specs.Decides.{IsNext, LeadsOn}
-use Rattle.yw_library.specs.Holdings.{with_library}
+use Rattle.yw_engine.proofs.Parts.{held_by, next_of}
+use Rattle.yw_library.specs.Holdings.{Holdings}
 use Rattle.yw_model.specs.Texts.{reader}
 use Rattle.yw_plain.specs.Plain.{is_plain_event}
 use Rattle.yw_state.proofs.Tests.{never}
@@ -16,6 +16,7 @@ use Rattle.yw_state.specs.State.{State}
 use Rattle.yw_state.specs.Texts.{EventText, TextSays, no_text, nothing, text_of}
 use Rattle.yw_state.specs.declared.event.Event.{Event}
 use Rattle.yw_state.specs.declared.event.Event.TheVariants as events
+use Rattle.yw_tree.specs.declared.Forest.{Forest}
 use Rattle.yw_turns.proofs.Entries.{no_text_of}
 use Rattle.yw_walk.specs.Finds.{FindsNext, StandsFor, TellsQuiet}
 
@@ -57,15 +58,6 @@ plain_is_built e plain = never plain
 
 -- ---- what is tried
 
-module _ (old : Standing) (may : MayStand old) (e : Event) (new : Standing) (built : is_built e ≡ true) where
-  pub tried_by : {E : Type 0} (result : Result Bool E) → IfOk result (λ leads. Tries old e leads new) → IfOk result (λ leads. IsTried old e leads new)
-  tried_by (Ok leads) tries = as_tried old e leads new tries
-  tried_by (Err fault) tries = tt
-
-  pub stands_by : {E : Type 0} (result : Result Bool E) → IfOk result (λ leads. Tries old e leads new) → OnOk result (MayStand new)
-  stands_by (Ok leads) tries = tried_stands old may e leads new (built_is_plain e built) tries
-  stands_by (Err fault) tries = tt
-
 -- what leads on isn't refused
 pub leads_not : (old : Standing) (e : Event) (leads : Bool) (new : Standing) → leads ≡ false → IsTried old e leads new → LeadsOn old e → ⊥
 leads_not old e leads new is tried (t, leads_to) = (subst (λ (b : Bool). IsTried old e b new) is tried).0 t leads_to
@@ -85,28 +77,25 @@ comes_after s t n e comes leads =
     let said : leads.said ≡ nothing = subst (λ (x : EventText). TextSays reader s x leads.said) (no_text_of s e comes.automatic) leads.says in
     leads.then ∙ ap (after s e) said
 
-next_is : (h : Standing) → (state_of h).next ≡ h.next
-unfolding with_library
-next_is h = refl
-
 module _ (h : Standing) (may : MayStand h) (n : ℕ) where
-  stands_for : StandsFor h.known h.forest h.next (state_of h)
-  stands_for = record { held = may.held; plain = may.plain; drawn = next_is h }
+  -- what is found by the walk over the case, by the parts that are read
+  module _ (known : Holdings) (f : Forest) (next : ℕ) (same : known ≡ h.known) (same_forest : f ≡ h.forest) (same_next : next ≡ h.next) where
+    stands_for : StandsFor known f next (state_of h)
+    stands_for = record { held = held_by h known f same same_forest may; plain = may.plain; drawn = next_of h next same_next }
 
-  walked : (found : Option Event) → FindsNext h.known h.forest n h.next found → IsNext h n found
-  walked None finds = (finds (state_of h) stands_for).1
-  walked (Some e) finds =
-      let it = finds (state_of h) stands_for in
-      (it.comes, plain_is_built e (it.plain (record { started = may.no_worklet.started })))
+    walked : (found : Option Event) → FindsNext known f n next found → IsNext h n found
+    walked None finds = (finds (state_of h) stands_for).1
+    walked (Some e) finds =
+        let it = finds (state_of h) stands_for in
+        (it.comes, plain_is_built e (it.plain may.no_worklet))
 
-  -- what is found by the walk over the case
-  pub walked_by : {E : Type 0} (result : Result (Option Event) E) → IfOk result (FindsNext h.known h.forest n h.next) → IfOk result (IsNext h n)
-  walked_by (Ok found) finds = walked found finds
-  walked_by (Err fault) finds = tt
+    pub walked_by : {E : Type 0} (result : Result (Option Event) E) → IfOk result (FindsNext known f n next) → IfOk result (IsNext h n)
+    walked_by (Ok found) finds = walked found finds
+    walked_by (Err fault) finds = tt
 
-  pub quiet_by : {E : Type 0} (result : Result Bool E) → IfOk result (TellsQuiet h.known h.forest n h.next) → IfOk result (λ quiet. IsTrue quiet ↔ IsQuiet (state_of h) n)
-  quiet_by (Ok quiet) tells = tells (state_of h) stands_for
-  quiet_by (Err fault) tells = tt
+    pub quiet_by : {E : Type 0} (result : Result Bool E) → IfOk result (TellsQuiet known f n next) → IfOk result (λ quiet. IsTrue quiet ↔ IsQuiet (state_of h) n)
+    quiet_by (Ok quiet) tells = tells (state_of h) stands_for
+    quiet_by (Err fault) tells = tt
 
   -- an event that is found leads on
   pub next_on : (found : Option Event) (e : Event) → found ≡ Some e → IsNext h n found → LeadsOn h e

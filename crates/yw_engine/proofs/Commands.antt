@@ -13,7 +13,9 @@ use Rattle.yw_built.specs.Built.{is_built}
 use Rattle.yw_cases.specs.State.{MayStand, state_of}
 use Rattle.yw_cases.specs.declared.standing.Standing.{Standing}
 use Rattle.yw_engine.specs.Decides.{BreaksNow, LeadsOn}
-use Rattle.yw_library.specs.Holdings.{with_library}
+use Rattle.yw_engine.proofs.Parts.{held_by, next_of}
+use Rattle.yw_known.specs.Held.{IsHeld}
+use Rattle.yw_library.specs.Holdings.{Holdings}
 use Rattle.yw_model.specs.Texts.{reader}
 use Rattle.yw_spec.specs.declared.spec.Net.{Net}
 use Rattle.yw_state.proofs.Tests.{map_some, nowhere, some_same}
@@ -31,6 +33,7 @@ use Rattle.yw_state.specs.declared.command.Given.{Given}
 use Rattle.yw_state.specs.declared.event.Event.{Event}
 use Rattle.yw_state.specs.declared.event.Event.TheVariants as events
 use Rattle.yw_state.specs.declared.rule.Refusal.{Refusal}
+use Rattle.yw_tree.specs.declared.Forest.{Forest}
 use Rattle.yw_within.proofs.Finding.{well_holds_within}
 use Rattle.yw_within.specs.Within.{HoldsWithin}
 
@@ -60,18 +63,17 @@ of_kind g m kind o e is =
 of_nothing : {A B : Type 0} (g : A → Event) (o : Option A) (e : Event) → o ≡ None → Some e ≡ option_map g o → B
 of_nothing g o e none is = nowhere (sym (ap (option_map g) none) ∙ sym is)
 
-next_is : (h : Standing) → (state_of h).next ≡ h.next
-unfolding with_library
-next_is h = refl
-
 -- ---- a launch
 
-module _ (h : Standing) (may : MayStand h) (name : List ℕ) (gs : List Given) where
+module _ (h : Standing) (may : MayStand h) (known : Holdings) (next : ℕ) (same : known ≡ h.known) (same_next : next ≡ h.next) (name : List ℕ) (gs : List Given) where
   abbrev LaunchFound : Option Event → Type 0
-  LaunchFound found = LaunchAsks h.known h.next name gs found
+  LaunchFound found = LaunchAsks known next name gs found
 
-  pub launch_breaks_now : (found : Option Refusal) → BreaksNext h.known h.next (commands.Launch name gs) found → BreaksNow h (commands.Launch name gs) found
-  launch_breaks_now found breaks = breaks h.forest (state_of h) may.held (next_is h)
+  known_held : IsHeld known h.forest (state_of h)
+  known_held = held_by h known h.forest same refl may
+
+  pub launch_breaks_now : (found : Option Refusal) → BreaksNext known next (commands.Launch name gs) found → BreaksNow h (commands.Launch name gs) found
+  launch_breaks_now found breaks = breaks h.forest (state_of h) known_held (next_of h next same_next)
 
   module _ (found : Option Event) (asks : LaunchFound found) where
     pub launch_there : BreaksNow h (commands.Launch name gs) None → found ≡ None → ⊥
@@ -79,11 +81,11 @@ module _ (h : Standing) (may : MayStand h) (name : List ℕ) (gs : List Given) w
     launch_there unbroken none =
         let (d, t, asked, leads) = cases.launch_has_event reader (state_of h) (holds_within h may) name gs unbroken in
         of_nothing (λ (net : Net). events.Launch (state_of h).next name (launch_values net.vars gs)) (top_called (state_of h) name) d
-        (subst LaunchFound none asks h.forest (state_of h) may.held) asked
+        (subst LaunchFound none asks h.forest (state_of h) known_held) asked
 
     module _ (e : Event) (is : found ≡ Some e) where
       launch_asked : IsAsked reader (state_of h) (commands.Launch name gs) e
-      launch_asked = subst LaunchFound is asks h.forest (state_of h) may.held (next_is h)
+      launch_asked = subst LaunchFound is asks h.forest (state_of h) known_held (next_of h next same_next)
 
       pub launch_asks : BreaksNow h (commands.Launch name gs) None → Asks h (commands.Launch name gs) e
       unfolding IsAsked
@@ -100,14 +102,18 @@ module _ (h : Standing) (may : MayStand h) (name : List ℕ) (gs : List Given) w
       pub launch_built : is_built e ≡ true
       launch_built = launch_kind.0
 
-      pub launch_case : case_of e ≡ Some h.next
-      launch_case = launch_kind.1 ∙ ap (λ n. Some n) (next_is h)
+      pub launch_case : case_of e ≡ Some next
+      launch_case = launch_kind.1 ∙ ap (λ n. Some n) (next_of h next same_next)
 
 -- ---- an addition
 
-module _ (h : Standing) (may : MayStand h) (who : List ℕ) (i : Ident) (t : List ℕ) (value : Option Value) where
+module _ (h : Standing) (may : MayStand h) (known : Holdings) (f : Forest) (next : ℕ) (same : known ≡ h.known) (same_forest : f ≡ h.forest) (same_next : next ≡ h.next)
+    (who : List ℕ) (i : Ident) (t : List ℕ) (value : Option Value) where
   abbrev AddFound : Option Event → Type 0
-  AddFound found = AddAsks h.known h.forest h.next i t value found
+  AddFound found = AddAsks known f next i t value found
+
+  parts_held : IsHeld known f (state_of h)
+  parts_held = held_by h known f same same_forest may
 
   module _ (found : Option Event) (asks : AddFound found) where
     pub add_there : BreaksNow h (commands.Add who i t value) None → found ≡ None → ⊥
@@ -115,11 +121,11 @@ module _ (h : Standing) (may : MayStand h) (who : List ℕ) (i : Ident) (t : Lis
     add_there unbroken none =
         let (d, s, asked, leads) = tasks.add_has_event reader (state_of h) may.held.well (holds_within h may) who i t value unbroken in
         of_nothing (λ (v : Value). events.Add i t v (state_of h).next) (option_and_then (λ (x : TaskAt). element_value x.task value) (task_at (state_of h) i t)) d
-        (subst AddFound none asks (state_of h) may.held) asked
+        (subst AddFound none asks (state_of h) parts_held) asked
 
     module _ (e : Event) (is : found ≡ Some e) where
       add_asked : IsAsked reader (state_of h) (commands.Add who i t value) e
-      add_asked = subst AddFound is asks (state_of h) may.held (next_is h) who
+      add_asked = subst AddFound is asks (state_of h) parts_held (next_of h next same_next) who
 
       pub add_asks : BreaksNow h (commands.Add who i t value) None → Asks h (commands.Add who i t value) e
       unfolding IsAsked

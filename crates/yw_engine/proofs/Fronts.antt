@@ -1,12 +1,13 @@
 -- What a command of a case breaks first, from what is tried in front, that its case is quiet, and what is tried behind.
-use Rattle.std.proofs.Common.{◌≡◌, Err, IfOk, List, None, Ok, Option, Result, Some, refl, subst, sym, ℕ}
+use Rattle.std.proofs.Common.{◌≡◌, Err, IfOk, List, None, Ok, Option, Result, Some, subst, sym, ℕ}
 use Rattle.std.specs.Prelude.{option_map}
 use Rattle.yw_breaks.specs.Finds.{FindsNext, FindsPlain}
 use Rattle.yw_breaks.specs.Tables.{Joins}
 use Rattle.yw_cases.specs.State.{MayStand, state_of}
 use Rattle.yw_cases.specs.declared.standing.Standing.{Standing}
 use Rattle.yw_engine.specs.Decides.{BreaksNow, IsInFront}
-use Rattle.yw_library.specs.Holdings.{with_library}
+use Rattle.yw_engine.proofs.Parts.{held_by, next_of}
+use Rattle.yw_library.specs.Holdings.{Holdings}
 use Rattle.yw_model.specs.Texts.{reader}
 use Rattle.yw_state.proofs.Tests.{nowhere}
 use Rattle.yw_state.specs.Broken.{Check, First, placeless}
@@ -15,6 +16,7 @@ use Rattle.yw_state.specs.State.{State}
 use Rattle.yw_state.specs.declared.command.Command.{Command}
 use Rattle.yw_state.specs.declared.rule.Refusal.{Refusal}
 use Rattle.yw_state.specs.declared.rule.Rule.{Rule}
+use Rattle.yw_tree.specs.declared.Forest.{Forest}
 
 module _ (h : Standing) (c : Command) (j : Ident) (front rest : List Check) (joins : Joins reader (state_of h) c j front rest) (n : ℕ) (of : n ≡ case_number j)
     (rule : Option Rule) (first : First front (option_map placeless rule)) where
@@ -40,15 +42,11 @@ module _ (h : Standing) (c : Command) (j : Ident) (front rest : List Check) (joi
 
 -- ---- what is found of what is held
 
-next_is : (h : Standing) → (state_of h).next ≡ h.next
-unfolding with_library
-next_is h = refl
-
-module _ {E : Type 0} (h : Standing) (may : MayStand h) (table : State → List Check) where
-  pub plainly : (result : Result (Option Refusal) E) → IfOk result (FindsPlain h.known h.forest table) → IfOk result (First (table (state_of h)))
-  plainly (Ok found) finds = finds (state_of h) may.held may.plain
+module _ {E : Type 0} (h : Standing) (may : MayStand h) (known : Holdings) (f : Forest) (same : known ≡ h.known) (same_forest : f ≡ h.forest) (table : State → List Check) where
+  pub plainly : (result : Result (Option Refusal) E) → IfOk result (FindsPlain known f table) → IfOk result (First (table (state_of h)))
+  plainly (Ok found) finds = finds (state_of h) (held_by h known f same same_forest may) may.plain
   plainly (Err fault) finds = tt
 
-  pub with_next : (result : Result (Option Refusal) E) → IfOk result (FindsNext h.known h.forest h.next table) → IfOk result (First (table (state_of h)))
-  with_next (Ok found) finds = finds (state_of h) may.held may.plain (next_is h)
-  with_next (Err fault) finds = tt
+  pub with_next : (next : ℕ) → next ≡ h.next → (result : Result (Option Refusal) E) → IfOk result (FindsNext known f next table) → IfOk result (First (table (state_of h)))
+  with_next next same_next (Ok found) finds = finds (state_of h) (held_by h known f same same_forest may) may.plain (next_of h next same_next)
+  with_next next same_next (Err fault) finds = tt

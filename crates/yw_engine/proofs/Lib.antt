@@ -1,3 +1,4 @@
+pub mod Parts
 pub mod Coming
 pub mod Fronts
 pub mod Commands

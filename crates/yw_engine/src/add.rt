@@ -25,11 +25,11 @@ fn add_breaks(
     ensures { IfOk result (BreaksNow work.now.standing (commands.Add who.now at.now task.now value.now)) }
 {
     let standing = &work.standing;
-    let (known, forest) = (&standing.known, &standing.forest);
+    let (known, forest) = (standing.known(), standing.forest());
     let front = add_front(known, forest, who, at);
     match in_front(work, front, case_number(at))? {
         Some(refusal) => Ok(Some(refusal)),
-        None => add_rest(work.alloc, known, forest, standing.next, who, at, task, value),
+        None => add_rest(work.alloc, known, forest, standing.next(), who, at, task, value),
     }
 }
 
@@ -49,8 +49,8 @@ pub fn decide_add(
     }
     let case = case_number(&net);
     let standing = &work.standing;
-    let (known, forest) = (&standing.known, &standing.forest);
-    let Some(event) = add_event(work.alloc, known, forest, standing.next, net, task, value) else {
+    let (known, forest) = (standing.known(), standing.forest());
+    let Some(event) = add_event(work.alloc, known, forest, standing.next(), net, task, value) else {
         unreachable!();
     };
     Ok(begin(work, event, Some(case))?)

@@ -19,7 +19,7 @@ use crate::work::{Work, try_owned};
 use crate::{Decided, EngineFault};
 use std::alloc::{AllocError, Global};
 use std::marker::Model;
-use yw_cases::nothing;
+use yw_cases::Cases;
 use yw_library::Library;
 use yw_state::{Command, Event, Rule};
 use yw_tree::Forest;
@@ -58,11 +58,10 @@ impl Engine {
         ensures state { state_of result ≡ opening }
         ensures fresh { result.spent ≡ false }
     {
+        let standing = Cases::new(alloc);
+        standing.may_stand();
         Engine {
-            work: Work {
-                alloc,
-                standing: nothing(alloc),
-            },
+            work: Work { alloc, standing },
             spent: false,
         }
     }
@@ -132,20 +131,20 @@ impl Engine {
     pub fn library(&self) -> &Library
         ensures { result.now ≡ self.now.standing.known }
     {
-        self.work.standing.known.library()
+        self.work.standing.known().library()
     }
 
     /// The cases that stand.
     pub fn forest(&self) -> &Forest
         ensures { result.now ≡ self.now.standing.forest }
     {
-        &self.work.standing.forest
+        self.work.standing.forest()
     }
 
     /// The number that is drawn next: of a case, an item or a run. It is 1 to 2^48, unless the engine is spent.
     pub fn next(&self) -> u64
         ensures { result ≡ self.now.standing.next }
     {
-        self.work.standing.next
+        self.work.standing.next()
     }
 }

@@ -19,8 +19,8 @@ pub fn decide_launch(
     requires { MayStand work.old.standing }
     ensures { Decides work.old.standing (commands.Launch spec.now given.now) result work.new.standing }
 {
-    let next = work.standing.next;
-    let known = &work.standing.known;
+    let next = work.standing.next();
+    let known = work.standing.known();
     if let Some(refusal) = launch_breaks(work.alloc, known, next, spec, given)? {
         return Err(EngineFault::Refused(refusal));
     }

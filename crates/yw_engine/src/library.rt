@@ -30,8 +30,11 @@ pub fn decide_load(work: &mut Work, toml: Text) -> Result<Decided, EngineFault>
     requires { MayStand work.old.standing }
     ensures { Decides work.old.standing (commands.Load toml) result work.new.standing }
 {
-    match work.standing.known.load(toml.as_str()) {
-        Ok(name) => Ok(behind(work, Event::Load { name, text: toml }, None)?),
+    match work.standing.load(toml.as_str()) {
+        Ok(name) => {
+            work.standing.may_stand();
+            Ok(behind(work, Event::Load { name, text: toml }, None)?)
+        }
         Err(LibraryFault::Refused(refusal)) => Err(EngineFault::Refused(refusal)),
         Err(LibraryFault::Memory) => Err(EngineFault::Memory),
     }

@@ -19,10 +19,11 @@ fn start_breaks(work: &Work, who: &Name, item: &Ident) -> Result<Option<Refusal>
     ensures { IfOk result (BreaksNow work.now.standing (commands.Start who.now item.now)) }
 {
     let standing = &work.standing;
-    let front = start_front(&standing.known, &standing.forest, who, item);
+    let (known, forest) = (standing.known(), standing.forest());
+    let front = start_front(known, forest, who, item);
     match in_front(work, front, case_number(item))? {
         Some(refusal) => Ok(Some(refusal)),
-        None => start_rest(work.alloc, &standing.known, &standing.forest, who, item),
+        None => start_rest(work.alloc, known, forest, who, item),
     }
 }
 

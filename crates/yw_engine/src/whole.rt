@@ -16,7 +16,7 @@ pub fn decide_cancel(work: &mut Work, at: &Ident) -> Result<Decided, EngineFault
     requires { MayStand work.old.standing }
     ensures { Decides work.old.standing (commands.Cancel at.now) result work.new.standing }
 {
-    if let Some(rule) = cancel_breaks(&work.standing.forest, at) {
+    if let Some(rule) = cancel_breaks(work.standing.forest(), at) {
         return Err(EngineFault::Refused(placeless(work.alloc, rule)));
     }
     let case = case_number(at);
@@ -28,7 +28,7 @@ pub fn decide_advance(work: &mut Work, at: &Ident) -> Result<Decided, EngineFaul
     requires { MayStand work.old.standing }
     ensures { Decides work.old.standing (commands.Advance at.now) result work.new.standing }
 {
-    if let Some(rule) = advance_breaks(&work.standing.forest, at) {
+    if let Some(rule) = advance_breaks(work.standing.forest(), at) {
         return Err(EngineFault::Refused(placeless(work.alloc, rule)));
     }
     let case = case_number(at);

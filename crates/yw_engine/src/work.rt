@@ -5,7 +5,7 @@ ghost use Rattle.yw_cases.specs.State.{MayStand};
 ghost use Rattle.yw_cases.specs.Tried.{IsTried};
 
 use std::alloc::{AllocError, Global};
-use yw_cases::{Standing, try_event};
+use yw_cases::Cases;
 use yw_settle::Machine;
 use yw_state::Event;
 use yw_walk::{is_quiet, next_event};
@@ -14,7 +14,7 @@ use yw_walk::{is_quiet, next_event};
 #[derive(Drop)]
 pub struct Work {
     pub alloc: Global,
-    pub standing: Standing,
+    pub standing: Cases,
 }
 
 impl Work {
@@ -31,8 +31,8 @@ impl Work {
         ensures { IfOk result (IsNext self.now.standing case) }
     {
         let standing = &self.standing;
-        let (known, forest) = (&standing.known, &standing.forest);
-        next_event(self.alloc, known, forest, case, standing.next)
+        let (known, forest) = (standing.known(), standing.forest());
+        next_event(self.alloc, known, forest, case, standing.next())
     }
 
     /// Nothing comes of itself in a case. An `Err` says that no memory was left.
@@ -41,24 +41,24 @@ impl Work {
         ensures { IfOk result (λ quiet. IsTrue quiet ↔ IsQuiet (state_of self.now.standing) case) }
     {
         let standing = &self.standing;
-        let (known, forest) = (&standing.known, &standing.forest);
-        is_quiet(self.alloc, known, forest, case, standing.next)
+        let (known, forest) = (standing.known(), standing.forest());
+        is_quiet(self.alloc, known, forest, case, standing.next())
     }
 
     /// Does an event, where it is allowed: `true`, and what is held is then that after it; else `false`, and nothing has changed. An `Err` says
     /// that no memory was left; what is held then is told nowhere.
     fn try_event(&mut self, event: &Event) -> Result<bool, AllocError>
-        requires stands { MayStand self.old.standing }
-        requires built { is_built event.now ≡ true }
+        requires { is_built event.now ≡ true }
         ensures tried { IfOk result (λ leads. IsTried self.old.standing event.now leads self.new.standing) }
         ensures stands { OnOk result (MayStand self.new.standing) }
     {
-        try_event(self.alloc, &mut self.standing, event)
+        let leads = self.standing.try_event(event)?;
+        self.standing.may_stand();
+        Ok(leads)
     }
 
     /// Does an event that is allowed. An `Err` says that no memory was left; what is held then is told nowhere.
     pub fn take(&mut self, event: &Event) -> Result<(), AllocError>
-        requires stands { MayStand self.old.standing }
         requires built { is_built event.now ≡ true }
         requires leads { LeadsOn self.old.standing event.now }
         ensures { OnOk result (IsDone self.old.standing event.now self.new.standing) }
@@ -72,8 +72,7 @@ impl Work {
 
 /// Does an event, as `Work::try_event` says.
 pub fn try_owned(work: &mut Work, event: Event) -> Result<bool, AllocError>
-    requires stands { MayStand work.old.standing }
-    requires built { is_built event ≡ true }
+    requires { is_built event ≡ true }
     ensures tried { IfOk result (λ leads. IsTried work.old.standing event leads work.new.standing) }
     ensures stands { OnOk result (MayStand work.new.standing) }
 {

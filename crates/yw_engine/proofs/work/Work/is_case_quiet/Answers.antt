@@ -2,4 +2,5 @@ use Rattle.yw_engine.proofs.Coming.{quiet_by}
 use Rattle.yw_engine.proofs.work.Work.is_case_quiet.Goals as goal
 
 pub returns : goal.returns
-returns c = quiet_by c.args.self.now.standing c.requires c.args.case c.is_quiet.result c.is_quiet.ensures
+returns c =
+    quiet_by c.args.self.now.standing c.requires c.args.case c.known.result.now c.forest.result.now c.next.result c.known.ensures c.forest.ensures c.next.ensures c.is_quiet.result c.is_quiet.ensures
