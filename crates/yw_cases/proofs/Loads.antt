@@ -40,7 +40,7 @@ module _ (old : Standing) where
           boxed = may.held.boxed;
         }
 
-    load_done : (name text : List ℕ) → AlwaysLeads old.known (events.Load name text) new → AddsSpec old.known new name text
+    pub load_done : (name text : List ℕ) → AlwaysLeads old.known (events.Load name text) new → AddsSpec old.known new name text
         → IsDone old (events.Load name text) (record old { known = new })
     load_done name text always adds =
         let sites : sites_of (names_of old.known) old.forest ≡ sites_of (names_of new) old.forest =

@@ -1,11 +1,14 @@
 -- Whether an event leads on, and what it leads to.
-use Rattle.std.specs.Prelude.{Bool, false, true, ◌≡◌}
+use Rattle.std.specs.Prelude.{Bool, List, Some, false, true, ℕ, ◌≡◌}
 use Rattle.yw_cases.specs.State.{state_of}
 use Rattle.yw_cases.specs.declared.standing.Standing.{Standing}
 use Rattle.yw_model.specs.Texts.{reader}
+use Rattle.yw_state.specs.Broken.{Breaks}
 use Rattle.yw_state.specs.Events.{Leads}
 use Rattle.yw_state.specs.State.{State}
+use Rattle.yw_state.specs.declared.command.Command.TheVariants as commands
 use Rattle.yw_state.specs.declared.event.Event.{Event}
+use Rattle.yw_state.specs.declared.rule.Refusal.{Refusal}
 use Rattle.yw_tree.specs.Forest.{IsForest}
 
 -- the event leads nowhere
@@ -16,6 +19,10 @@ LeadsNowhere old e = (t : State) → Leads reader (state_of old) e t → ⊥
 abbrev pub IsTried : Standing → Event → Bool → Standing → Type 0
 IsTried old e true new = Leads reader (state_of old) e (state_of new)
 IsTried old e false new = LeadsNowhere old e × (new ≡ old)
+
+-- a load of this text breaks this rule first
+abbrev pub IsUnfit : Standing → List ℕ → Refusal → Type 0
+IsUnfit old text refusal = Breaks reader (state_of old) (commands.Load text) (Some refusal)
 
 -- The event leads on, and the forest is well boxed.
 pub record IsDone (old : Standing) (e : Event) (new : Standing) : Type 0 where

@@ -2,17 +2,24 @@
 ghost use Rattle.std.specs.Prelude.{◌≡◌, IfOk, OnErr, true};
 ghost use Rattle.yw_cases.specs.Ended.{ended_of};
 ghost use Rattle.yw_cases.specs.State.{MayStand, state_of};
-ghost use Rattle.yw_cases.specs.Tried.{IsTried};
+ghost use Rattle.yw_cases.specs.Tried.{IsTried, IsUnfit};
+ghost use Rattle.yw_library.specs.Accepts.{IfRefused};
+ghost use Rattle.yw_model.specs.Texts.{reader};
 ghost use Rattle.yw_plain.specs.Plain.{is_plain_event};
+ghost use Rattle.yw_state.specs.Events.{Leads};
 ghost use Rattle.yw_state.specs.Map.{get};
 ghost use Rattle.yw_state.specs.State.{opening};
+ghost use Rattle.yw_state.specs.declared.event.Event.TheVariants as events;
 
 use crate::EndedTable;
 use crate::event::try_event;
+use crate::library::load;
 use crate::standing::Standing;
 use std::alloc::{AllocError, Global};
 use std::marker::Model;
+use yw_base::Name;
 use yw_known::Known;
+use yw_library::LibraryFault;
 use yw_state::{Event, Way};
 use yw_tree::Forest;
 
@@ -58,6 +65,14 @@ fn nothing(alloc: Global) -> Standing
     }
 }
 
+/// Nothing is kept any more.
+fn forget(alloc: Global, standing: &mut Standing)
+    ensures state { state_of standing.new ≡ opening }
+    ensures stands { MayStand standing.new }
+{
+    *standing = nothing(alloc);
+}
+
 impl Cases {
     /// Nobody, no specification and no case. It takes no memory.
     pub fn new(alloc: Global) -> Cases
@@ -79,8 +94,26 @@ impl Cases {
         match try_event(self.alloc, &mut self.standing, event) {
             Ok(leads) => Ok(leads),
             Err(AllocError) => {
-                self.standing = nothing(self.alloc);
+                forget(self.alloc, &mut self.standing);
                 Err(AllocError)
+            }
+        }
+    }
+
+    /// Loads the specification that a text says, and gives its name: the state is that after the event that loads it under this name.
+    ///
+    /// `Refused` comes exactly where the text breaks a rule, with the first, and changes nothing. `Memory` comes only where no memory was left;
+    /// then nothing is kept any more.
+    pub fn load(&mut self, text: &str) -> Result<Name, LibraryFault>
+        ensures ok { IfOk result (λ name. Leads reader (state_of self.old) (events.Load name text.now) (state_of self.new)) }
+        ensures refused { IfRefused result (λ refusal. IsUnfit self.old text.now refusal × (self.new ≡ self.old)) }
+    {
+        match load(&mut self.standing, text) {
+            Ok(name) => Ok(name),
+            Err(LibraryFault::Refused(refusal)) => Err(LibraryFault::Refused(refusal)),
+            Err(LibraryFault::Memory) => {
+                forget(self.alloc, &mut self.standing);
+                Err(LibraryFault::Memory)
             }
         }
     }

@@ -1,14 +1,15 @@
 // Persons, and specifications that are loaded.
 ghost use Rattle.std.specs.Prelude.{◌≡◌, IfOk};
 ghost use Rattle.yw_cases.specs.State.{MayStand};
-ghost use Rattle.yw_cases.specs.Tried.{Tries};
+ghost use Rattle.yw_cases.specs.Tried.{IsDone, IsUnfit, Tries};
+ghost use Rattle.yw_library.specs.Accepts.{IfRefused};
 ghost use Rattle.yw_state.specs.Allowed.{are_roles};
 ghost use Rattle.yw_state.specs.declared.event.Event.TheVariants as events;
 
 use crate::standing::Standing;
 use std::alloc::{AllocError, Global};
 use yw_base::{Name, NameList};
-use yw_library::copy_of_names;
+use yw_library::{LibraryFault, copy_of_names};
 
 const MOST_ROLES: usize = 64;
 
@@ -44,4 +45,16 @@ pub fn try_load(standing: &mut Standing, name: &Name, text: &str) -> Result<bool
 {
     let leads = standing.known.load_as(name, text)?;
     Ok(leads)
+}
+
+/// Loads the specification that a text says, and gives its name.
+pub fn load(standing: &mut Standing, text: &str) -> Result<Name, LibraryFault>
+    requires { MayStand standing.old }
+    ensures ok { IfOk result (λ name. IsDone standing.old (events.Load name text.now) standing.new) }
+    ensures refused { IfRefused result (λ refusal. IsUnfit standing.old text.now refusal × (standing.new ≡ standing.old)) }
+{
+    match standing.known.load(text) {
+        Ok(name) => Ok(name),
+        Err(fault) => Err(fault),
+    }
 }
