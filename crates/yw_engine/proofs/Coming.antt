@@ -10,10 +10,10 @@ use Rattle.yw_library.specs.Holdings.{Holdings}
 use Rattle.yw_model.specs.Texts.{reader}
 use Rattle.yw_plain.specs.Plain.{is_plain_event}
 use Rattle.yw_state.proofs.Tests.{never}
-use Rattle.yw_state.specs.Automatic.{Comes, IsQuiet, is_automatic}
+use Rattle.yw_state.specs.Automatic.{Comes, IsQuiet}
 use Rattle.yw_state.specs.Events.{Leads, after}
 use Rattle.yw_state.specs.State.{State}
-use Rattle.yw_state.specs.Texts.{EventText, TextSays, no_text, nothing, text_of}
+use Rattle.yw_state.specs.Texts.{EventText, TextSays, nothing}
 use Rattle.yw_state.specs.declared.event.Event.{Event}
 use Rattle.yw_state.specs.declared.event.Event.TheVariants as events
 use Rattle.yw_tree.specs.declared.Forest.{Forest}
@@ -74,28 +74,31 @@ comes_on h n e comes =
 -- and to no other state than the one after it
 pub comes_after : (s t : State) (n : ℕ) (e : Event) → Comes s n e → Leads reader s e t → t ≡ after s e nothing
 comes_after s t n e comes leads =
-    let said : leads.said ≡ nothing = subst (λ (x : EventText). TextSays reader s x leads.said) (no_text_of s e comes.automatic) leads.says in
+    let said : leads.said ≡ nothing = subst (λ (x : EventText). TextSays reader s x leads.said) (no_text_of s e comes.automatic)
+    leads.says in
     leads.then ∙ ap (after s e) said
 
 module _ (h : Standing) (may : MayStand h) (n : ℕ) where
   -- what is found by the walk over the case, by the parts that are read
-  module _ (known : Holdings) (f : Forest) (next : ℕ) (same : known ≡ h.known) (same_forest : f ≡ h.forest) (same_next : next ≡ h.next) where
-    stands_for : StandsFor known f next (state_of h)
-    stands_for = record { held = held_by h known f same same_forest may; plain = may.plain; drawn = next_of h next same_next }
+  module _ (known : Holdings) (f : Forest) (next : ℕ) (same : known ≡ h.known) (same_forest : f ≡ h.forest) (same_next : next ≡ h.next)
+    where
+      stands_for : StandsFor known f next (state_of h)
+      stands_for = record { held = held_by h known f same same_forest may; plain = may.plain; drawn = next_of h next same_next }
 
-    walked : (found : Option Event) → FindsNext known f n next found → IsNext h n found
-    walked None finds = (finds (state_of h) stands_for).1
-    walked (Some e) finds =
-        let it = finds (state_of h) stands_for in
-        (it.comes, plain_is_built e (it.plain may.no_worklet))
+      walked : (found : Option Event) → FindsNext known f n next found → IsNext h n found
+      walked None finds = (finds (state_of h) stands_for).1
+      walked (Some e) finds =
+          let it = finds (state_of h) stands_for in
+          (it.comes, plain_is_built e (it.plain may.no_worklet))
 
-    pub walked_by : {E : Type 0} (result : Result (Option Event) E) → IfOk result (FindsNext known f n next) → IfOk result (IsNext h n)
-    walked_by (Ok found) finds = walked found finds
-    walked_by (Err fault) finds = tt
+      pub walked_by : {E : Type 0} (result : Result (Option Event) E) → IfOk result (FindsNext known f n next) → IfOk result (IsNext h n)
+      walked_by (Ok found) finds = walked found finds
+      walked_by (Err fault) finds = tt
 
-    pub quiet_by : {E : Type 0} (result : Result Bool E) → IfOk result (TellsQuiet known f n next) → IfOk result (λ quiet. IsTrue quiet ↔ IsQuiet (state_of h) n)
-    quiet_by (Ok quiet) tells = tells (state_of h) stands_for
-    quiet_by (Err fault) tells = tt
+      pub quiet_by : {E : Type 0} (result : Result Bool E) → IfOk result (TellsQuiet known f n next)
+          → IfOk result (λ quiet. IsTrue quiet ↔ IsQuiet (state_of h) n)
+      quiet_by (Ok quiet) tells = tells (state_of h) stands_for
+      quiet_by (Err fault) tells = tt
 
   -- an event that is found leads on
   pub next_on : (found : Option Event) (e : Event) → found ≡ Some e → IsNext h n found → LeadsOn h e

@@ -26,7 +26,7 @@ use Rattle.yw_state.specs.Events.{Leads}
 use Rattle.yw_state.specs.Given.{element_value, launch_values}
 use Rattle.yw_state.specs.Identity.{Ident, case_number}
 use Rattle.yw_state.specs.Legal.{IsAsked}
-use Rattle.yw_state.specs.State.{State, TaskAt, task_at, top_called}
+use Rattle.yw_state.specs.State.{TaskAt, task_at, top_called}
 use Rattle.yw_state.specs.declared.command.Command.{Command}
 use Rattle.yw_state.specs.declared.command.Command.TheVariants as commands
 use Rattle.yw_state.specs.declared.command.Given.{Given}
@@ -42,7 +42,8 @@ abbrev pub Asks : Standing → Command → Event → Type 0
 Asks h c e = IsAsked reader (state_of h) c e × LeadsOn h e
 
 -- where it asks for no other
-as_asked : (h : Standing) (c : Command) (e : Event) → HasEvent reader (state_of h) c → ((d : Event) → IsAsked reader (state_of h) c d → d ≡ e) → Asks h c e
+as_asked : (h : Standing) (c : Command) (e : Event) → HasEvent reader (state_of h) c
+    → ((d : Event) → IsAsked reader (state_of h) c d → d ≡ e) → Asks h c e
 as_asked h c e (d, t, asked, leads) only =
     let same : d ≡ e = only d asked in
     (subst (IsAsked reader (state_of h) c) same asked, (t, subst (λ (z : Event). Leads reader (state_of h) z t) same leads))
@@ -53,7 +54,8 @@ holds_within h may = well_holds_within reader (state_of h) accepted_are_within m
 -- ---- events that are made of something
 
 -- what is so of each of these is so of the one that is asked for
-of_kind : {A : Type 0} (g : A → Event) (m : Option ℕ) → ((x : A) → (is_built (g x) ≡ true) × (case_of (g x) ≡ m)) → (o : Option A) (e : Event) → Some e ≡ option_map g o
+of_kind : {A : Type 0} (g : A → Event) (m : Option ℕ) → ((x : A) → (is_built (g x) ≡ true) × (case_of (g x) ≡ m))
+    → (o : Option A) (e : Event) → Some e ≡ option_map g o
     → (is_built e ≡ true) × (case_of e ≡ m)
 of_kind g m kind o e is =
     let x = map_some g o e (sym is) in
@@ -65,14 +67,16 @@ of_nothing g o e none is = nowhere (sym (ap (option_map g) none) ∙ sym is)
 
 -- ---- a launch
 
-module _ (h : Standing) (may : MayStand h) (known : Holdings) (next : ℕ) (same : known ≡ h.known) (same_next : next ≡ h.next) (name : List ℕ) (gs : List Given) where
+module _ (h : Standing) (may : MayStand h) (known : Holdings) (next : ℕ) (same : known ≡ h.known) (same_next : next ≡ h.next)
+    (name : List ℕ) (gs : List Given) where
   abbrev LaunchFound : Option Event → Type 0
   LaunchFound found = LaunchAsks known next name gs found
 
   known_held : IsHeld known h.forest (state_of h)
   known_held = held_by h known h.forest same refl may
 
-  pub launch_breaks_now : (found : Option Refusal) → BreaksNext known next (commands.Launch name gs) found → BreaksNow h (commands.Launch name gs) found
+  pub launch_breaks_now : (found : Option Refusal) → BreaksNext known next (commands.Launch name gs) found
+      → BreaksNow h (commands.Launch name gs) found
   launch_breaks_now found breaks = breaks h.forest (state_of h) known_held (next_of h next same_next)
 
   module _ (found : Option Event) (asks : LaunchFound found) where
@@ -96,7 +100,8 @@ module _ (h : Standing) (may : MayStand h) (known : Holdings) (next : ℕ) (same
       launch_kind : (is_built e ≡ true) × (case_of e ≡ Some (state_of h).next)
       unfolding IsAsked
       launch_kind =
-          of_kind (λ (net : Net). events.Launch (state_of h).next name (launch_values net.vars gs)) (Some (state_of h).next) (λ net. (refl, refl)) (top_called (state_of h) name) e
+          of_kind (λ (net : Net). events.Launch (state_of h).next name (launch_values net.vars gs)) (Some (state_of h).next)
+          (λ net. (refl, refl)) (top_called (state_of h) name) e
           launch_asked
 
       pub launch_built : is_built e ≡ true
@@ -107,7 +112,8 @@ module _ (h : Standing) (may : MayStand h) (known : Holdings) (next : ℕ) (same
 
 -- ---- an addition
 
-module _ (h : Standing) (may : MayStand h) (known : Holdings) (f : Forest) (next : ℕ) (same : known ≡ h.known) (same_forest : f ≡ h.forest) (same_next : next ≡ h.next)
+module _ (h : Standing) (may : MayStand h) (known : Holdings) (f : Forest) (next : ℕ) (same : known ≡ h.known)
+    (same_forest : f ≡ h.forest) (same_next : next ≡ h.next)
     (who : List ℕ) (i : Ident) (t : List ℕ) (value : Option Value) where
   abbrev AddFound : Option Event → Type 0
   AddFound found = AddAsks known f next i t value found
@@ -120,7 +126,8 @@ module _ (h : Standing) (may : MayStand h) (known : Holdings) (f : Forest) (next
     unfolding IsAsked
     add_there unbroken none =
         let (d, s, asked, leads) = tasks.add_has_event reader (state_of h) may.held.well (holds_within h may) who i t value unbroken in
-        of_nothing (λ (v : Value). events.Add i t v (state_of h).next) (option_and_then (λ (x : TaskAt). element_value x.task value) (task_at (state_of h) i t)) d
+        of_nothing (λ (v : Value). events.Add i t v (state_of h).next)
+        (option_and_then (λ (x : TaskAt). element_value x.task value) (task_at (state_of h) i t)) d
         (subst AddFound none asks (state_of h) parts_held) asked
 
     module _ (e : Event) (is : found ≡ Some e) where
@@ -130,7 +137,8 @@ module _ (h : Standing) (may : MayStand h) (known : Holdings) (f : Forest) (next
       pub add_asks : BreaksNow h (commands.Add who i t value) None → Asks h (commands.Add who i t value) e
       unfolding IsAsked
       add_asks unbroken =
-          as_asked h (commands.Add who i t value) e (tasks.add_has_event reader (state_of h) may.held.well (holds_within h may) who i t value unbroken)
+          as_asked h (commands.Add who i t value) e
+          (tasks.add_has_event reader (state_of h) may.held.well (holds_within h may) who i t value unbroken)
           (λ d asked. some_same d e (asked ∙ sym add_asked))
 
       add_kind : (is_built e ≡ true) × (case_of e ≡ Some (case_number i))
@@ -148,27 +156,32 @@ module _ (h : Standing) (may : MayStand h) (known : Holdings) (f : Forest) (next
 -- ---- events whose fields the command has
 
 module _ (h : Standing) where
-  pub start_asks : MayStand h → (who : List ℕ) (j : Ident) → BreaksNow h (commands.Start who j) None → Asks h (commands.Start who j) (events.Start j who)
+  pub start_asks : MayStand h → (who : List ℕ) (j : Ident) → BreaksNow h (commands.Start who j) None
+      → Asks h (commands.Start who j) (events.Start j who)
   unfolding IsAsked
   start_asks may who j unbroken =
-      as_asked h (commands.Start who j) (events.Start j who) (items.start_has_event reader (state_of h) may.held.well who j unbroken) (λ d asked. asked)
+      as_asked h (commands.Start who j) (events.Start j who) (items.start_has_event reader (state_of h) may.held.well who j unbroken)
+      (λ d asked. asked)
 
   module _ (j : Ident) (n : ℕ) (same : n ≡ case_number j) where
     pub cancel_asks : BreaksNow h (commands.Cancel j) None → Asks h (commands.Cancel j) (events.Cancel n)
     unfolding IsAsked
     cancel_asks unbroken =
-        as_asked h (commands.Cancel j) (events.Cancel n) (cases.cancel_has_event reader (state_of h) j unbroken) (λ d asked. asked ∙ ap events.Cancel (sym same))
+        as_asked h (commands.Cancel j) (events.Cancel n) (cases.cancel_has_event reader (state_of h) j unbroken)
+        (λ d asked. asked ∙ ap events.Cancel (sym same))
 
     pub advance_asks : BreaksNow h (commands.Advance j) None → Asks h (commands.Advance j) (events.Advance n)
     unfolding IsAsked
     advance_asks unbroken =
-        as_asked h (commands.Advance j) (events.Advance n) (cases.advance_has_event reader (state_of h) j unbroken) (λ d asked. asked ∙ ap events.Advance (sym same))
+        as_asked h (commands.Advance j) (events.Advance n) (cases.advance_has_event reader (state_of h) j unbroken)
+        (λ d asked. asked ∙ ap events.Advance (sym same))
 
   module _ (name : List ℕ) (roles : List (List ℕ)) where
     pub person_asks : are_roles roles ≡ true → Asks h (commands.Person name roles) (events.Person name roles)
     unfolding IsAsked
     person_asks right =
-        as_asked h (commands.Person name roles) (events.Person name roles) (cases.person_has_event reader (state_of h) name roles right) (λ d asked. asked)
+        as_asked h (commands.Person name roles) (events.Person name roles)
+        (cases.person_has_event reader (state_of h) name roles right) (λ d asked. asked)
 
     -- a person breaks no rule
     pub person_unbroken : BreaksNow h (commands.Person name roles) None

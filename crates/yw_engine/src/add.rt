@@ -29,7 +29,16 @@ fn add_breaks(
     let front = add_front(known, forest, who, at);
     match in_front(work, front, case_number(at))? {
         Some(refusal) => Ok(Some(refusal)),
-        None => add_rest(work.alloc, known, forest, standing.next(), who, at, task, value),
+        None => add_rest(
+            work.alloc,
+            known,
+            forest,
+            standing.next(),
+            who,
+            at,
+            task,
+            value,
+        ),
     }
 }
 

@@ -12,7 +12,8 @@ use std::alloc::AllocError;
 use yw_settle::entry_of;
 use yw_state::Event;
 
-/// What comes of itself in the case of an event that is done, behind it. An `Err` says that no memory was left; what is held then is told nowhere.
+/// What comes of itself in the case of an event that is done, behind it. An `Err` says that no memory was left; what is held then is
+/// told nowhere.
 pub fn behind(work: &mut Work, event: Event, case: Option<u64>) -> Result<Decided, AllocError>
     requires stands { MayStand work.old.standing }
     requires built { is_built event ≡ true }
@@ -26,8 +27,8 @@ pub fn behind(work: &mut Work, event: Event, case: Option<u64>) -> Result<Decide
     })
 }
 
-/// Does the event that a command asks for, and then what comes of itself in its case. An `Err` says that no memory was left; what is held then
-/// is told nowhere.
+/// Does the event that a command asks for, and then what comes of itself in its case. An `Err` says that no memory was left; what is
+/// held then is told nowhere.
 pub fn begin(work: &mut Work, event: Event, case: Option<u64>) -> Result<Decided, AllocError>
     requires stands { MayStand work.old.standing }
     requires built { is_built event ≡ true }

@@ -12,8 +12,8 @@ use crate::work::Work;
 use crate::{Decided, EngineFault};
 use yw_state::Command;
 
-/// Does what a command asks for, and what comes of itself behind it, and gives these events. What is held is then that after them. What it is
-/// after `Memory` is told nowhere; `Spent` never comes.
+/// Does what a command asks for, and what comes of itself behind it, and gives these events. What is held is then that after them.
+/// What it is after `Memory` is told nowhere; `Spent` never comes.
 pub fn decide_on(work: &mut Work, command: Command) -> Result<Decided, EngineFault>
     requires stands { MayStand work.old.standing }
     requires asked { IsDecidedOn command }

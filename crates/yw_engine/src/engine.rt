@@ -109,10 +109,7 @@ impl Engine {
         }
         match try_owned(&mut self.work, event) {
             Ok(true) => Ok(()),
-            Ok(false) => Err(EngineFault::Refused(placeless(
-                self.work.alloc,
-                Rule::NotEnabled,
-            ))),
+            Ok(false) => Err(EngineFault::Refused(placeless(self.work.alloc, Rule::NotEnabled))),
             Err(AllocError) => {
                 self.spent = true;
                 Err(EngineFault::Memory)

@@ -30,12 +30,9 @@ pub fn case_number(id: &Ident) -> u64
     }
 }
 
-/// This rule, if one is broken; else `NotQuiet` where something is still to come of itself in the case. An `Err` says that no memory was left.
-pub fn in_front(
-    work: &Work,
-    front: Option<Rule>,
-    case: u64,
-) -> Result<Option<Refusal>, AllocError>
+/// This rule, if one is broken; else `NotQuiet` where something is still to come of itself in the case. An `Err` says that no memory
+/// was left.
+pub fn in_front(work: &Work, front: Option<Rule>, case: u64) -> Result<Option<Refusal>, AllocError>
     requires { MayStand work.now.standing }
     ensures { IfOk result (IsInFront work.now.standing front case) }
 {

@@ -13,11 +13,7 @@ use yw_library::LibraryFault;
 use yw_state::Event;
 
 /// A person gets roles. It breaks no rule.
-pub fn decide_person(
-    work: &mut Work,
-    name: Name,
-    roles: NameList,
-) -> Result<Decided, EngineFault>
+pub fn decide_person(work: &mut Work, name: Name, roles: NameList) -> Result<Decided, EngineFault>
     requires stands { MayStand work.old.standing }
     requires roles { are_roles roles ≡ true }
     ensures { Decides work.old.standing (commands.Person name roles) result work.new.standing }

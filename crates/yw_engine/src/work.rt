@@ -45,8 +45,8 @@ impl Work {
         is_quiet(self.alloc, known, forest, case, standing.next())
     }
 
-    /// Does an event, where it is allowed: `true`, and what is held is then that after it; else `false`, and nothing has changed. An `Err` says
-    /// that no memory was left; what is held then is told nowhere.
+    /// Does an event, where it is allowed: `true`, and what is held is then that after it; else `false`, and nothing has changed.
+    /// An `Err` says that no memory was left; what is held then is told nowhere.
     fn try_event(&mut self, event: &Event) -> Result<bool, AllocError>
         requires { is_built event.now ≡ true }
         ensures tried { IfOk result (λ leads. IsTried self.old.standing event.now leads self.new.standing) }

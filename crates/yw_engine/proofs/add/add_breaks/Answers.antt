@@ -16,8 +16,11 @@ returns-in-Some c =
     let i = c.args.at.now in
     let t = c.args.task.now in
     let value = c.args.value.now in
-    refused h (commands.Add who i t value) i (add_front s who i) (add_rest s who i t value) (add_joins reader s who i t value) c.case_number.result c.case_number.ensures
-    c.add_front-front.result (c.add_front-front.ensures s (held_by h c.known-known.result.now c.forest-forest.result.now c.known-known.ensures c.forest-forest.ensures c.requires)) c.in_ok-refusal.field-0 c.in-Some.refusal c.in-Some.is c.in_ok-refusal.ensures
+    refused h (commands.Add who i t value) i (add_front s who i) (add_rest s who i t value) (add_joins reader s who i t value)
+    c.case_number.result c.case_number.ensures
+    c.add_front-front.result (c.add_front-front.ensures s
+    (held_by h c.known-known.result.now c.forest-forest.result.now c.known-known.ensures c.forest-forest.ensures c.requires))
+    c.in_ok-refusal.field-0 c.in-Some.refusal c.in-Some.is c.in_ok-refusal.ensures
 
 pub returns-in-None : goal.returns-in-None
 returns-in-None c =
@@ -27,6 +30,10 @@ returns-in-None c =
     let i = c.args.at.now in
     let t = c.args.task.now in
     let value = c.args.value.now in
-    behind h (commands.Add who i t value) i (add_front s who i) (add_rest s who i t value) (add_joins reader s who i t value) c.case_number.result c.case_number.ensures
-    c.add_front-front.result (c.add_front-front.ensures s (held_by h c.known-known.result.now c.forest-forest.result.now c.known-known.ensures c.forest-forest.ensures c.requires)) c.in_ok-refusal.field-0 c.in-None.is c.in_ok-refusal.ensures
-    c.add_rest.result (with_next h c.requires c.known-known.result.now c.forest-forest.result.now c.known-known.ensures c.forest-forest.ensures (λ (z : State). add_rest z who i t value) c.next.result c.next.ensures c.add_rest.result c.add_rest.ensures)
+    behind h (commands.Add who i t value) i (add_front s who i) (add_rest s who i t value) (add_joins reader s who i t value)
+    c.case_number.result c.case_number.ensures
+    c.add_front-front.result (c.add_front-front.ensures s
+    (held_by h c.known-known.result.now c.forest-forest.result.now c.known-known.ensures c.forest-forest.ensures c.requires))
+    c.in_ok-refusal.field-0 c.in-None.is c.in_ok-refusal.ensures
+    c.add_rest.result (with_next h c.requires c.known-known.result.now c.forest-forest.result.now c.known-known.ensures
+    c.forest-forest.ensures (λ (z : State). add_rest z who i t value) c.next.result c.next.ensures c.add_rest.result c.add_rest.ensures)

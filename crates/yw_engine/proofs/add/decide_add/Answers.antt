@@ -10,28 +10,39 @@ unreachable-requires c =
     let h = c.args.work.now.standing in
     let command = commands.Add c.args.who.now c.args.net c.args.task c.args.value in
     let unbroken = subst (λ (found : Option Refusal). BreaksNow h command found) c.in_default.is c.in_ok-refusal.ensures in
-    add_there h c.requires c.known-known.result.now c.forest-forest.result.now c.next.result c.known-known.ensures c.forest-forest.ensures c.next.ensures c.args.who.now c.args.net c.args.task c.args.value c.add_event.result c.add_event.ensures unbroken c.in_default-add_event.is
+    add_there h c.requires c.known-known.result.now c.forest-forest.result.now c.next.result c.known-known.ensures
+    c.forest-forest.ensures c.next.ensures c.args.who.now c.args.net c.args.task c.args.value c.add_event.result c.add_event.ensures
+    unbroken c.in_default-add_event.is
 
 pub begin-requires-clause-built : goal.begin-requires-clause-built
 begin-requires-clause-built c =
     let h = c.args.work.now.standing in
-    add_built h c.requires c.known-known.result.now c.forest-forest.result.now c.next.result c.known-known.ensures c.forest-forest.ensures c.next.ensures c.args.who.now c.args.net c.args.task c.args.value c.add_event.result c.add_event.ensures c.in-Some-add_event.event c.in-Some-add_event.is
+    add_built h c.requires c.known-known.result.now c.forest-forest.result.now c.next.result c.known-known.ensures
+    c.forest-forest.ensures c.next.ensures c.args.who.now c.args.net c.args.task c.args.value c.add_event.result c.add_event.ensures
+    c.in-Some-add_event.event c.in-Some-add_event.is
 
 pub begin-requires-clause-case : goal.begin-requires-clause-case
 begin-requires-clause-case c =
     let h = c.args.work.now.standing in
-    add_case h c.requires c.known-known.result.now c.forest-forest.result.now c.next.result c.known-known.ensures c.forest-forest.ensures c.next.ensures c.args.who.now c.args.net c.args.task c.args.value c.add_event.result c.add_event.ensures c.in-Some-add_event.event c.in-Some-add_event.is c.case_number-case.result c.case_number-case.ensures
+    add_case h c.requires c.known-known.result.now c.forest-forest.result.now c.next.result c.known-known.ensures
+    c.forest-forest.ensures c.next.ensures c.args.who.now c.args.net c.args.task c.args.value c.add_event.result c.add_event.ensures
+    c.in-Some-add_event.event c.in-Some-add_event.is c.case_number-case.result c.case_number-case.ensures
 
 pub begin-requires-clause-leads : goal.begin-requires-clause-leads
 begin-requires-clause-leads c =
     let h = c.args.work.now.standing in
     let command = commands.Add c.args.who.now c.args.net c.args.task c.args.value in
     let unbroken = subst (λ (found : Option Refusal). BreaksNow h command found) c.in_default.is c.in_ok-refusal.ensures in
-    (add_asks h c.requires c.known-known.result.now c.forest-forest.result.now c.next.result c.known-known.ensures c.forest-forest.ensures c.next.ensures c.args.who.now c.args.net c.args.task c.args.value c.add_event.result c.add_event.ensures c.in-Some-add_event.event c.in-Some-add_event.is unbroken).1
+    (add_asks h c.requires c.known-known.result.now c.forest-forest.result.now c.next.result c.known-known.ensures
+    c.forest-forest.ensures c.next.ensures c.args.who.now c.args.net c.args.task c.args.value c.add_event.result c.add_event.ensures
+    c.in-Some-add_event.event c.in-Some-add_event.is unbroken).1
 
 pub returns : goal.returns
 returns c =
     let h = c.args.work.now.standing in
     let command = commands.Add c.args.who.now c.args.net c.args.task c.args.value in
     let unbroken = subst (λ (found : Option Refusal). BreaksNow h command found) c.in_default.is c.in_ok-refusal.ensures in
-    c.in_ok-begin.ensures command unbroken (add_asks h c.requires c.known-known.result.now c.forest-forest.result.now c.next.result c.known-known.ensures c.forest-forest.ensures c.next.ensures c.args.who.now c.args.net c.args.task c.args.value c.add_event.result c.add_event.ensures c.in-Some-add_event.event c.in-Some-add_event.is unbroken).0
+    c.in_ok-begin.ensures command unbroken
+    (add_asks h c.requires c.known-known.result.now c.forest-forest.result.now c.next.result c.known-known.ensures
+    c.forest-forest.ensures c.next.ensures c.args.who.now c.args.net c.args.task c.args.value c.add_event.result c.add_event.ensures
+    c.in-Some-add_event.event c.in-Some-add_event.is unbroken).0

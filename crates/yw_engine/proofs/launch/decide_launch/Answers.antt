@@ -12,7 +12,8 @@ returns-in-Some c =
     let gs = c.args.given.now in
     record {
       breaks = subst (λ (found : Option Refusal). BreaksNow h (commands.Launch name gs) found) c.in-Some.is
-          (launch_breaks_now h c.requires c.known-known.result.now c.next-next.result c.known-known.ensures c.next-next.ensures name gs c.in_ok-refusal.field-0 c.in_ok-refusal.ensures);
+          (launch_breaks_now h c.requires c.known-known.result.now c.next-next.result c.known-known.ensures c.next-next.ensures name gs
+          c.in_ok-refusal.field-0 c.in_ok-refusal.ensures);
       same = refl;
     }
 
@@ -22,16 +23,20 @@ unreachable-requires c =
     let name = c.args.spec.now in
     let gs = c.args.given.now in
     let unbroken = subst (λ (found : Option Refusal). BreaksNow h (commands.Launch name gs) found) c.in_default.is
-        (launch_breaks_now h c.requires c.known-known.result.now c.next-next.result c.known-known.ensures c.next-next.ensures name gs c.in_ok-refusal.field-0 c.in_ok-refusal.ensures) in
-    launch_there h c.requires c.known-known.result.now c.next-next.result c.known-known.ensures c.next-next.ensures name gs c.in_ok-event.field-0 c.in_ok-event.ensures unbroken c.in_default-2.is
+    (launch_breaks_now h c.requires c.known-known.result.now c.next-next.result c.known-known.ensures c.next-next.ensures name gs
+    c.in_ok-refusal.field-0 c.in_ok-refusal.ensures) in
+    launch_there h c.requires c.known-known.result.now c.next-next.result c.known-known.ensures c.next-next.ensures name gs
+    c.in_ok-event.field-0 c.in_ok-event.ensures unbroken c.in_default-2.is
 
 pub begin-requires-clause-built : goal.begin-requires-clause-built
 begin-requires-clause-built c =
-    launch_built c.args.work.now.standing c.requires c.known-known.result.now c.next-next.result c.known-known.ensures c.next-next.ensures c.args.spec.now c.args.given.now c.in_ok-event.field-0 c.in_ok-event.ensures c.in-Some-2.event c.in-Some-2.is
+    launch_built c.args.work.now.standing c.requires c.known-known.result.now c.next-next.result c.known-known.ensures
+    c.next-next.ensures c.args.spec.now c.args.given.now c.in_ok-event.field-0 c.in_ok-event.ensures c.in-Some-2.event c.in-Some-2.is
 
 pub begin-requires-clause-case : goal.begin-requires-clause-case
 begin-requires-clause-case c =
-    launch_case c.args.work.now.standing c.requires c.known-known.result.now c.next-next.result c.known-known.ensures c.next-next.ensures c.args.spec.now c.args.given.now c.in_ok-event.field-0 c.in_ok-event.ensures c.in-Some-2.event c.in-Some-2.is
+    launch_case c.args.work.now.standing c.requires c.known-known.result.now c.next-next.result c.known-known.ensures
+    c.next-next.ensures c.args.spec.now c.args.given.now c.in_ok-event.field-0 c.in_ok-event.ensures c.in-Some-2.event c.in-Some-2.is
 
 pub begin-requires-clause-leads : goal.begin-requires-clause-leads
 begin-requires-clause-leads c =
@@ -39,8 +44,10 @@ begin-requires-clause-leads c =
     let name = c.args.spec.now in
     let gs = c.args.given.now in
     let unbroken = subst (λ (found : Option Refusal). BreaksNow h (commands.Launch name gs) found) c.in_default.is
-        (launch_breaks_now h c.requires c.known-known.result.now c.next-next.result c.known-known.ensures c.next-next.ensures name gs c.in_ok-refusal.field-0 c.in_ok-refusal.ensures) in
-    (launch_asks h c.requires c.known-known.result.now c.next-next.result c.known-known.ensures c.next-next.ensures name gs c.in_ok-event.field-0 c.in_ok-event.ensures c.in-Some-2.event c.in-Some-2.is unbroken).1
+    (launch_breaks_now h c.requires c.known-known.result.now c.next-next.result c.known-known.ensures c.next-next.ensures name gs
+    c.in_ok-refusal.field-0 c.in_ok-refusal.ensures) in
+    (launch_asks h c.requires c.known-known.result.now c.next-next.result c.known-known.ensures c.next-next.ensures name gs
+    c.in_ok-event.field-0 c.in_ok-event.ensures c.in-Some-2.event c.in-Some-2.is unbroken).1
 
 pub returns : goal.returns
 returns c =
@@ -48,6 +55,8 @@ returns c =
     let name = c.args.spec.now in
     let gs = c.args.given.now in
     let unbroken = subst (λ (found : Option Refusal). BreaksNow h (commands.Launch name gs) found) c.in_default.is
-        (launch_breaks_now h c.requires c.known-known.result.now c.next-next.result c.known-known.ensures c.next-next.ensures name gs c.in_ok-refusal.field-0 c.in_ok-refusal.ensures) in
+    (launch_breaks_now h c.requires c.known-known.result.now c.next-next.result c.known-known.ensures c.next-next.ensures name gs
+    c.in_ok-refusal.field-0 c.in_ok-refusal.ensures) in
     c.in_ok-begin.ensures (commands.Launch name gs) unbroken
-    (launch_asks h c.requires c.known-known.result.now c.next-next.result c.known-known.ensures c.next-next.ensures name gs c.in_ok-event.field-0 c.in_ok-event.ensures c.in-Some-2.event c.in-Some-2.is unbroken).0
+    (launch_asks h c.requires c.known-known.result.now c.next-next.result c.known-known.ensures c.next-next.ensures name gs
+    c.in_ok-event.field-0 c.in_ok-event.ensures c.in-Some-2.event c.in-Some-2.is unbroken).0

@@ -11,6 +11,8 @@ pub returns-in-Ok : goal.returns-in-Ok
 returns-in-Ok c =
     let old = c.args.work.now.standing in
     let mid = c.load.new.self in
-    let leads = subst (λ (text : List ℕ). Leads reader (state_of old) (events.Load c.in-Ok.name text) (state_of mid)) c.as_str.ensures c.in-Ok.ensures.ok in
+    let leads = subst (λ (text : List ℕ). Leads reader (state_of old) (events.Load c.in-Ok.name text) (state_of mid)) c.as_str.ensures
+    c.in-Ok.ensures.ok in
     let done : IsDone old (events.Load c.in-Ok.name c.args.toml) mid = record { leads = leads; stands = c.may_stand.ensures } in
-    load_decided old mid c.behind.new.work.standing c.in_ok-behind-in-Ok.field-0 c.in-Ok.name c.args.toml done (c.in_ok-behind-in-Ok.ensures old done)
+    load_decided old mid c.behind.new.work.standing c.in_ok-behind-in-Ok.field-0 c.in-Ok.name c.args.toml done
+    (c.in_ok-behind-in-Ok.ensures old done)

@@ -8,4 +8,5 @@ begin-requires-clause-leads c = (person_asks c.args.work.now.standing c.args.nam
 pub returns : goal.returns
 returns c =
     let h = c.args.work.now.standing in
-    c.in_ok-begin.ensures (commands.Person c.args.name c.args.roles) (person_unbroken h c.args.name c.args.roles) (person_asks h c.args.name c.args.roles c.requires.roles).0
+    c.in_ok-begin.ensures (commands.Person c.args.name c.args.roles) (person_unbroken h c.args.name c.args.roles)
+    (person_asks h c.args.name c.args.roles c.requires.roles).0

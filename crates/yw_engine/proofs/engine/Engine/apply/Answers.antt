@@ -1,4 +1,4 @@
-use Rattle.std.proofs.Common.{◌∙◌, Bool, List, ap, subst, sym, ℕ}
+use Rattle.std.proofs.Common.{◌∙◌, Bool, ap, subst, sym}
 use Rattle.yw_cases.specs.Tried.{IsTried}
 use Rattle.yw_cases.specs.declared.standing.Standing.{Standing}
 use Rattle.yw_engine.proofs.engine.Engine.apply.Goals as goal
@@ -10,7 +10,8 @@ pub returns-in-Ok-false-clause-refused : goal.returns-in-Ok-false-clause-refused
 returns-in-Ok-false-clause-refused c =
     let old = c.self.inside.work.standing in
     let event = c.args.event in
-    let tried = subst (λ (b : Bool). IsTried old event b c.try_owned.new.work.standing) c.in-Ok-false.field-0-test c.in-Ok-false.ensures.tried in
+    let tried = subst (λ (b : Bool). IsTried old event b c.try_owned.new.work.standing) c.in-Ok-false.field-0-test
+    c.in-Ok-false.ensures.tried in
     let held : Standing → Held = λ standing. record { standing = standing; spent = c.self.inside.spent } in (
       c.placeless.ensures,
       λ t leads. tried.0 t (subst (λ (h : Held). Leads reader (state_of h) event t) (sym c.self.view_is) leads),
