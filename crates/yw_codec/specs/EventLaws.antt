@@ -1,5 +1,5 @@
 -- The bytes of events tell where they end. By its tag an event is of one kind, and its fields stand behind the tag.
-use Rattle.std.proofs.Common.{◌≡◌, ◌&&◌, ◌==◌, ◌||◌, ℕ, List, [], ◌∷◌, ◌++◌, length, Bool, true, false, refl, sym, ap, ◌∙◌, arith, drop, get_or, slice_index}
+use Rattle.std.proofs.Common.{◌≡◌, ◌&&◌, ◌==◌, ◌||◌, ℕ, List, [], ◌∷◌, ◌++◌, length, Bool, true, false, refl, sym, ap, ◌∙◌, arith, drop, get_or, slice_index, nat_le}
 use Rattle.yw_base.specs.Identity.{is_identity}
 use Rattle.yw_base.specs.Spelling.{is_name}
 use Rattle.yw_base.specs.declared.value.Value.{Value}
@@ -312,8 +312,12 @@ event_apart e f whole x y s u = absurd (not_so s.in_range)
     not_so : false ≡ true → ⊥
     not_so h = cc
 
+-- the tags of what is built
+abbrev pub is_built_tag : ℕ → Bool
+is_built_tag tag = tag == 1 || (tag == 2 || (nat_le 4 tag && nat_le tag 14 || tag == 24))
+
 -- what is built is told by the tag
-pub built_by_tag : (e : Event) (rest : List ℕ) (tag : ℕ) → slice_index (event_bytes e ++ rest) 0 ≡ tag → (tag == 1 || tag == 2) ≡ is_built e
-built_by_tag (events.Person name roles) rest tag h = ap (λ (t : ℕ). t == 1 || t == 2) (sym h)
-built_by_tag (events.Load name text) rest tag h = ap (λ (t : ℕ). t == 1 || t == 2) (sym h)
-built_by_tag e rest tag h = ap (λ (t : ℕ). t == 1 || t == 2) (sym h)
+pub built_by_tag : (e : Event) (rest : List ℕ) (tag : ℕ) → slice_index (event_bytes e ++ rest) 0 ≡ tag → is_built_tag tag ≡ is_built e
+built_by_tag (events.Person name roles) rest tag h = ap is_built_tag (sym h)
+built_by_tag (events.Load name text) rest tag h = ap is_built_tag (sym h)
+built_by_tag e rest tag h = ap is_built_tag (sym h)

@@ -26,7 +26,7 @@ const ENTRY_ROOM: usize = 128;
 fn is_built_tag(tag: u8) -> bool
     ensures { (event : Event) (rest : List ℕ) → slice_index (event_bytes event ++ rest) 0 ≡ tag → is_built event ≡ result }
 {
-    matches!(tag, 1 | 2)
+    matches!(tag, 1 | 2 | 4..=14 | 24)
 }
 
 // The event at the front, where the server does such today.
@@ -123,7 +123,7 @@ fn frame(out: &mut Vec<u8>) -> Result<(), AllocError>
 
 /// Makes of `out` the bytes of an entry as they are appended: the entry's length as a u32, the entry, and a closed gate.
 /// What stood in `out` goes and its room stays, so that one buffer serves many entries. An entry has 1 to 4,097 events,
-/// each such as the server does today: a person with at most 64 roles or a load. An `Err` says that no memory was left, or
+/// each such as the server does today. A person has at most 64 roles. An `Err` says that no memory was left, or
 /// that the length of the entry or of a text in it doesn't fit a u32; what `out` has then is told nowhere.
 pub fn write_entry_into(out: &mut Vec<u8>, events: &EventList) -> Result<(), AllocError>
     requires some { 1 ≤ length events.now }
@@ -140,7 +140,7 @@ pub fn write_entry_into(out: &mut Vec<u8>, events: &EventList) -> Result<(), All
 }
 
 /// The bytes of an entry as they are appended: the entry's length as a u32, the entry, and a closed gate. It has 1 to
-/// 4,097 events, each such as the server does today: a person with at most 64 roles or a load. An
+/// 4,097 events, each such as the server does today. A person has at most 64 roles. An
 /// `Err` says that no memory was left, or that the length of the entry or of a text in it doesn't fit a u32.
 pub fn write_entry(alloc: Global, events: &EventList) -> Result<Bytes, AllocError>
     requires some { 1 ≤ length events.now }

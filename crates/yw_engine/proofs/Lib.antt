@@ -1,2 +1,6 @@
-pub mod Standing
-pub mod Deciding
+pub mod Asking
+pub mod Parts
+pub mod Coming
+pub mod Fronts
+pub mod Commands
+pub mod Loads

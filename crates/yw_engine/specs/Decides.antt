@@ -1,30 +1,71 @@
--- What a command does to a library, whatever else the state has. Our own.
-use Rattle.std.specs.Prelude.{◌≡◌, true, Some, Result, Ok, Err}
+-- What a command does to what is held. Our own.
+use Rattle.std.specs.Prelude.{◌≡◌, ℕ, Option, Some, None, true, MatchOption, Result, Ok, Err}
 use Rattle.std.specs.List.{list_all}
-use Rattle.yw_engine.specs.declared.fault.Decided.{Decided}
-use Rattle.yw_library.specs.Always.{AlwaysBreaks}
-use Rattle.yw_library.specs.Holdings.{Holdings, with_library}
-use Rattle.yw_library.specs.declared.fault.LibraryFault.{LibraryFault}
-use Rattle.yw_library.specs.declared.fault.LibraryFault.TheVariants as library_faults
-use Rattle.yw_model.specs.Texts.{reader}
 use Rattle.yw_built.specs.Built.{is_built}
-use Rattle.yw_state.specs.Legal.{IsLegal}
+use Rattle.yw_cases.specs.State.{MayStand, state_of}
+use Rattle.yw_cases.specs.declared.standing.Standing.{Standing}
+use Rattle.yw_engine.specs.declared.fault.Decided.{Decided}
+use Rattle.yw_engine.specs.declared.fault.EngineFault.{EngineFault}
+use Rattle.yw_engine.specs.declared.fault.EngineFault.TheVariants as faults
+use Rattle.yw_model.specs.Texts.{reader}
+use Rattle.yw_state.specs.Automatic.{Comes, IsQuiet}
+use Rattle.yw_state.specs.Broken.{Breaks, placeless}
+use Rattle.yw_state.specs.Events.{Leads}
+use Rattle.yw_state.specs.Legal.{IsAsked, IsLegal}
 use Rattle.yw_state.specs.State.{State}
 use Rattle.yw_state.specs.declared.command.Command.{Command}
+use Rattle.yw_state.specs.declared.event.Event.{Event}
 use Rattle.yw_state.specs.declared.rule.Refusal.{Refusal}
+use Rattle.yw_state.specs.declared.rule.Rule.{Rule}
+use Rattle.yw_state.specs.declared.rule.Rule.TheVariants.{NotQuiet}
 
--- The events may answer the command, and are built.
-pub record IsDecided (old : Holdings) (c : Command) (d : Decided) (new : Holdings) : Type 0 where
-  pub legal : (s : State) → IsLegal reader (with_library s old) c d.events d.quiet (with_library s new)
+-- ---- an event
+
+-- the event is allowed, and leads to a state
+abbrev pub LeadsOn : Standing → Event → Type 0
+LeadsOn old e = (t : State) × Leads reader (state_of old) e t
+
+-- The event is allowed, and led to what is held now, which is well.
+pub record IsDone (old : Standing) (e : Event) (new : Standing) : Type 0 where
+  pub leads : Leads reader (state_of old) e (state_of new)
+  pub stands : MayStand new
+
+-- this event comes of itself in the case, and is built; or the case is quiet
+abbrev pub IsNext : Standing → ℕ → Option Event → Type 0
+IsNext h n found = MatchOption found (IsQuiet (state_of h) n) (λ e. Comes (state_of h) n e × (is_built e ≡ true))
+
+-- ---- a command
+
+-- The events may answer the command, and are built; they led to what is held now, which is well.
+pub record IsDecided (old : Standing) (c : Command) (d : Decided) (new : Standing) : Type 0 where
+  pub legal : IsLegal reader (state_of old) c d.events d.quiet (state_of new)
   pub built : list_all is_built d.events ≡ true
+  pub stands : MayStand new
 
 -- The command breaks this rule first, and nothing has changed.
-pub record IsRefused (old : Holdings) (c : Command) (refusal : Refusal) (new : Holdings) : Type 0 where
-  pub breaks : AlwaysBreaks old c (Some refusal)
+pub record IsRefused (old : Standing) (c : Command) (refusal : Refusal) (new : Standing) : Type 0 where
+  pub breaks : Breaks reader (state_of old) c (Some refusal)
   pub same : new ≡ old
 
 -- one of them, or no memory was left
-abbrev pub Decides : Holdings → Command → Result Decided LibraryFault → Holdings → Type 0
+abbrev pub Decides : Standing → Command → Result Decided EngineFault → Standing → Type 0
 Decides old c (Ok d) new = IsDecided old c d new
-Decides old c (Err (library_faults.Refused refusal)) new = IsRefused old c refusal new
-Decides old c (Err library_faults.Memory) new = Unit {0}
+Decides old c (Err (faults.Refused refusal)) new = IsRefused old c refusal new
+Decides old c (Err faults.Memory) new = Unit {0}
+Decides old c (Err faults.Spent) new = ⊥
+
+-- the events answer each command that breaks no rule and asks for this event
+abbrev pub Answers : Standing → Event → Decided → Standing → Type 0
+Answers old e d new = (c : Command) → Breaks reader (state_of old) c None → IsAsked reader (state_of old) c e → IsDecided old c d new
+
+-- ---- a command of a case
+
+-- What is broken before the case must be quiet, and that it is so: this rule, or NotQuiet; nothing where neither is broken.
+abbrev pub IsInFront : Standing → Option Rule → ℕ → Option Refusal → Type 0
+IsInFront h (Some rule) n found = found ≡ Some (placeless rule)
+IsInFront h None n (Some refusal) = (IsQuiet (state_of h) n → ⊥) × (refusal ≡ placeless NotQuiet)
+IsInFront h None n None = IsQuiet (state_of h) n
+
+-- in what is held the command breaks this rule first, or none
+abbrev pub BreaksNow : Standing → Command → Option Refusal → Type 0
+BreaksNow h c found = Breaks reader (state_of h) c found

@@ -13,43 +13,43 @@ ghost use Rattle.yw_state.specs.State.{State, opening};
 ghost use Rattle.yw_state.specs.Well.{IsWell};
 ghost use Rattle.yw_state.specs.declared.rule.Rule.TheVariants.{NotEnabled};
 
-use crate::apply::try_event;
 use crate::decide::decide_on;
+use crate::front::placeless;
+use crate::work::{Work, try_owned};
 use crate::{Decided, EngineFault};
 use std::alloc::{AllocError, Global};
 use std::marker::Model;
-use yw_base::Text;
-use yw_library::{Library, LibraryFault};
-use yw_state::{Command, Event, Refusal, Rule};
+use yw_cases::Cases;
+use yw_library::Library;
+use yw_state::{Command, Event, Rule};
+use yw_tree::Forest;
 
-/// The number that is drawn first.
-const FIRST_NUMBER: u64 = 1;
-
-/// What the server holds of persons, specifications and cases, of which there are none yet. It decides on commands and does
-/// events. A contract sees the library, the number that is drawn next, and whether the engine is spent, since no memory was
-/// left; by `state_of` these stand for a state. Unless it is spent, that state is well.
+/// What the server holds of persons, specifications and cases. It decides on commands and does events. A contract sees these, how cases
+/// ended, the number that is drawn next, and whether the engine is spent, since no memory was left; by `state_of` they stand for a state.
+/// Unless it is spent, that state is well.
 #[derive(Drop)]
 pub struct Engine {
-    alloc: Global,
-    library: Library,
-    next: u64,
+    work: Work,
     spent: bool,
 }
 
 impl Model for Engine {
     ghost use Rattle.std.specs.Prelude.{◌≡◌, false};
-    ghost use Rattle.yw_engine.specs.Held.{Held, MayStand, state_of};
+    ghost use Rattle.yw_cases.specs.State.{MayStand};
+    ghost use Rattle.yw_engine.specs.Held.{Held};
 
     ghost Value = { Held };
 
     ghost use Rattle.std.specs.Coded.{codes};
     ghost use Rattle.yw_state.specs.contracts.loaded.Loaded as loaded;
+    ghost use Rattle.yw_tree.specs.contracts.NetState as net;
+    ghost use Rattle.yw_tree.specs.contracts.Run as run;
 
-    ghost coded = { Prim.hlevel (codes, loaded.the_row.coded) };
+    ghost coded = { Prim.hlevel (codes, loaded.the_row.coded, net.the_row.coded, run.the_row.coded) };
 
-    ghost view = { λ e. record { library = e.library; next = e.next; spent = e.spent } };
+    ghost view = { λ e. record { standing = e.work.standing; spent = e.spent } };
 
-    ghost invariant = { λ e. e.spent ≡ false → MayStand (state_of (record { library = e.library; next = e.next; spent = e.spent })) };
+    ghost invariant = { λ e. e.spent ≡ false → MayStand e.work.standing };
 }
 
 impl Engine {
@@ -58,10 +58,10 @@ impl Engine {
         ensures state { state_of result ≡ opening }
         ensures fresh { result.spent ≡ false }
     {
+        let standing = Cases::new(alloc);
+        standing.may_stand();
         Engine {
-            alloc,
-            library: Library::new(alloc),
-            next: FIRST_NUMBER,
+            work: Work { alloc, standing },
             spent: false,
         }
     }
@@ -82,13 +82,14 @@ impl Engine {
         if self.spent {
             return Err(EngineFault::Spent);
         }
-        match decide_on(self.alloc, &mut self.library, command) {
+        match decide_on(&mut self.work, command) {
             Ok(decided) => Ok(decided),
-            Err(LibraryFault::Refused(refusal)) => Err(EngineFault::Refused(refusal)),
-            Err(LibraryFault::Memory) => {
+            Err(EngineFault::Refused(refusal)) => Err(EngineFault::Refused(refusal)),
+            Err(EngineFault::Memory) => {
                 self.spent = true;
                 Err(EngineFault::Memory)
             }
+            Err(EngineFault::Spent) => unreachable!(),
         }
     }
 
@@ -106,12 +107,9 @@ impl Engine {
         if self.spent {
             return Err(EngineFault::Spent);
         }
-        match try_event(&mut self.library, event) {
+        match try_owned(&mut self.work, event) {
             Ok(true) => Ok(()),
-            Ok(false) => Err(EngineFault::Refused(Refusal {
-                rule: Rule::NotEnabled,
-                at: Text::new(self.alloc),
-            })),
+            Ok(false) => Err(EngineFault::Refused(placeless(self.work.alloc, Rule::NotEnabled))),
             Err(AllocError) => {
                 self.spent = true;
                 Err(EngineFault::Memory)
@@ -128,15 +126,22 @@ impl Engine {
 
     /// The persons and the specifications that are loaded.
     pub fn library(&self) -> &Library
-        ensures { result.now ≡ self.now.library }
+        ensures { result.now ≡ self.now.standing.known }
     {
-        &self.library
+        self.work.standing.known().library()
+    }
+
+    /// The cases that stand.
+    pub fn forest(&self) -> &Forest
+        ensures { result.now ≡ self.now.standing.forest }
+    {
+        self.work.standing.forest()
     }
 
     /// The number that is drawn next: of a case, an item or a run. It is 1 to 2^48, unless the engine is spent.
     pub fn next(&self) -> u64
-        ensures { result ≡ self.now.next }
+        ensures { result ≡ self.now.standing.next }
     {
-        self.next
+        self.work.standing.next()
     }
 }

@@ -1,4 +1,8 @@
 // What is decided, and why nothing is done.
+ghost use Rattle.std.specs.Prelude.{◌≡◌};
+ghost use Rattle.yw_engine.specs.declared.fault.EngineFault.TheVariants.{Memory};
+
+use std::alloc::AllocError;
 use yw_state::{EventList, Refusal};
 
 /// What an accepted command does.
@@ -19,4 +23,12 @@ pub enum EngineFault {
     Memory,
     /// No memory was left in an earlier call.
     Spent,
+}
+
+impl From<AllocError> for EngineFault {
+    ghost from_gives = { λ _ fault. fault ≡ Memory };
+
+    fn from(_error: AllocError) -> EngineFault {
+        EngineFault::Memory
+    }
 }

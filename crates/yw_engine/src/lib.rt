@@ -1,10 +1,17 @@
-//! The engine: it decides on commands and does events, over persons and specifications. It knows no line, no byte and no file.
+//! The engine: it decides on commands and does events, over persons, specifications and cases. It knows no line, no byte and no file.
 #![tactic(auto)]
 
-mod apply;
+mod add;
+mod begin;
 mod decide;
 mod engine;
 mod fault;
+mod front;
+mod launch;
+mod library;
+mod start;
+mod whole;
+mod work;
 
 pub use engine::Engine;
 pub use fault::{Decided, EngineFault};

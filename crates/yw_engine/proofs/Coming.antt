@@ -1,0 +1,105 @@
+-- Events that are built are of neither a rule tree nor an exlet, and the other way round; and what comes of itself leads to one state.
+use Rattle.std.proofs.Common.{◌≡◌, ◌↔◌, ◌∙◌, Bool, Err, IfOk, IsTrue, None, Ok, Option, Result, Some, ap, false, refl, subst, sym, true, ℕ}
+use Rattle.yw_built.specs.Built.{is_built}
+use Rattle.yw_cases.specs.State.{MayStand, state_of}
+use Rattle.yw_cases.specs.Tried.{IsTried}
+use Rattle.yw_cases.specs.declared.standing.Standing.{Standing}
+use Rattle.yw_engine.specs.Decides.{IsNext, LeadsOn}
+use Rattle.yw_engine.proofs.Parts.{held_by, next_of}
+use Rattle.yw_library.specs.Holdings.{Holdings}
+use Rattle.yw_model.specs.Texts.{reader}
+use Rattle.yw_plain.specs.Plain.{is_plain_event}
+use Rattle.yw_state.proofs.Tests.{never}
+use Rattle.yw_state.specs.Automatic.{Comes, IsQuiet}
+use Rattle.yw_state.specs.Events.{Leads, after}
+use Rattle.yw_state.specs.State.{State}
+use Rattle.yw_state.specs.Texts.{EventText, TextSays, nothing}
+use Rattle.yw_state.specs.declared.event.Event.{Event}
+use Rattle.yw_state.specs.declared.event.Event.TheVariants as events
+use Rattle.yw_tree.specs.declared.Forest.{Forest}
+use Rattle.yw_turns.proofs.Entries.{no_text_of}
+use Rattle.yw_walk.specs.Finds.{FindsNext, StandsFor, TellsQuiet}
+
+-- ---- what is built
+
+pub built_is_plain : (e : Event) → is_built e ≡ true → is_plain_event e ≡ true
+built_is_plain (events.Person name roles) built = refl
+built_is_plain (events.Load name text) built = refl
+built_is_plain (events.Launch n spec vals) built = refl
+built_is_plain (events.Enter i t places first count) built = refl
+built_is_plain (events.Start j who) built = refl
+built_is_plain (events.Complete j out) built = refl
+built_is_plain (events.Exit i t places) built = refl
+built_is_plain (events.Add i t value n) built = refl
+built_is_plain (events.Finish n) built = refl
+built_is_plain (events.Cancel n) built = refl
+built_is_plain (events.StartSub j) built = refl
+built_is_plain (events.CompleteSub j) built = refl
+built_is_plain (events.CompleteEmpty j) built = refl
+built_is_plain (events.Advance n) built = refl
+built_is_plain e built = never built
+
+pub plain_is_built : (e : Event) → is_plain_event e ≡ true → is_built e ≡ true
+plain_is_built (events.Person name roles) plain = refl
+plain_is_built (events.Load name text) plain = refl
+plain_is_built (events.Launch n spec vals) plain = refl
+plain_is_built (events.Enter i t places first count) plain = refl
+plain_is_built (events.Start j who) plain = refl
+plain_is_built (events.Complete j out) plain = refl
+plain_is_built (events.Exit i t places) plain = refl
+plain_is_built (events.Add i t value n) plain = refl
+plain_is_built (events.Finish n) plain = refl
+plain_is_built (events.Cancel n) plain = refl
+plain_is_built (events.StartSub j) plain = refl
+plain_is_built (events.CompleteSub j) plain = refl
+plain_is_built (events.CompleteEmpty j) plain = refl
+plain_is_built (events.Advance n) plain = refl
+plain_is_built e plain = never plain
+
+-- ---- what is tried
+
+-- what leads on isn't refused
+pub leads_not : (old : Standing) (e : Event) (leads : Bool) (new : Standing) → leads ≡ false → IsTried old e leads new → LeadsOn old e → ⊥
+leads_not old e leads new is tried (t, leads_to) = (subst (λ (b : Bool). IsTried old e b new) is tried).0 t leads_to
+
+-- ---- what comes of itself
+
+-- it leads on
+pub comes_on : (h : Standing) (n : ℕ) (e : Event) → Comes (state_of h) n e → LeadsOn h e
+comes_on h n e comes =
+    let s = state_of h in
+    let says = subst (λ (x : EventText). TextSays reader s x nothing) (sym (no_text_of s e comes.automatic)) refl in
+    (after s e nothing, record { said = nothing; says = says; allowed = comes.allowed; then = refl })
+
+-- and to no other state than the one after it
+pub comes_after : (s t : State) (n : ℕ) (e : Event) → Comes s n e → Leads reader s e t → t ≡ after s e nothing
+comes_after s t n e comes leads =
+    let said : leads.said ≡ nothing = subst (λ (x : EventText). TextSays reader s x leads.said) (no_text_of s e comes.automatic)
+    leads.says in
+    leads.then ∙ ap (after s e) said
+
+module _ (h : Standing) (may : MayStand h) (n : ℕ) where
+  -- what is found by the walk over the case, by the parts that are read
+  module _ (known : Holdings) (f : Forest) (next : ℕ) (same : known ≡ h.known) (same_forest : f ≡ h.forest) (same_next : next ≡ h.next)
+    where
+      stands_for : StandsFor known f next (state_of h)
+      stands_for = record { held = held_by h known f same same_forest may; plain = may.plain; drawn = next_of h next same_next }
+
+      walked : (found : Option Event) → FindsNext known f n next found → IsNext h n found
+      walked None finds = (finds (state_of h) stands_for).1
+      walked (Some e) finds =
+          let it = finds (state_of h) stands_for in
+          (it.comes, plain_is_built e (it.plain may.no_worklet))
+
+      pub walked_by : {E : Type 0} (result : Result (Option Event) E) → IfOk result (FindsNext known f n next) → IfOk result (IsNext h n)
+      walked_by (Ok found) finds = walked found finds
+      walked_by (Err fault) finds = tt
+
+      pub quiet_by : {E : Type 0} (result : Result Bool E) → IfOk result (TellsQuiet known f n next)
+          → IfOk result (λ quiet. IsTrue quiet ↔ IsQuiet (state_of h) n)
+      quiet_by (Ok quiet) tells = tells (state_of h) stands_for
+      quiet_by (Err fault) tells = tt
+
+  -- an event that is found leads on
+  pub next_on : (found : Option Event) (e : Event) → found ≡ Some e → IsNext h n found → LeadsOn h e
+  next_on found e is next = comes_on h n e (subst (IsNext h n) is next).0

@@ -1,0 +1,189 @@
+-- Where a command breaks no rule, the event that is made of it is the one that it asks for, and leads on.
+use Rattle.std.proofs.Common.{◌≡◌, ◌∙◌, List, Option, Some, None, ap, refl, subst, sym, true, ℕ}
+use Rattle.std.specs.Prelude.{option_and_then, option_map}
+use Rattle.yw_accepted.proofs.Loaded.{accepted_are_within}
+use Rattle.yw_asked.proofs.CasesAsked as cases
+use Rattle.yw_asked.proofs.ItemsAsked as items
+use Rattle.yw_asked.proofs.TasksAsked as tasks
+use Rattle.yw_asked.specs.Asked.{HasEvent}
+use Rattle.yw_base.specs.declared.value.Value.{Value}
+use Rattle.yw_breaks.specs.Events.{AddAsks, LaunchAsks}
+use Rattle.yw_breaks.specs.Finds.{BreaksNext}
+use Rattle.yw_built.specs.Built.{is_built}
+use Rattle.yw_cases.specs.State.{MayStand, state_of}
+use Rattle.yw_cases.specs.declared.standing.Standing.{Standing}
+use Rattle.yw_engine.specs.Decides.{BreaksNow, LeadsOn}
+use Rattle.yw_engine.proofs.Parts.{held_by, next_of}
+use Rattle.yw_known.specs.Held.{IsHeld}
+use Rattle.yw_library.specs.Holdings.{Holdings}
+use Rattle.yw_model.specs.Texts.{reader}
+use Rattle.yw_spec.specs.declared.spec.Net.{Net}
+use Rattle.yw_state.proofs.Tests.{map_some, nowhere, some_same}
+use Rattle.yw_state.specs.Allowed.{are_roles}
+use Rattle.yw_state.specs.Automatic.{case_of}
+use Rattle.yw_state.specs.Broken.{checks}
+use Rattle.yw_state.specs.Events.{Leads}
+use Rattle.yw_state.specs.Given.{element_value, launch_values}
+use Rattle.yw_state.specs.Identity.{Ident, case_number}
+use Rattle.yw_state.specs.Legal.{IsAsked}
+use Rattle.yw_state.specs.State.{TaskAt, task_at, top_called}
+use Rattle.yw_state.specs.declared.command.Command.{Command}
+use Rattle.yw_state.specs.declared.command.Command.TheVariants as commands
+use Rattle.yw_state.specs.declared.command.Given.{Given}
+use Rattle.yw_state.specs.declared.event.Event.{Event}
+use Rattle.yw_state.specs.declared.event.Event.TheVariants as events
+use Rattle.yw_state.specs.declared.rule.Refusal.{Refusal}
+use Rattle.yw_tree.specs.declared.Forest.{Forest}
+use Rattle.yw_within.proofs.Finding.{well_holds_within}
+use Rattle.yw_within.specs.Within.{HoldsWithin}
+
+-- the command asks for the event, which leads on
+abbrev pub Asks : Standing → Command → Event → Type 0
+Asks h c e = IsAsked reader (state_of h) c e × LeadsOn h e
+
+-- where it asks for no other
+as_asked : (h : Standing) (c : Command) (e : Event) → HasEvent reader (state_of h) c
+    → ((d : Event) → IsAsked reader (state_of h) c d → d ≡ e) → Asks h c e
+as_asked h c e (d, t, asked, leads) only =
+    let same : d ≡ e = only d asked in
+    (subst (IsAsked reader (state_of h) c) same asked, (t, subst (λ (z : Event). Leads reader (state_of h) z t) same leads))
+
+holds_within : (h : Standing) → MayStand h → HoldsWithin (state_of h)
+holds_within h may = well_holds_within reader (state_of h) accepted_are_within may.held.well
+
+-- ---- events that are made of something
+
+-- what is so of each of these is so of the one that is asked for
+of_kind : {A : Type 0} (g : A → Event) (m : Option ℕ) → ((x : A) → (is_built (g x) ≡ true) × (case_of (g x) ≡ m))
+    → (o : Option A) (e : Event) → Some e ≡ option_map g o
+    → (is_built e ≡ true) × (case_of e ≡ m)
+of_kind g m kind o e is =
+    let x = map_some g o e (sym is) in
+    (ap is_built (sym x.2) ∙ (kind x.0).0, ap case_of (sym x.2) ∙ (kind x.0).1)
+
+-- where there is nothing to make it of, none is asked for
+of_nothing : {A B : Type 0} (g : A → Event) (o : Option A) (e : Event) → o ≡ None → Some e ≡ option_map g o → B
+of_nothing g o e none is = nowhere (sym (ap (option_map g) none) ∙ sym is)
+
+-- ---- a launch
+
+module _ (h : Standing) (may : MayStand h) (known : Holdings) (next : ℕ) (same : known ≡ h.known) (same_next : next ≡ h.next)
+    (name : List ℕ) (gs : List Given) where
+  abbrev LaunchFound : Option Event → Type 0
+  LaunchFound found = LaunchAsks known next name gs found
+
+  known_held : IsHeld known h.forest (state_of h)
+  known_held = held_by h known h.forest same refl may
+
+  pub launch_breaks_now : (found : Option Refusal) → BreaksNext known next (commands.Launch name gs) found
+      → BreaksNow h (commands.Launch name gs) found
+  launch_breaks_now found breaks = breaks h.forest (state_of h) known_held (next_of h next same_next)
+
+  module _ (found : Option Event) (asks : LaunchFound found) where
+    pub launch_there : BreaksNow h (commands.Launch name gs) None → found ≡ None → ⊥
+    unfolding IsAsked
+    launch_there unbroken none =
+        let (d, t, asked, leads) = cases.launch_has_event reader (state_of h) (holds_within h may) name gs unbroken in
+        of_nothing (λ (net : Net). events.Launch (state_of h).next name (launch_values net.vars gs)) (top_called (state_of h) name) d
+        (subst LaunchFound none asks h.forest (state_of h) known_held) asked
+
+    module _ (e : Event) (is : found ≡ Some e) where
+      launch_asked : IsAsked reader (state_of h) (commands.Launch name gs) e
+      launch_asked = subst LaunchFound is asks h.forest (state_of h) known_held (next_of h next same_next)
+
+      pub launch_asks : BreaksNow h (commands.Launch name gs) None → Asks h (commands.Launch name gs) e
+      unfolding IsAsked
+      launch_asks unbroken =
+          as_asked h (commands.Launch name gs) e (cases.launch_has_event reader (state_of h) (holds_within h may) name gs unbroken)
+          (λ d asked. some_same d e (asked ∙ sym launch_asked))
+
+      launch_kind : (is_built e ≡ true) × (case_of e ≡ Some (state_of h).next)
+      unfolding IsAsked
+      launch_kind =
+          of_kind (λ (net : Net). events.Launch (state_of h).next name (launch_values net.vars gs)) (Some (state_of h).next)
+          (λ net. (refl, refl)) (top_called (state_of h) name) e
+          launch_asked
+
+      pub launch_built : is_built e ≡ true
+      launch_built = launch_kind.0
+
+      pub launch_case : case_of e ≡ Some next
+      launch_case = launch_kind.1 ∙ ap (λ n. Some n) (next_of h next same_next)
+
+-- ---- an addition
+
+module _ (h : Standing) (may : MayStand h) (known : Holdings) (f : Forest) (next : ℕ) (same : known ≡ h.known)
+    (same_forest : f ≡ h.forest) (same_next : next ≡ h.next)
+    (who : List ℕ) (i : Ident) (t : List ℕ) (value : Option Value) where
+  abbrev AddFound : Option Event → Type 0
+  AddFound found = AddAsks known f next i t value found
+
+  parts_held : IsHeld known f (state_of h)
+  parts_held = held_by h known f same same_forest may
+
+  module _ (found : Option Event) (asks : AddFound found) where
+    pub add_there : BreaksNow h (commands.Add who i t value) None → found ≡ None → ⊥
+    unfolding IsAsked
+    add_there unbroken none =
+        let (d, s, asked, leads) = tasks.add_has_event reader (state_of h) may.held.well (holds_within h may) who i t value unbroken in
+        of_nothing (λ (v : Value). events.Add i t v (state_of h).next)
+        (option_and_then (λ (x : TaskAt). element_value x.task value) (task_at (state_of h) i t)) d
+        (subst AddFound none asks (state_of h) parts_held) asked
+
+    module _ (e : Event) (is : found ≡ Some e) where
+      add_asked : IsAsked reader (state_of h) (commands.Add who i t value) e
+      add_asked = subst AddFound is asks (state_of h) parts_held (next_of h next same_next) who
+
+      pub add_asks : BreaksNow h (commands.Add who i t value) None → Asks h (commands.Add who i t value) e
+      unfolding IsAsked
+      add_asks unbroken =
+          as_asked h (commands.Add who i t value) e
+          (tasks.add_has_event reader (state_of h) may.held.well (holds_within h may) who i t value unbroken)
+          (λ d asked. some_same d e (asked ∙ sym add_asked))
+
+      add_kind : (is_built e ≡ true) × (case_of e ≡ Some (case_number i))
+      unfolding IsAsked
+      add_kind =
+          of_kind (λ (v : Value). events.Add i t v (state_of h).next) (Some (case_number i)) (λ v. (refl, refl))
+          (option_and_then (λ (x : TaskAt). element_value x.task value) (task_at (state_of h) i t)) e add_asked
+
+      pub add_built : is_built e ≡ true
+      add_built = add_kind.0
+
+      pub add_case : (n : ℕ) → n ≡ case_number i → case_of e ≡ Some n
+      add_case n same = add_kind.1 ∙ ap (λ k. Some k) (sym same)
+
+-- ---- events whose fields the command has
+
+module _ (h : Standing) where
+  pub start_asks : MayStand h → (who : List ℕ) (j : Ident) → BreaksNow h (commands.Start who j) None
+      → Asks h (commands.Start who j) (events.Start j who)
+  unfolding IsAsked
+  start_asks may who j unbroken =
+      as_asked h (commands.Start who j) (events.Start j who) (items.start_has_event reader (state_of h) may.held.well who j unbroken)
+      (λ d asked. asked)
+
+  module _ (j : Ident) (n : ℕ) (same : n ≡ case_number j) where
+    pub cancel_asks : BreaksNow h (commands.Cancel j) None → Asks h (commands.Cancel j) (events.Cancel n)
+    unfolding IsAsked
+    cancel_asks unbroken =
+        as_asked h (commands.Cancel j) (events.Cancel n) (cases.cancel_has_event reader (state_of h) j unbroken)
+        (λ d asked. asked ∙ ap events.Cancel (sym same))
+
+    pub advance_asks : BreaksNow h (commands.Advance j) None → Asks h (commands.Advance j) (events.Advance n)
+    unfolding IsAsked
+    advance_asks unbroken =
+        as_asked h (commands.Advance j) (events.Advance n) (cases.advance_has_event reader (state_of h) j unbroken)
+        (λ d asked. asked ∙ ap events.Advance (sym same))
+
+  module _ (name : List ℕ) (roles : List (List ℕ)) where
+    pub person_asks : are_roles roles ≡ true → Asks h (commands.Person name roles) (events.Person name roles)
+    unfolding IsAsked
+    person_asks right =
+        as_asked h (commands.Person name roles) (events.Person name roles)
+        (cases.person_has_event reader (state_of h) name roles right) (λ d asked. asked)
+
+    -- a person breaks no rule
+    pub person_unbroken : BreaksNow h (commands.Person name roles) None
+    unfolding checks
+    person_unbroken = refl

@@ -1,0 +1,41 @@
+// A command's own event, and what comes of itself behind it.
+ghost use Rattle.std.specs.Prelude.{◌≡◌, IfOk, true};
+ghost use Rattle.yw_built.specs.Built.{is_built};
+ghost use Rattle.yw_cases.specs.State.{MayStand};
+ghost use Rattle.yw_cases.specs.declared.standing.Standing.{Standing};
+ghost use Rattle.yw_engine.specs.Decides.{Answers, IsDone, LeadsOn};
+ghost use Rattle.yw_state.specs.Automatic.{case_of};
+
+use crate::Decided;
+use crate::work::Work;
+use std::alloc::AllocError;
+use yw_settle::entry_of;
+use yw_state::Event;
+
+/// What comes of itself in the case of an event that is done, behind it. An `Err` says that no memory was left; what is held then is
+/// told nowhere.
+pub fn behind(work: &mut Work, event: Event, case: Option<u64>) -> Result<Decided, AllocError>
+    requires stands { MayStand work.old.standing }
+    requires built { is_built event ≡ true }
+    requires case { case_of event ≡ case }
+    ensures { IfOk result (λ d. (old : Standing) → IsDone old event work.old.standing → Answers old event d work.new.standing) }
+{
+    let entry = entry_of(work.alloc, work, event, case)?;
+    Ok(Decided {
+        events: entry.events,
+        quiet: entry.quiet,
+    })
+}
+
+/// Does the event that a command asks for, and then what comes of itself in its case. An `Err` says that no memory was left; what is
+/// held then is told nowhere.
+pub fn begin(work: &mut Work, event: Event, case: Option<u64>) -> Result<Decided, AllocError>
+    requires stands { MayStand work.old.standing }
+    requires built { is_built event ≡ true }
+    requires case { case_of event ≡ case }
+    requires leads { LeadsOn work.old.standing event }
+    ensures { IfOk result (λ d. Answers work.old.standing event d work.new.standing) }
+{
+    work.take(&event)?;
+    behind(work, event, case)
+}

@@ -1,0 +1,46 @@
+// What is tried before a command of a case: that what it names is there, and that the case is quiet.
+ghost use Rattle.std.specs.Prelude.{◌≡◌, IfOk};
+ghost use Rattle.yw_cases.specs.State.{MayStand};
+ghost use Rattle.yw_engine.specs.Decides.{IsInFront};
+ghost use Rattle.yw_state.specs.Broken.{placeless};
+ghost use Rattle.yw_state.specs.Identity.{case_number};
+
+use crate::work::Work;
+use std::alloc::{AllocError, Global};
+use yw_base::{Ident, Text};
+use yw_state::{Refusal, Rule};
+
+/// A rule without a place. It takes no memory.
+pub fn placeless(alloc: Global, rule: Rule) -> Refusal
+    ensures { result ≡ placeless rule }
+{
+    Refusal {
+        rule,
+        at: Text::new(alloc),
+    }
+}
+
+/// The number of the case in which an identity lies.
+pub fn case_number(id: &Ident) -> u64
+    ensures { result ≡ case_number id.now }
+{
+    match id.numbers() {
+        [number, ..] => *number,
+        [] => 0,
+    }
+}
+
+/// This rule, if one is broken; else `NotQuiet` where something is still to come of itself in the case. An `Err` says that no memory
+/// was left.
+pub fn in_front(work: &Work, front: Option<Rule>, case: u64) -> Result<Option<Refusal>, AllocError>
+    requires { MayStand work.now.standing }
+    ensures { IfOk result (IsInFront work.now.standing front case) }
+{
+    if let Some(rule) = front {
+        return Ok(Some(placeless(work.alloc, rule)));
+    }
+    if work.is_case_quiet(case)? {
+        return Ok(None);
+    }
+    Ok(Some(placeless(work.alloc, Rule::NotQuiet)))
+}

@@ -1,0 +1,103 @@
+// What is held between two events, and one event after another.
+ghost use Rattle.std.specs.Prelude.{◌≡◌, IfOk, OnOk, true};
+ghost use Rattle.yw_built.specs.Built.{is_built};
+ghost use Rattle.yw_cases.specs.State.{MayStand};
+ghost use Rattle.yw_cases.specs.Tried.{IsTried};
+
+use std::alloc::{AllocError, Global};
+use yw_cases::Cases;
+use yw_settle::Machine;
+use yw_state::Event;
+use yw_walk::{is_quiet, next_event};
+
+/// What events are done to. It is the machine that takes what comes of itself.
+#[derive(Drop)]
+pub struct Work {
+    pub alloc: Global,
+    pub standing: Cases,
+}
+
+impl Work {
+    ghost use Rattle.std.specs.Prelude.{◌≡◌, ◌↔◌, IfOk, IsTrue, OnOk, true};
+    ghost use Rattle.yw_built.specs.Built.{is_built};
+    ghost use Rattle.yw_cases.specs.State.{MayStand, state_of};
+    ghost use Rattle.yw_cases.specs.Tried.{IsTried};
+    ghost use Rattle.yw_engine.specs.Decides.{IsDone, IsNext, LeadsOn};
+    ghost use Rattle.yw_state.specs.Automatic.{IsQuiet};
+
+    /// The next event that comes of itself in a case, or `None` where the case is quiet. An `Err` says that no memory was left.
+    fn next_event(&self, case: u64) -> Result<Option<Event>, AllocError>
+        requires { MayStand self.now.standing }
+        ensures { IfOk result (IsNext self.now.standing case) }
+    {
+        let standing = &self.standing;
+        let (known, forest) = (standing.known(), standing.forest());
+        next_event(self.alloc, known, forest, case, standing.next())
+    }
+
+    /// Nothing comes of itself in a case. An `Err` says that no memory was left.
+    pub fn is_case_quiet(&self, case: u64) -> Result<bool, AllocError>
+        requires { MayStand self.now.standing }
+        ensures { IfOk result (λ quiet. IsTrue quiet ↔ IsQuiet (state_of self.now.standing) case) }
+    {
+        let standing = &self.standing;
+        let (known, forest) = (standing.known(), standing.forest());
+        is_quiet(self.alloc, known, forest, case, standing.next())
+    }
+
+    /// Does an event, where it is allowed: `true`, and what is held is then that after it; else `false`, and nothing has changed.
+    /// An `Err` says that no memory was left; what is held then is told nowhere.
+    fn try_event(&mut self, event: &Event) -> Result<bool, AllocError>
+        requires { is_built event.now ≡ true }
+        ensures tried { IfOk result (λ leads. IsTried self.old.standing event.now leads self.new.standing) }
+        ensures stands { OnOk result (MayStand self.new.standing) }
+    {
+        let leads = self.standing.try_event(event)?;
+        self.standing.may_stand();
+        Ok(leads)
+    }
+
+    /// Does an event that is allowed. An `Err` says that no memory was left; what is held then is told nowhere.
+    pub fn take(&mut self, event: &Event) -> Result<(), AllocError>
+        requires built { is_built event.now ≡ true }
+        requires leads { LeadsOn self.old.standing event.now }
+        ensures { OnOk result (IsDone self.old.standing event.now self.new.standing) }
+    {
+        if !self.try_event(event)? {
+            unreachable!();
+        }
+        Ok(())
+    }
+}
+
+/// Does an event, as `Work::try_event` says.
+pub fn try_owned(work: &mut Work, event: Event) -> Result<bool, AllocError>
+    requires { is_built event ≡ true }
+    ensures tried { IfOk result (λ leads. IsTried work.old.standing event leads work.new.standing) }
+    ensures stands { OnOk result (MayStand work.new.standing) }
+{
+    work.try_event(&event)
+}
+
+impl Machine for Work {
+    ghost use Rattle.yw_built.specs.Built.{is_built};
+    ghost use Rattle.yw_cases.specs.State.{MayStand, state_of};
+
+    ghost state = { λ work. state_of work.standing };
+
+    ghost is_ready = { λ work. MayStand work.standing };
+
+    ghost passes = { is_built };
+
+    fn step(&mut self, case: u64) -> Result<Option<Event>, AllocError> {
+        let Some(event) = self.next_event(case)? else {
+            return Ok(None);
+        };
+        self.take(&event)?;
+        Ok(Some(event))
+    }
+
+    fn is_quiet(&self, case: u64) -> Result<bool, AllocError> {
+        self.is_case_quiet(case)
+    }
+}
