@@ -4,3 +4,4 @@ pub mod Coming
 pub mod Fronts
 pub mod Commands
 pub mod Loads
+pub mod Entries

@@ -4,6 +4,7 @@
 mod add;
 mod begin;
 mod decide;
+mod enter;
 mod engine;
 mod fault;
 mod front;
