@@ -8,7 +8,9 @@ pub asked_is_decided_on : (c : Command) → CanBeAsked c → IsDecidedOn c
 asked_is_decided_on (commands.Person name roles) asked = asked
 asked_is_decided_on (commands.Load toml) asked = tt
 asked_is_decided_on (commands.Launch spec gs) asked = tt
+asked_is_decided_on (commands.Enter who i t) asked = tt
 asked_is_decided_on (commands.Start who j) asked = tt
+asked_is_decided_on (commands.Complete who j gs) asked = tt
 asked_is_decided_on (commands.Add who i t value) asked = tt
 asked_is_decided_on (commands.Cancel j) asked = tt
 asked_is_decided_on (commands.Advance j) asked = tt

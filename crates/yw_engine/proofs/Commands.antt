@@ -42,7 +42,7 @@ abbrev pub Asks : Standing → Command → Event → Type 0
 Asks h c e = IsAsked reader (state_of h) c e × LeadsOn h e
 
 -- where it asks for no other
-as_asked : (h : Standing) (c : Command) (e : Event) → HasEvent reader (state_of h) c
+pub as_asked : (h : Standing) (c : Command) (e : Event) → HasEvent reader (state_of h) c
     → ((d : Event) → IsAsked reader (state_of h) c d → d ≡ e) → Asks h c e
 as_asked h c e (d, t, asked, leads) only =
     let same : d ≡ e = only d asked in

@@ -5,3 +5,4 @@ pub mod Fronts
 pub mod Commands
 pub mod Loads
 pub mod Entries
+pub mod Completes

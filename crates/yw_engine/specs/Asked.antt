@@ -9,7 +9,9 @@ abbrev pub IsDecidedOn : Command → Type 0
 IsDecidedOn (commands.Person name roles) = are_roles roles ≡ true
 IsDecidedOn (commands.Load toml) = Unit {0}
 IsDecidedOn (commands.Launch spec gs) = Unit {0}
+IsDecidedOn (commands.Enter who i t) = Unit {0}
 IsDecidedOn (commands.Start who j) = Unit {0}
+IsDecidedOn (commands.Complete who j gs) = Unit {0}
 IsDecidedOn (commands.Add who i t value) = Unit {0}
 IsDecidedOn (commands.Cancel j) = Unit {0}
 IsDecidedOn (commands.Advance j) = Unit {0}

@@ -2,3 +2,4 @@ pub mod Held
 pub mod Answers
 pub mod Asked
 pub mod Decides
+pub mod Completes

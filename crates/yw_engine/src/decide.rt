@@ -4,6 +4,8 @@ ghost use Rattle.yw_engine.specs.Asked.{IsDecidedOn};
 ghost use Rattle.yw_engine.specs.Decides.{Decides};
 
 use crate::add::decide_add;
+use crate::complete::decide_complete;
+use crate::enter::decide_enter;
 use crate::launch::decide_launch;
 use crate::library::{decide_load, decide_person};
 use crate::start::decide_start;
@@ -23,7 +25,9 @@ pub fn decide_on(work: &mut Work, command: Command) -> Result<Decided, EngineFau
         Command::Person { name, roles } => decide_person(work, name, roles),
         Command::Load { toml } => decide_load(work, toml),
         Command::Launch { spec, values } => decide_launch(work, &spec, &values),
+        Command::Enter { who, case, task } => decide_enter(work, &who, &case, &task),
         Command::Start { who, item } => decide_start(work, who, item),
+        Command::Complete { who, item, out } => decide_complete(work, who, item, &out),
         Command::Add {
             who,
             case,

@@ -3,9 +3,10 @@
 
 mod add;
 mod begin;
+mod complete;
 mod decide;
-mod enter;
 mod engine;
+mod enter;
 mod fault;
 mod front;
 mod launch;
