@@ -30,7 +30,7 @@ module _ (h : Standing) (i : Ident) (t : List ℕ) where
   unfolding IsAsked
   enter_there may who unbroken found is none =
       let (d, z, (places, count, same), leads) =
-          enter_has_event reader (state_of h) may.held.well (well_holds_within reader (state_of h) accepted_are_within may.held.well) who i t unbroken in
+      enter_has_event reader (state_of h) may.held.well (well_holds_within reader (state_of h) accepted_are_within may.held.well) who i t unbroken in
       let nowhere : IsEnteredNowhere h i t = subst EntryFound none is in
       nowhere places (state_of h).next count z (subst (λ (e : Event). Leads reader (state_of h) e z) same leads)
 

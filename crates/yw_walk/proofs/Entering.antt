@@ -115,7 +115,7 @@ module _ (net : Net) (state : NetState) (i : Ident) (next : ℕ) where
       let named : places_numbered net cs ≡ may.places = are_numbered net may.places cs may.takes in
       let long : length (entry_rows task (out-NetState state).vals) ≡ count = counts_rows s i y count enters_y.may counts in
       let event : events.Enter i task.name may.places s.next (length (entry_rows task (out-NetState state).vals))
-          ≡ events.Enter i task.name (places_numbered net cs) next count =
+      ≡ events.Enter i task.name (places_numbered net cs) next count =
       λ k. events.Enter i task.name (sym named k) (draw.next k) (long k) in
       record {
         places = places_numbered net cs;
