@@ -63,6 +63,30 @@ fn again() -> Case {
     }
 }
 
+/// File A is made, and a case runs from its launch to its end.
+fn whole_case() -> Case {
+    Case {
+        file: b"",
+        held: 0,
+        lines: br#"{"cmd":"person","name":"ann","roles":[]}
+{"cmd":"load","toml":"name='seq'\ntop='main'\n[[net]]\nname='main'\ninput='i'\noutput='o'\nflows=[['i','a'],['a','o']]\n[[net.task]]\nname='a'"}
+{"cmd":"launch","spec":"seq","data":{}}
+{"cmd":"enter","who":"ann","case":"1","task":"a"}
+{"cmd":"start","who":"ann","item":"1.2"}
+{"cmd":"complete","who":"ann","item":"1.2","out":{}}
+"#,
+        replies: br#"{"n":1,"ok":true,"quiet":true,"steps":["person ann"]}
+{"n":2,"ok":true,"quiet":true,"steps":["load seq"]}
+{"n":3,"ok":true,"quiet":true,"steps":["launch 1 seq"]}
+{"n":4,"ok":true,"quiet":true,"steps":["enter 1 a from i as 1.2"]}
+{"n":5,"ok":true,"quiet":true,"steps":["start 1.2"]}
+{"n":6,"ok":true,"quiet":true,"steps":["complete 1.2","exit 1 a to o","finish 1"]}
+"#,
+        opening: 12,
+        calls: 42,
+    }
+}
+
 /// A line that comes behind them, and its entry.
 const NEW_LINE: &[u8] = br#"{"cmd":"person","name":"new","roles":["clerk"]}"#;
 
@@ -200,6 +224,48 @@ fn first_untold(alloc: Global, case: &Case) -> Result<Option<usize>, AllocError>
         }
     }
     Ok(None)
+}
+
+/// The run of a case ends with a call that fails. What is said is a prefix of the replies, and the files are opened again.
+fn case_is_told(alloc: Global, case: &Case, call: usize) -> Result<bool, AllocError> {
+    let mut desk = desk_over(alloc, case.file, &[], call as u64)?;
+    let status = run_case(alloc, case, &mut desk)?;
+    let image = desk.image(desk.calls(), Fill::New)?;
+    let told = case.replies.starts_with(image.said.as_slice());
+    let mut again = desk_over(alloc, image.a.as_slice(), image.b.as_slice(), 0)?;
+    let mut source = source_of(alloc, &[], 10, 0)?;
+    let opened = run_on(alloc, &mut source, &mut again)?;
+    Ok(told && opened == Status::Ok && status == status_at(case, call) && desk.calls() == call)
+}
+
+/// The first call of a whole case whose failure isn't told so.
+fn first_untold_of_case(alloc: Global, case: &Case) -> Result<Option<usize>, AllocError> {
+    for call in 1..=case.calls {
+        if !case_is_told(alloc, case, call)? {
+            return Ok(Some(call));
+        }
+    }
+    Ok(None)
+}
+
+/// Where no call fails, all replies are said.
+fn case_is_answered(alloc: Global, case: &Case) -> Result<bool, AllocError> {
+    let mut desk = desk_over(alloc, case.file, &[], 0)?;
+    let status = run_case(alloc, case, &mut desk)?;
+    let image = desk.image(desk.calls(), Fill::New)?;
+    Ok(status == Status::Ok && desk.calls() == case.calls && image.said.as_slice() == case.replies)
+}
+
+#[test]
+fn a_case_runs_to_its_end(rt: HostRuntime) -> Result<(), AllocError> {
+    assert!(rt; case_is_answered(rt.alloc(), &whole_case())?);
+    Ok(())
+}
+
+#[test]
+fn each_failing_call_of_a_case_is_told(rt: HostRuntime) -> Result<(), AllocError> {
+    assert_eq!(rt; first_untold_of_case(rt.alloc(), &whole_case())?, None);
+    Ok(())
 }
 
 #[test]
