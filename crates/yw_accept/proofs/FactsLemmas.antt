@@ -16,7 +16,7 @@ use Rattle.yw_accept.specs.declared.broken.Broken.{Broken}
 use Rattle.yw_accept.specs.Facts.{AreDistinct, AreNames, TaskIsNamed, NetIsNamed, IsNamed, NetLeads}
 use Rattle.yw_accept.specs.Faults.{in_net}
 use Rattle.yw_accept.specs.Names.{is_usable, is_new, IsUsable, IsNew, AreNew, TaskNames, NetNames, NamesFit, may_lead, FlowFits, FlowsFit}
-use Rattle.yw_accept.specs.Nodes.{is_among, net_names, task_names, named_places, nodes, is_source, is_sink, is_task}
+use Rattle.yw_accept.specs.Nodes.{is_name_among, net_names, task_names, named_places, nodes, is_source, is_sink, is_task}
 use Rattle.yw_accept.specs.Order.{Check, InOrder, InTurn}
 use Rattle.yw_accept.proofs.Among.{among_at, among_left, among_right}
 
@@ -40,10 +40,10 @@ turn_join {A} check seen (x ∷ xs) ys h g =
 
 -- ---- names of which none comes twice
 
-new_is : (seen : List (List ℕ)) (name : List ℕ) → is_new seen name ≡ true → (is_usable name ≡ true) × (is_among seen name ≡ false)
+new_is : (seen : List (List ℕ)) (name : List ℕ) → is_new seen name ≡ true → (is_usable name ≡ true) × (is_name_among seen name ≡ false)
 new_is seen name h = let parts = and_parts _ _ h in (parts.0, not-true _ parts.1)
 
-module _ (seen : List (List ℕ)) (x : List ℕ) (h : AreDistinct seen) (new : is_among seen x ≡ false) where
+module _ (seen : List (List ℕ)) (x : List ℕ) (h : AreDistinct seen) (new : is_name_among seen x ≡ false) where
   last_is : (j : ℕ) → j < length (seen ++ x ∷ []) → length seen ≤ j → get_or (seen ++ x ∷ []) j [] ≡ x
   last_is j lt le = let e : j ≡ length seen = omega (arith, lt, le, length-append seen (x ∷ [])) in ap (λ k. get_or (seen ++ x ∷ []) k []) e ∙ get_or-append_seam seen x [] []
 
@@ -132,25 +132,25 @@ is_named raw h = record {
 
 -- ---- the second check
 
-place_node : (net : RawNet) (name : List ℕ) → is_among (named_places net) name ≡ true → is_among (nodes net) name ≡ true
+place_node : (net : RawNet) (name : List ℕ) → is_name_among (named_places net) name ≡ true → is_name_among (nodes net) name ≡ true
 place_node net name h = among_left (named_places net) (task_names net.task) name h
 
-task_node : (net : RawNet) (name : List ℕ) → is_task net name ≡ true → is_among (nodes net) name ≡ true
+task_node : (net : RawNet) (name : List ℕ) → is_task net name ≡ true → is_name_among (nodes net) name ≡ true
 task_node net name h = among_right (named_places net) (task_names net.task) name h
 
-pub source_place : (net : RawNet) (name : List ℕ) → is_source net name ≡ true → is_among (named_places net) name ≡ true
-source_place net name h = elim (or_cases (bytes_eq name net.input) (is_among net.conditions name) h) [
+pub source_place : (net : RawNet) (name : List ℕ) → is_source net name ≡ true → is_name_among (named_places net) name ≡ true
+source_place net name h = elim (or_cases (bytes_eq name net.input) (is_name_among net.conditions name) h) [
   | inl input ↦ or_left (bytes_eq name net.input) _ input
   | inr condition ↦ or_right _ _ (or_right (bytes_eq name net.output) _ condition)
 ]
 
-source_node : (net : RawNet) (name : List ℕ) → is_source net name ≡ true → is_among (nodes net) name ≡ true
+source_node : (net : RawNet) (name : List ℕ) → is_source net name ≡ true → is_name_among (nodes net) name ≡ true
 source_node net name h = place_node net name (source_place net name h)
 
-sink_node : (net : RawNet) (name : List ℕ) → is_sink net name ≡ true → is_among (nodes net) name ≡ true
+sink_node : (net : RawNet) (name : List ℕ) → is_sink net name ≡ true → is_name_among (nodes net) name ≡ true
 sink_node net name h = place_node net name (or_right _ _ h)
 
-pub flow_ends : (net : RawNet) (flow : RawFlow) → may_lead net flow ≡ true → (is_among (nodes net) flow.from ≡ true) × (is_among (nodes net) flow.to ≡ true)
+pub flow_ends : (net : RawNet) (flow : RawFlow) → may_lead net flow ≡ true → (is_name_among (nodes net) flow.from ≡ true) × (is_name_among (nodes net) flow.to ≡ true)
 flow_ends net flow h = elim (or_cases _ _ h) [
   | inl one ↦ let parts = and_parts _ _ one in (source_node net flow.from parts.0, task_node net flow.to parts.1)
   | inr two ↦

@@ -5,5 +5,6 @@ pub mod Among
 pub mod FactsLemmas
 pub mod TaskFacts
 pub mod Places
-pub mod Layers
+pub mod LayerLemmas
 pub mod IndexLemmas
+pub mod ReadyLemmas

@@ -12,9 +12,9 @@ use Rattle.yw_spec.specs.declared.spec.Place.TheVariants as places
 use Rattle.yw_read.specs.declared.raw.RawFlow.{RawFlow}
 use Rattle.yw_read.specs.declared.raw.RawNet.{RawNet}
 use Rattle.yw_accept.specs.Built.{place_of, places_of}
-use Rattle.yw_accept.specs.Facts.{NetIsNamed, NetLeads}
+use Rattle.yw_accept.specs.Facts.{HasUsableEnds, NetIsNamed, NetLeads}
 use Rattle.yw_accept.specs.Names.{is_usable, may_lead, may_be_emptied}
-use Rattle.yw_accept.specs.Nodes.{is_among, is_task, is_source, is_sink, is_implicit, named_places, implicit_places, arrow, task_names, nodes}
+use Rattle.yw_accept.specs.Nodes.{is_name_among, is_task, is_source, is_sink, is_implicit, named_places, implicit_places, arrow, task_names, nodes}
 use Rattle.yw_accept.proofs.Among.{among_at, among_contains, usable_among}
 use Rattle.yw_accept.proofs.FactsLemmas.{source_place}
 use Rattle.yw_accept.proofs.Lists.{contains_map, contains_unmap, contains_filter}
@@ -91,29 +91,29 @@ right_of true y h e = absurd (true≢false e)
 right_of false y h e = h
 
 module _ (net : RawNet) where
-  named_there : (name : List ℕ) → is_among (named_places net) name ≡ true → Contains (places_of net) (places.Named name)
+  named_there : (name : List ℕ) → is_name_among (named_places net) name ≡ true → Contains (places_of net) (places.Named name)
   named_there name h = Contains-append_left (map places.Named (named_places net)) (map (place_of net) (filter (is_implicit net) net.flows)) _ (contains_map places.Named (named_places net) name (among_contains (named_places net) name h))
 
   implicit_there : (flow : RawFlow) → Contains (filter (is_implicit net) net.flows) flow → Contains (places_of net) (place_of net flow)
   implicit_there flow h = Contains-append_right (map places.Named (named_places net)) (map (place_of net) (filter (is_implicit net) net.flows)) _ (contains_map (place_of net) (filter (is_implicit net) net.flows) flow h)
 
-  pub text_there : (p : Place) (text : List ℕ) → Contains (places_of net) p → place_text p ≡ text → is_among (map place_text (places_of net)) text ≡ true
+  pub text_there : (p : Place) (text : List ℕ) → Contains (places_of net) p → place_text p ≡ text → is_name_among (map place_text (places_of net)) text ≡ true
   text_there p text there e =
-      let P : List ℕ → Type 0 = λ t. is_among (map place_text (places_of net)) t ≡ true in
+      let P : List ℕ → Type 0 = λ t. is_name_among (map place_text (places_of net)) t ≡ true in
       subst P e (among_at (map place_text (places_of net)) _ (contains_map place_text (places_of net) p there))
 
-  arrow_there : (text : List ℕ) → is_among (implicit_places net) text ≡ true → is_among (map place_text (places_of net)) text ≡ true
+  arrow_there : (text : List ℕ) → is_name_among (implicit_places net) text ≡ true → is_name_among (map place_text (places_of net)) text ≡ true
   arrow_there text h =
       let (flow, there, e) = contains_unmap arrow (filter (is_implicit net) net.flows) text (among_contains (implicit_places net) text h) in
       let both = and_parts _ _ (All-contains (λ f. is_implicit net f ≡ true) (filter (is_implicit net) net.flows) flow (filter_passes (is_implicit net) net.flows) there) in
       text_there (place_of net flow) text (implicit_there flow there) (ap place_text (place_both net flow both.0 both.1) ∙ e)
 
-  condition_there : (text : List ℕ) → is_among net.conditions text ≡ true → is_among (map place_text (places_of net)) text ≡ true
+  condition_there : (text : List ℕ) → is_name_among net.conditions text ≡ true → is_name_among (map place_text (places_of net)) text ≡ true
   condition_there text h = text_there (places.Named text) text (named_there text (or_right _ _ (or_right _ _ h))) refl
 
   -- what may be emptied and is no task is a place
-  pub emptied_there : (text : List ℕ) → may_be_emptied net text ≡ true → is_task net text ≡ false → is_among (map place_text (places_of net)) text ≡ true
-  emptied_there text h no_task = elim (cases_Bool (is_among net.conditions text)) [
+  pub emptied_there : (text : List ℕ) → may_be_emptied net text ≡ true → is_task net text ≡ false → is_name_among (map place_text (places_of net)) text ≡ true
+  emptied_there text h no_task = elim (cases_Bool (is_name_among net.conditions text)) [
     | inl t ↦ condition_there text t
     | inr f ↦ arrow_there text (right_of _ _ (left_of _ _ h no_task) f)
   ]
@@ -138,9 +138,6 @@ module _ (net : RawNet) where
         ]
 
 -- ---- the places of a net of which the first two checks find nothing have names
-
-abbrev pub HasUsableEnds : RawFlow → Type 0
-HasUsableEnds flow = (is_usable flow.from ≡ true) × (is_usable flow.to ≡ true)
 
 pub ends_named : (net : RawNet) (flow : RawFlow) → HasUsableEnds flow → IsNamedPlace (place_of net flow)
 ends_named net flow h = elim (cases_Bool (is_task net flow.from)) [

@@ -18,7 +18,7 @@ use Rattle.yw_read.specs.declared.raw.RawTask.{RawTask}
 use Rattle.yw_accept.specs.Faults.{in_net}
 use Rattle.yw_accept.specs.Graph.{ChildrenFit, ChildFits, may_be_child}
 use Rattle.yw_accept.specs.Names.{NamesFit, FlowsFit, RemovalsFit, RemovalFits, may_be_emptied}
-use Rattle.yw_accept.specs.Nodes.{is_among, leads_to, HasFlow}
+use Rattle.yw_accept.specs.Nodes.{is_name_among, leads_to, HasFlow}
 use Rattle.yw_accept.specs.Order.{Check, Demand, InOrder}
 use Rattle.yw_accept.specs.Scopes.{SortsFit, ParametersAgree, ExpressionsFit, ParametersFit}
 use Rattle.yw_accept.specs.Tasks.{ItemsFit, SplitsFit, SplitFits, items_fit, split_fits}
@@ -85,13 +85,13 @@ parameters_agree raw h = everywhere (λ net task. Demand (ParametersFit raw net 
 -- ---- branches
 
 -- a split that fits leads to outputs alone
-pub to_outputs : (gate : Gate) (outputs : List (List ℕ)) (branches : List RawBranch) → split_fits gate outputs branches ≡ true → All (λ (b : RawBranch). is_among outputs b.to ≡ true) branches
-to_outputs gates.And outputs branches h = empty_all (λ (b : RawBranch). is_among outputs b.to ≡ true) branches (grind (arith, nat_tests))
-to_outputs gates.Xor outputs branches h = AllPass-from_list_all (λ (b : RawBranch). is_among outputs b.to) branches (and_parts _ _ (and_parts _ _ h).0).0
-to_outputs gates.Or outputs branches h = AllPass-from_list_all (λ (b : RawBranch). is_among outputs b.to) branches (and_parts _ _ (and_parts _ _ h).0).0
+pub to_outputs : (gate : Gate) (outputs : List (List ℕ)) (branches : List RawBranch) → split_fits gate outputs branches ≡ true → All (λ (b : RawBranch). is_name_among outputs b.to ≡ true) branches
+to_outputs gates.And outputs branches h = empty_all (λ (b : RawBranch). is_name_among outputs b.to ≡ true) branches (grind (arith, nat_tests))
+to_outputs gates.Xor outputs branches h = AllPass-from_list_all (λ (b : RawBranch). is_name_among outputs b.to) branches (and_parts _ _ (and_parts _ _ h).0).0
+to_outputs gates.Or outputs branches h = AllPass-from_list_all (λ (b : RawBranch). is_name_among outputs b.to) branches (and_parts _ _ (and_parts _ _ h).0).0
 
 -- to an output goes a flow
-pub flow_to : (net : RawNet) (node to : List ℕ) → is_among (leads_to net node) to ≡ true → HasFlow net node to
+pub flow_to : (net : RawNet) (node to : List ℕ) → is_name_among (leads_to net node) to ≡ true → HasFlow net node to
 flow_to net node to h =
     let from_node : RawFlow → Bool = λ flow. bytes_eq flow.from node in
     let (flow, there, is_to) = contains_unmap (λ (f : RawFlow). f.to) (filter from_node net.flows) to (among_contains (leads_to net node) to h) in

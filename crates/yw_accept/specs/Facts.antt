@@ -9,7 +9,7 @@ use Rattle.yw_read.specs.declared.raw.RawTask.{RawTask}
 use Rattle.yw_read.specs.declared.raw.RawNet.{RawNet}
 use Rattle.yw_read.specs.declared.raw.RawSpec.{RawSpec}
 use Rattle.yw_accept.specs.Names.{is_usable, may_lead}
-use Rattle.yw_accept.specs.Nodes.{net_names, nodes, is_net, is_among}
+use Rattle.yw_accept.specs.Nodes.{net_names, nodes, is_net, is_name_among}
 
 -- no name stands at two places
 abbrev pub AreDistinct : List (List ℕ) → Type 0
@@ -38,8 +38,12 @@ pub record IsNamed (raw : RawSpec) : Type 0 where
   pub nets_are : AreNames (net_names raw.net)
   pub nets : All NetIsNamed raw.net
 
+-- both ends are names that may be used
+abbrev pub HasUsableEnds : RawFlow → Type 0
+HasUsableEnds flow = (is_usable flow.from ≡ true) × (is_usable flow.to ≡ true)
+
 -- what the second check tells of a net
 pub record NetLeads (net : RawNet) : Type 0 where
   pub leads : All (λ flow. may_lead net flow ≡ true) net.flows
-  pub from : All (λ (flow : RawFlow). is_among (nodes net) flow.from ≡ true) net.flows
-  pub to : All (λ (flow : RawFlow). is_among (nodes net) flow.to ≡ true) net.flows
+  pub from : All (λ (flow : RawFlow). is_name_among (nodes net) flow.from ≡ true) net.flows
+  pub to : All (λ (flow : RawFlow). is_name_among (nodes net) flow.to ≡ true) net.flows

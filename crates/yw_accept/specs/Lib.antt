@@ -8,4 +8,5 @@ pub mod Scopes
 pub mod Verdict
 pub mod Built
 pub mod Facts
+pub mod Ready
 pub mod Index

@@ -15,7 +15,7 @@ use Rattle.yw_read.specs.declared.raw.RawNet.{RawNet}
 use Rattle.yw_read.specs.declared.raw.RawSpec.{RawSpec}
 use Rattle.yw_accept.specs.declared.broken.Broken.{Broken}
 use Rattle.yw_accept.specs.Faults.{in_net, of_net, of_spec}
-use Rattle.yw_accept.specs.Nodes.{is_among, net_names, task_names, named_places, is_net, is_task, is_source, is_sink, implicit_places}
+use Rattle.yw_accept.specs.Nodes.{is_name_among, net_names, task_names, named_places, is_net, is_task, is_source, is_sink, implicit_places}
 use Rattle.yw_accept.specs.Order.{Check, Demand, Then, InOrder, InTurn}
 
 -- ---- 1: every name, role and variable is a name, and no word of the expression language; and names that may be
@@ -26,7 +26,7 @@ is_usable name = is_name name && not (is_reserved name)
 
 -- it is usable, and none of those before it
 abbrev pub is_new : List (List ℕ) → List ℕ → Bool
-is_new seen name = is_usable name && not (is_among seen name)
+is_new seen name = is_usable name && not (is_name_among seen name)
 
 abbrev pub IsUsable : (List ℕ → Broken) → List ℕ → Check
 IsUsable fault name = Demand (is_usable name ≡ true) (fault name)
@@ -82,7 +82,7 @@ FlowsFit raw = InOrder (λ (net : RawNet). InTurn (FlowFits net) [] net.flows) r
 -- ---- 4: a task removes from conditions other than input and output, from implicit ones, and from tasks
 
 abbrev pub may_be_emptied : RawNet → List ℕ → Bool
-may_be_emptied net name = is_among net.conditions name || is_among (implicit_places net) name || is_task net name
+may_be_emptied net name = is_name_among net.conditions name || is_name_among (implicit_places net) name || is_task net name
 
 abbrev pub RemovalFits : RawNet → RawTask → Check
 RemovalFits net task = Demand (list_all (may_be_emptied net) task.remove ≡ true) (in_net 4 net.name task.name)

@@ -8,8 +8,8 @@ use Rattle.yw_read.specs.declared.raw.RawNet.{RawNet}
 use Rattle.yw_read.specs.declared.raw.RawTask.{RawTask}
 use Rattle.yw_read.specs.declared.raw.RawSpec.{RawSpec}
 
-abbrev pub is_among : List (List ℕ) → List ℕ → Bool
-is_among names name = list_any (bytes_eq name) names
+abbrev pub is_name_among : List (List ℕ) → List ℕ → Bool
+is_name_among names name = list_any (bytes_eq name) names
 
 abbrev pub net_names : List RawNet → List (List ℕ)
 net_names nets = map (λ (net : RawNet). net.name) nets
@@ -26,18 +26,18 @@ abbrev pub nodes : RawNet → List (List ℕ)
 nodes net = named_places net ++ task_names net.task
 
 abbrev pub is_net : RawSpec → List ℕ → Bool
-is_net raw name = is_among (net_names raw.net) name
+is_net raw name = is_name_among (net_names raw.net) name
 
 abbrev pub is_task : RawNet → List ℕ → Bool
-is_task net name = is_among (task_names net.task) name
+is_task net name = is_name_among (task_names net.task) name
 
 -- a condition other than the output
 abbrev pub is_source : RawNet → List ℕ → Bool
-is_source net name = bytes_eq name net.input || is_among net.conditions name
+is_source net name = bytes_eq name net.input || is_name_among net.conditions name
 
 -- a condition other than the input
 abbrev pub is_sink : RawNet → List ℕ → Bool
-is_sink net name = bytes_eq name net.output || is_among net.conditions name
+is_sink net name = bytes_eq name net.output || is_name_among net.conditions name
 
 -- it goes from a task to a task
 abbrev pub is_implicit : RawNet → RawFlow → Bool

@@ -13,7 +13,7 @@ use Rattle.yw_read.specs.declared.raw.RawTask.{RawTask}
 use Rattle.yw_read.specs.declared.raw.RawNet.{RawNet}
 use Rattle.yw_read.specs.declared.raw.RawSpec.{RawSpec}
 use Rattle.yw_accept.specs.Faults.{in_net, of_net}
-use Rattle.yw_accept.specs.Nodes.{is_among, net_names, nodes, leads_to}
+use Rattle.yw_accept.specs.Nodes.{is_name_among, net_names, nodes, leads_to}
 use Rattle.yw_accept.specs.Order.{Check, Demand, Then, InOrder}
 
 -- ---- 5: with `each` the kind is atomic or sub, 1 <= min <= max <= 1,000, 1 <= threshold <= 1,000, and `item` names one
@@ -40,7 +40,7 @@ abbrev pub in_names : RawTask → List (List ℕ)
 in_names task = map (λ (p : RawIn). p.name) task.ins
 
 abbrev pub item_fits : RawTask → Bool
-item_fits task = option_map_or (is_among (in_names task)) task.item false
+item_fits task = option_map_or (is_name_among (in_names task)) task.item false
 
 abbrev pub has_no_bounds : RawTask → Bool
 has_no_bounds task = is_none task.item && is_none task.min && is_none task.max && is_none task.threshold && is_none task.dynamic
@@ -59,7 +59,7 @@ ItemsFit raw =
 -- the branches share out the outputs
 abbrev pub branches_fit : List (List ℕ) → List RawBranch → Bool
 branches_fit outputs branches =
-    list_all (λ (b : RawBranch). is_among outputs b.to) branches
+    list_all (λ (b : RawBranch). is_name_among outputs b.to) branches
     && list_all (λ output. count_by (λ (b : RawBranch). bytes_eq output b.to) branches == 1) outputs
     && count_by (λ (b : RawBranch). is_none b.when) branches == 1
 

@@ -1,6 +1,6 @@
 // The first demand that a specification doesn't meet.
 ghost use Rattle.std.specs.Prelude.{◌≡◌, IfOk, codes};
-ghost use Rattle.yw_accept.specs.Faults.{broken_text, in_net, of_net, of_spec, shown};
+ghost use Rattle.yw_accept.specs.Faults.{broken_text, in_net, of_net, of_spec, name_or_mark};
 
 use std::alloc::{AllocError, Global};
 use yw_base::{Name, NameFault, Text};
@@ -17,8 +17,8 @@ pub struct Broken {
 }
 
 /// A text as a fault shows it.
-fn shown(alloc: Global, name: &Text) -> Result<Text, AllocError>
-    ensures { IfOk result (λ t. t ≡ shown name.now) }
+fn name_or_mark(alloc: Global, name: &Text) -> Result<Text, AllocError>
+    ensures { IfOk result (λ t. t ≡ name_or_mark name.now) }
 {
     match Name::read(alloc, name.as_str()) {
         Ok(name) => Ok(Text::from_string(name.into_string())),
@@ -37,8 +37,8 @@ impl Broken {
     ) -> Result<Broken, AllocError>
         ensures { IfOk result (λ b. b ≡ in_net number net.now offender.now) }
     {
-        let net = shown(alloc, net)?;
-        let offender = shown(alloc, offender)?;
+        let net = name_or_mark(alloc, net)?;
+        let offender = name_or_mark(alloc, offender)?;
         Ok(Broken {
             number,
             net,
@@ -58,7 +58,7 @@ impl Broken {
         ensures { IfOk result (λ b. b ≡ of_spec number offender.now) }
     {
         let net = Text::copy_of(alloc, "-")?;
-        let offender = shown(alloc, offender)?;
+        let offender = name_or_mark(alloc, offender)?;
         Ok(Broken {
             number,
             net,

@@ -1,8 +1,9 @@
 // Texts by their numbers.
-ghost use Rattle.std.specs.Prelude.{◌≡◌, ℕ, List, true, Some, IsSome, slice_get};
+ghost use Rattle.std.specs.Prelude.{◌≡◌, ℕ, List, true, Some, IsSome, IfOk, map, slice_get};
 ghost use Rattle.yw_accept.specs.Index.{IsIndexOf};
-ghost use Rattle.yw_accept.specs.Nodes.{is_among};
+ghost use Rattle.yw_accept.specs.Nodes.{is_name_among};
 
+use crate::named::Named;
 use std::alloc::{AllocError, Global};
 use std::collections::BTreeMap;
 
@@ -43,17 +44,28 @@ impl Index {
     }
 }
 
+/// The index of the names of a list. An `Err` says that no memory was left.
+pub fn index_of<T: Named>(alloc: Global, items: &[T]) -> Result<Index, AllocError>
+    ensures { IfOk result (IsIndexOf (map T.name_of items.now)) }
+{
+    let mut index = Index::new(alloc);
+    for (number, item) in items.iter().enumerate() {
+        index.add(String::from_str(alloc, item.name().as_str())?, number)?;
+    }
+    Ok(index)
+}
+
 /// The number of a text of the list, or `None` where it isn't among them. It takes no memory.
 pub fn number_of(index: &Index, text: &str) -> Option<usize>
     ensures found { (texts : List (List ℕ)) → IsIndexOf texts index.now → (k : ℕ) → result ≡ Some k → slice_get texts k ≡ Some text.now }
-    ensures missed { (texts : List (List ℕ)) → IsIndexOf texts index.now → is_among texts text.now ≡ true → IsSome result }
+    ensures missed { (texts : List (List ℕ)) → IsIndexOf texts index.now → is_name_among texts text.now ≡ true → IsSome result }
 {
     index.find(text)
 }
 
 /// The text is one of the list. It takes no memory.
 pub fn has(index: &Index, text: &str) -> bool
-    ensures { (texts : List (List ℕ)) → IsIndexOf texts index.now → result ≡ is_among texts text.now }
+    ensures { (texts : List (List ℕ)) → IsIndexOf texts index.now → result ≡ is_name_among texts text.now }
 {
     index.find(text).is_some()
 }

@@ -3,6 +3,10 @@
 
 mod broken;
 mod index;
+mod layers;
+mod named;
 
 pub use broken::Broken;
-pub use index::{Index, has, number_of};
+pub use index::{Index, has, index_of, number_of};
+pub use layers::{outs_layer, vars_layer};
+pub use named::Named;

@@ -8,7 +8,7 @@ use Rattle.std.proofs.lemmas.List.Elements.{All-head, All-tail, filter_passes}
 use Rattle.std.proofs.lemmas.List.Sums.{sum_by-cons}
 use Rattle.std.proofs.lemmas.Slice.Eq.{bytes_eq-Decides}
 use Rattle.yw_accept.specs.Built.{IsBranch, IsPlaceOf, MayMean, flows_from, place_of, places_of}
-use Rattle.yw_accept.specs.Nodes.{is_among, is_task, leads_to}
+use Rattle.yw_accept.specs.Nodes.{is_name_among, is_task, leads_to}
 use Rattle.yw_accept.specs.Scopes.{vars_scope}
 use Rattle.yw_accept.specs.Tasks.{branches_fit, split_fits}
 use Rattle.yw_base.specs.declared.gate.Gate.{Gate}
@@ -84,7 +84,7 @@ module _ (net : RawNet) (name : List ℕ) (task : is_task net name ≡ true) (ap
     branch_at rb b is = is.to ∙ ap (λ (n : List ℕ). Some (place_of net (record { from = n; to = rb.to }))) called
 
     -- each branch leads to a place after the task
-    branch_among : (rb : RawBranch) (b : Branch) → IsBranch net said rb b → (fs : List RawFlow) (cs : List ℕ) → All IsFrom fs → AllZip (IsPlaceOf net) fs cs → is_among (map (λ (f : RawFlow). f.to) fs) rb.to ≡ true
+    branch_among : (rb : RawBranch) (b : Branch) → IsBranch net said rb b → (fs : List RawFlow) (cs : List ℕ) → All IsFrom fs → AllZip (IsPlaceOf net) fs cs → is_name_among (map (λ (f : RawFlow). f.to) fs) rb.to ≡ true
         → numbers.is_among cs b.to ≡ true
     branch_among rb b is [] [] from zip among = never among
     branch_among rb b is [] (c ∷ cs) from zip among = absurd zip
@@ -95,19 +95,19 @@ module _ (net : RawNet) (name : List ℕ) (task : is_task net name ≡ true) (ap
         (λ here. or_left (nat_eq b.to c) _ (same ∙ here))
         (λ els. or_right (nat_eq b.to c) _ (branch_among rb b is fs cs (All-tail IsFrom f fs from) zip.1 (others f.to rb.to fs els among)))
       where
-        others : (a b : List ℕ) (fs : List RawFlow) → bytes_eq a b ≡ false → (bytes_eq b a || is_among (map (λ (f : RawFlow). f.to) fs) b) ≡ true → is_among (map (λ (f : RawFlow). f.to) fs) b ≡ true
+        others : (a b : List ℕ) (fs : List RawFlow) → bytes_eq a b ≡ false → (bytes_eq b a || is_name_among (map (λ (f : RawFlow). f.to) fs) b) ≡ true → is_name_among (map (λ (f : RawFlow). f.to) fs) b ≡ true
         others a b fs differ among =
             by_test (bytes_eq b a)
             (λ same. never (sym differ ∙ (bytes_eq-Decides a b).1 (sym ((bytes_eq-Decides b a).0 same))))
-            (λ els. ap (λ t. t || is_among (map (λ (f : RawFlow). f.to) fs) b) (sym els) ∙ among)
+            (λ els. ap (λ t. t || is_name_among (map (λ (f : RawFlow). f.to) fs) b) (sym els) ∙ among)
 
     all_among : (rbs : List RawBranch) (bs : List Branch) → AllZip (IsBranch net said) rbs bs → (cs : List ℕ) → AllZip (IsPlaceOf net) (flows_from net name) cs
-        → list_all (λ (rb : RawBranch). is_among (leads_to net name) rb.to) rbs ≡ true → list_all (λ (b : Branch). numbers.is_among cs b.to) bs ≡ true
+        → list_all (λ (rb : RawBranch). is_name_among (leads_to net name) rb.to) rbs ≡ true → list_all (λ (b : Branch). numbers.is_among cs b.to) bs ≡ true
     all_among [] [] zip cs after all = refl
     all_among [] (b ∷ bs) zip cs after all = absurd zip
     all_among (rb ∷ rbs) [] zip cs after all = absurd zip
     all_among (rb ∷ rbs) (b ∷ bs) zip cs after all =
-        let parts = and_parts (is_among (leads_to net name) rb.to) (list_all (λ (r : RawBranch). is_among (leads_to net name) r.to) rbs) all in
+        let parts = and_parts (is_name_among (leads_to net name) rb.to) (list_all (λ (r : RawBranch). is_name_among (leads_to net name) r.to) rbs) all in
         let from = filter_passes (λ (flow : RawFlow). bytes_eq flow.from name) net.flows in
         and_from _ _ (branch_among rb b zip.0 (flows_from net name) cs from after parts.0) (all_among rbs bs zip.1 cs after parts.1)
 
@@ -134,7 +134,7 @@ module _ (net : RawNet) (name : List ℕ) (task : is_task net name ≡ true) (ap
       shares_out : branches_fit (leads_to net name) said.branch ≡ true → SharesOut t
       shares_out fit =
           let parts = and_parts _ (count_by (λ (rb : RawBranch). is_none rb.when) said.branch == 1) fit in
-          let both = and_parts (list_all (λ (rb : RawBranch). is_among (leads_to net name) rb.to) said.branch) _ parts.0 in
+          let both = and_parts (list_all (λ (rb : RawBranch). is_name_among (leads_to net name) rb.to) said.branch) _ parts.0 in
           let from = filter_passes (λ (flow : RawFlow). bytes_eq flow.from name) net.flows in
           record {
             to = all_among said.branch t.branch branch t.after after both.0;

@@ -15,7 +15,7 @@ use Rattle.std.proofs.lemmas.Slice.Eq.{bytes_eq-Decides}
 use Rattle.yw_accept.proofs.FactsLemmas.{order_all}
 use Rattle.yw_accept.specs.Built.{IsAssign, IsPlaceOf, MayBeItems, flows_from, out_of, place_of, places_of, var_of}
 use Rattle.yw_accept.specs.Names.{FlowFits, FlowsFit, is_same_flow, may_lead}
-use Rattle.yw_accept.specs.Nodes.{is_among, is_task, task_names}
+use Rattle.yw_accept.specs.Nodes.{is_name_among, is_task, task_names}
 use Rattle.yw_accept.specs.Order.{InTurn}
 use Rattle.yw_accept.specs.Scopes.{IsOfVar, Spells, gathered, is_single, set_scope, sort_of_var, vars_scope}
 use Rattle.yw_accept.specs.Tasks.{bounds_fit, enough, greatest, has_no_bounds, item_fits, items_fit, least}
@@ -50,7 +50,7 @@ use Rattle.yw_spec.specs.declared.task.Task.{Task}
 use Rattle.yw_state.proofs.MapLemmas.{never, nowhere, some_same}
 use Rattle.yw_state.proofs.Tests.{map_some}
 use Rattle.yw_state.specs.Nets as numbers
-use Rattle.yw_state.specs.Well.{most_items}
+use Rattle.yw_state.specs.Well.{item_limit}
 
 -- ---- several items
 
@@ -62,7 +62,7 @@ module _ (net : RawNet) (said : RawTask) where
   both_or_none (Some e) (Some m) is = refl
 
   pub items_few : (each : Option (List ℕ)) (many : Option Many) → MayBeItems net said each many
-      → option_map_or (λ _. not (is_empty said.kind) && bounds_fit said && item_fits said) each (has_no_bounds said) ≡ true → most_items many ≤ most_elements
+      → option_map_or (λ _. not (is_empty said.kind) && bounds_fit said && item_fits said) each (has_no_bounds said) ≡ true → item_limit many ≤ most_elements
   items_few None None is fit = omega arith
   items_few None (Some m) is fit = absurd is
   items_few (Some e) None is fit = absurd is
@@ -198,7 +198,7 @@ module _ (net : RawNet) where
         (AllPairs-filter (λ x y. x ≡ y → ⊥) (λ (flow : RawFlow). bytes_eq flow.from name) net.flows (flows_apart [] net.flows (λ i j d lt within e. absurd (omega (arith, within))) turn))
 
   -- a task is called by its name
-  pub is_called : (tasks : List RawTask) (i : ℕ) (t : RawTask) → slice_get tasks i ≡ Some t → is_among (task_names tasks) t.name ≡ true
+  pub is_called : (tasks : List RawTask) (i : ℕ) (t : RawTask) → slice_get tasks i ≡ Some t → is_name_among (task_names tasks) t.name ≡ true
   is_called [] i t at = nowhere at
-  is_called (u ∷ tasks) zero t at = or_left _ (is_among (task_names tasks) t.name) ((bytes_eq-Decides t.name u.name).1 (ap (λ (x : RawTask). x.name) (sym (some_same u t at))))
+  is_called (u ∷ tasks) zero t at = or_left _ (is_name_among (task_names tasks) t.name) ((bytes_eq-Decides t.name u.name).1 (ap (λ (x : RawTask). x.name) (sym (some_same u t at))))
   is_called (u ∷ tasks) (suc i) t at = or_right (bytes_eq t.name u.name) _ (is_called tasks i t at)

@@ -13,7 +13,7 @@ use Rattle.yw_accept.specs.Built.{IsPlaceOf, flows_to, place_of, places_of}
 use Rattle.yw_accept.specs.Facts.{NetIsNamed, NetLeads}
 use Rattle.yw_accept.specs.Graph.{IsOnPath, NodeIsOnPath, PathsFit}
 use Rattle.yw_accept.specs.Names.{is_usable}
-use Rattle.yw_accept.specs.Nodes.{HasFlow, is_among, is_implicit, is_task, named_places, nodes, task_names}
+use Rattle.yw_accept.specs.Nodes.{HasFlow, is_name_among, is_implicit, is_task, named_places, nodes, task_names}
 use Rattle.yw_accept.specs.Order.{InOrder}
 use Rattle.yw_accept.specs.Verdict.{IsVerdict}
 use Rattle.yw_base.specs.Spelling.{is_name}
@@ -47,12 +47,12 @@ module _ (net : RawNet) where
   between flow implicit from to =
       ap (λ b. is_named_place (if b then places.Between flow.from flow.to else if is_task net flow.from then places.Named flow.to else places.Named flow.from)) implicit ∙ and_from _ _ from to
 
-  betweens : (flows : List RawFlow) → All (λ (f : RawFlow). is_among (nodes net) f.from ≡ true) flows → All (λ (f : RawFlow). is_among (nodes net) f.to ≡ true) flows
+  betweens : (flows : List RawFlow) → All (λ (f : RawFlow). is_name_among (nodes net) f.from ≡ true) flows → All (λ (f : RawFlow). is_name_among (nodes net) f.to ≡ true) flows
       → All (λ n. is_usable n ≡ true) (nodes net) → list_all is_named_place (map (place_of net) (filter (is_implicit net) flows)) ≡ true
   betweens [] from to usable = refl
   betweens (f ∷ fs) from to usable =
-      let From = λ (g : RawFlow). is_among (nodes net) g.from ≡ true in
-      let To = λ (g : RawFlow). is_among (nodes net) g.to ≡ true in
+      let From = λ (g : RawFlow). is_name_among (nodes net) g.from ≡ true in
+      let To = λ (g : RawFlow). is_name_among (nodes net) g.to ≡ true in
       let rest = betweens fs (All-tail From f fs from) (All-tail To f fs to) usable in
       by_test (is_implicit net f)
       (λ yes.
@@ -103,7 +103,7 @@ module _ (net : RawNet) where
   same_count (f ∷ fs) (c ∷ cs) zip some = omega arith
 
   -- no task has the name of the input
-  not_input : NetIsNamed net → (name : List ℕ) → is_among (task_names net.task) name ≡ true → net.input ≡ name → ⊥
+  not_input : NetIsNamed net → (name : List ℕ) → is_name_among (task_names net.task) name ≡ true → net.input ≡ name → ⊥
   not_input named name task same =
       let rest = net.output ∷ net.conditions ++ task_names net.task in
       let (k, lt, at) = among_contains rest name (among_right (net.output ∷ net.conditions) (task_names net.task) name task) in
@@ -112,7 +112,7 @@ module _ (net : RawNet) where
       omega (arith, first)
 
   -- so a place stands before each task
-  pub some_before : NetIsNamed net → All (IsOnPath net) (nodes net) → (name : List ℕ) → is_among (task_names net.task) name ≡ true → (cs : List ℕ) → AllZip (IsPlaceOf net) (flows_to net name) cs → 1 ≤ length cs
+  pub some_before : NetIsNamed net → All (IsOnPath net) (nodes net) → (name : List ℕ) → is_name_among (task_names net.task) name ≡ true → (cs : List ℕ) → AllZip (IsPlaceOf net) (flows_to net name) cs → 1 ≤ length cs
   some_before named paths name task cs zip =
       let here = among_contains (nodes net) name (among_right (named_places net) (task_names net.task) name task) in
       let (steps, walk) = (All-contains (IsOnPath net) (nodes net) name paths here).0 in

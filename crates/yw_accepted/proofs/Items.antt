@@ -26,12 +26,12 @@ use Rattle.yw_read.specs.declared.raw.RawNet.{RawNet}
 use Rattle.yw_read.specs.declared.raw.RawSpec.{RawSpec}
 use Rattle.yw_read.specs.declared.raw.RawTask.{RawTask}
 use Rattle.yw_accept.specs.Built.{AreItems, IsParam, IsTask, MayBeItems, MayMean, var_of}
+use Rattle.yw_accept.specs.Ready.{TaskIsReady}
 use Rattle.yw_accept.specs.Scopes.{Is, ItemFits, Spells, element_of, is_given, is_item, vars_scope}
 use Rattle.yw_accept.specs.Tasks.{bounds_fit, has_no_bounds, item_fits}
 use Rattle.yw_read.specs.TaskKinds.{is_empty}
 use Rattle.yw_said.proofs.Numbers.{one_called}
 use Rattle.yw_said.proofs.OnceFacts.{InsApart}
-use Rattle.yw_said.proofs.SomeFacts.{TaskCanBeBuilt}
 use Rattle.yw_accepted.proofs.Expressions.{worth}
 use Rattle.yw_accepted.proofs.Found.{all_at, zip_at}
 use Rattle.yw_sound.specs.Sound.{HasSort, ParamIsSound}
@@ -75,7 +75,7 @@ all_from_get P xs each i d lt = each i (get_or xs i d) (slice_get-get_or xs i d 
 
 -- ---- a task
 
-module _ (raw : RawSpec) (rn : RawNet) (net : Net) (vars : net.vars ≡ map var_of rn.vars) (rt : RawTask) (t : Task) (is : IsTask raw rn rt t) (can : TaskCanBeBuilt raw rn rt) (given : list_all (is_given rt) rt.ins ≡ true) (apart : InsApart rt) where
+module _ (raw : RawSpec) (rn : RawNet) (net : Net) (vars : net.vars ≡ map var_of rn.vars) (rt : RawTask) (t : Task) (is : IsTask raw rn rt t) (can : TaskIsReady raw rn rt) (given : list_all (is_given rt) rt.ins ≡ true) (apart : InsApart rt) where
   -- a text that is said means an expression, which has the sort of the parameter
   text_of : (said : Option (List ℕ)) (e : Tree) → MayMean (vars_scope rn) said (Some e) → (text : List ℕ) × (said ≡ Some text) × Means text (vars_scope rn) (Ok e)
   text_of (Some text) e means = (text, refl, means)

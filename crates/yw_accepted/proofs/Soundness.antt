@@ -39,12 +39,13 @@ use Rattle.yw_accept.specs.Built.{IsKind, IsNet, IsSpec, IsTask, out_of, var_of}
 use Rattle.yw_accept.specs.Names.{FlowFits}
 use Rattle.yw_accept.specs.Nodes.{net_names}
 use Rattle.yw_accept.specs.Order.{InTurn}
+use Rattle.yw_accept.specs.Ready.{NetIsReady, TaskIsReady}
 use Rattle.yw_base.specs.Usages.{comes_in, goes_out}
 use Rattle.yw_accept.specs.Scopes.{agrees, fits_child, hands_over, is_given, is_in_var, is_out_var, is_same_sort, is_single, names_var, net_named, outs_fit}
 use Rattle.yw_accept.specs.Verdict.{IsVerdict}
+use Rattle.yw_accept.proofs.ReadyLemmas.{is_ready}
 use Rattle.yw_said.proofs.Numbers.{Apart}
 use Rattle.yw_said.proofs.OnceFacts.{InsApart, IsApart, NetIsApart, accepted_apart}
-use Rattle.yw_said.proofs.SomeFacts.{NetCanBeBuilt, TaskCanBeBuilt, can_be_built}
 use Rattle.yw_state.proofs.MapLemmas.{never, nowhere, some_same}
 use Rattle.yw_state.specs.Nets.{child_net, is_empty}
 use Rattle.yw_accepted.proofs.Exits.{assigns_right, assigns_small, both_or_none, flow_turns, goes_on_apart, is_called, items_few, outs_single}
@@ -148,7 +149,7 @@ module _ (raw : RawSpec) (verdict : IsVerdict raw None) (inits : HasInits raw) (
   task_sound rn k rat net built i t at =
       let (rt, rtat, is) = zip_at (IsTask raw rn) rn.task net.tasks built.tasks i t at in
       let here = all_at NetIsApart raw.net apart.nets k rn rat in
-      let can = all_at (TaskCanBeBuilt raw rn) rn.task (all_at (NetCanBeBuilt raw) raw.net (can_be_built raw verdict).nets k rn rat).tasks i rt rtat in
+      let can = all_at (TaskIsReady raw rn) rn.task (all_at (NetIsReady raw) raw.net (is_ready raw verdict).nets k rn rat).tasks i rt rtat in
       let apart_ins = all_at InsApart rn.task here.ins i rt rtat in
       let fits = (and_parts (list_all (is_given rt) rt.ins && list_all (agrees rt.outs) rt.ins && outs_fit rt && hands_over raw rt rt.kind) (list_all (names_var rn) rt.set) can.parameters.fit).0 in
       let both = and_parts (list_all (is_given rt) rt.ins && list_all (agrees rt.outs) rt.ins && outs_fit rt) (hands_over raw rt rt.kind) fits in

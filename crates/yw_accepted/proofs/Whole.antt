@@ -7,11 +7,13 @@ use Rattle.std.proofs.lemmas.List.{length-append, length-map}
 use Rattle.std.proofs.lemmas.Option.{slice_get-map}
 use Rattle.yw_accept.proofs.Among.{among_right, usable_among}
 use Rattle.yw_accept.proofs.FactsLemmas.{is_named, nets_lead, order_all}
+use Rattle.yw_accept.proofs.ReadyLemmas.{is_ready}
 use Rattle.yw_accept.specs.Built.{IsAssign, IsKind, IsNet, IsParam, IsPlaceCalled, IsSpec, IsTask, IsTaskCalled, MayBeItems, flows_from, flows_to, places_of, var_of}
 use Rattle.yw_accept.specs.Facts.{NetIsNamed, NetLeads}
 use Rattle.yw_accept.specs.Graph.{IsOnPath}
 use Rattle.yw_accept.specs.Names.{FlowsFit, NamesFit, is_usable}
 use Rattle.yw_accept.specs.Nodes.{is_task, named_places, net_names, nodes, task_names}
+use Rattle.yw_accept.specs.Ready.{NetIsReady, TaskIsReady}
 use Rattle.yw_accept.specs.Tasks.{NetIsSmall, SizesFit, is_small_net}
 use Rattle.yw_accept.specs.Verdict.{IsVerdict}
 use Rattle.yw_base.specs.Spelling.{is_name}
@@ -28,7 +30,6 @@ use Rattle.yw_read.specs.declared.raw.RawTask.{RawTask}
 use Rattle.yw_read.specs.declared.raw.RawVar.{RawVar}
 use Rattle.yw_said.proofs.Numbers.{Apart}
 use Rattle.yw_said.proofs.OnceFacts.{NetIsApart, accepted_apart}
-use Rattle.yw_said.proofs.SomeFacts.{NetCanBeBuilt, TaskCanBeBuilt, can_be_built}
 use Rattle.yw_spec.specs.Net.{place_text}
 use Rattle.yw_spec.specs.declared.spec.Net.{Net}
 use Rattle.yw_spec.specs.declared.spec.Place.{Place}
@@ -125,7 +126,7 @@ module _ (raw : RawSpec) (verdict : IsVerdict raw None) (spec : Spec) (is_spec :
     task_within : (i : ℕ) (t : Task) → slice_get net.tasks i ≡ Some t → TaskIsWithin spec net t
     task_within i t t_at =
         let (said, said_at, is) = zip_at (IsTask raw rn) rn.task net.tasks built.tasks i t t_at in
-        let can = all_at (TaskCanBeBuilt raw rn) rn.task (all_at (NetCanBeBuilt raw) raw.net (can_be_built raw verdict).nets k rn rat).tasks i said said_at in
+        let can = all_at (TaskIsReady raw rn) rn.task (all_at (NetIsReady raw) raw.net (is_ready raw verdict).nets k rn rat).tasks i said said_at in
         let called : is_task rn said.name ≡ true = is_called rn rn.task i said said_at in
         record {
           name = ap is_name is.name ∙ usable_is_name said.name (usable_among (nodes rn) said.name named.nodes_are.usable (among_right (named_places rn) (task_names rn.task) said.name called));

@@ -9,7 +9,8 @@ use Rattle.yw_asked.proofs.Unbroken.{none_broken, some_of}
 use Rattle.yw_asked.specs.Asked.{HasEvent}
 use Rattle.yw_expr.specs.Tree.{Tree}
 use Rattle.yw_model.proofs.Lacking.{decided, follows, here}
-use Rattle.yw_lines.specs.Replies.{done, refused}
+use Rattle.yw_lines.specs.Meaning.{IsProper}
+use Rattle.yw_lines.specs.Replies.{done_line, refused_line}
 use Rattle.yw_model.specs.Run.{CannotLack, Entry}
 use Rattle.yw_model.specs.Texts.{reader}
 use Rattle.yw_spec.specs.declared.spec.Spec.{Spec}
@@ -26,7 +27,7 @@ use Rattle.yw_state.specs.declared.tree.TreePlace.{TreePlace}
 use Rattle.yw_turns.proofs.Entries.{has_entry}
 use Rattle.yw_turns.specs.Turns.{HasEntry}
 use Rattle.yw_within.specs.Within.{HoldsWithin}
-use Rattle.yw_answered.specs.Answered.{CommandHasAnswer, IsGivenRightly, FindsRule, ReadsAll}
+use Rattle.yw_answered.specs.Answered.{CommandHasAnswer, FindsRule, ReadsAll}
 
 -- ---- the first check that is broken
 
@@ -88,8 +89,8 @@ module _ (reader : Reader) (reads : ReadsAll reader) (s : State) (well : IsWell 
         by_said spec called right (Ok tree) says = here (rule_has_event reader s p at side when conclusion spec tree called says unbroken)
         by_said spec called right (Err where_at) says = absurd (right where_at (spec, called, says))
 
-  has_event : (c : Command) → IsGivenRightly c → Breaks reader s c None → CannotLack (HasEvent reader s c)
-  has_event (commands.Person name roles) right unbroken = here (person_has_event reader s name roles right.0)
+  has_event : (c : Command) → IsProper c → Breaks reader s c None → CannotLack (HasEvent reader s c)
+  has_event (commands.Person name roles) right unbroken = here (person_has_event reader s name roles right.2)
   has_event (commands.Load text) right unbroken = load_event text unbroken
   has_event (commands.Rule spec net task kind at side when conclusion) right unbroken =
       rule_event (record { spec = spec; net = net; task = task; kind = kind }) at side when conclusion unbroken
@@ -98,23 +99,23 @@ module _ (reader : Reader) (reads : ReadsAll reader) (s : State) (well : IsWell 
   has_event (commands.Start who j) right unbroken = here (start_has_event reader s well who j unbroken)
   has_event (commands.Complete who j gs) right unbroken = here (complete_has_event reader s well who j gs unbroken)
   has_event (commands.Add who i t value) right unbroken = here (add_has_event reader s well holds who i t value unbroken)
-  has_event (commands.Raise j kind) right unbroken = here (raise_has_event reader s j kind right.1 unbroken)
+  has_event (commands.Raise j kind) right unbroken = here (raise_has_event reader s j kind right unbroken)
   has_event (commands.Suspend j) right unbroken = here (suspend_has_event reader s j unbroken)
   has_event (commands.Continue j) right unbroken = here (continue_has_event reader s j unbroken)
   has_event (commands.Cancel j) right unbroken = here (cancel_has_event reader s j unbroken)
   has_event (commands.Advance j) right unbroken = here (advance_has_event reader s j unbroken)
 
-  pub unbroken_has_entry : (c : Command) → IsGivenRightly c → Breaks reader s c None → CannotLack (HasEntry reader s c)
+  pub unbroken_has_entry : (c : Command) → IsProper c → Breaks reader s c None → CannotLack (HasEntry reader s c)
   unbroken_has_entry c right unbroken = follows (has_event c right unbroken) (λ h. has_entry reader s h.1 c h.0 unbroken h.2 h.3)
 
 -- ---- an answer
 
 module _ (reads : ReadsAll reader) (s : State) (n : ℕ) (well : IsWell reader s) (holds : HoldsWithin s) where
-  pub has_answer : (c : Command) → IsGivenRightly c → CommandHasAnswer s n c
+  pub has_answer : (c : Command) → IsProper c → CommandHasAnswer s n c
   has_answer c right = follows (is_judged reader s c) (λ f. by_found f.0 f.1)
     where
       by_found : (found : Option Refusal) → Breaks reader s c found → CommandHasAnswer s n c
-      by_found (Some refusal) breaks = here (record { taken = []; reply = refused n refusal }, s, (Some refusal, breaks, record { nothing = refl; told = refl; same = refl }))
+      by_found (Some refusal) breaks = here (record { taken = []; reply = refused_line n refusal }, s, (Some refusal, breaks, record { nothing = refl; told = refl; same = refl }))
       by_found None breaks = follows (unbroken_has_entry reader reads s well holds c right breaks) (λ e.
           let entry : Entry = record { events = e.0; quiet = e.1 } in
-          here (record { taken = entry ∷ []; reply = done n e.0 e.1 }, e.2, (None, breaks, record { entry = entry; legal = e.3; one = refl; told = refl })))
+          here (record { taken = entry ∷ []; reply = done_line n e.0 e.1 }, e.2, (None, breaks, record { entry = entry; legal = e.3; one = refl; told = refl })))

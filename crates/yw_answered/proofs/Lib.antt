@@ -3,6 +3,5 @@ pub mod Parsing
 pub mod Reading
 pub mod Reached
 pub mod Deciding
-pub mod LinesGiven
 pub mod LinesAnswered
 pub mod Runs

@@ -1,9 +1,10 @@
 -- In a state that is well no line lacks an answer.
-use Rattle.std.specs.Prelude.{ℕ, List, [], Result, Ok, Err, refl}
+use Rattle.std.specs.Prelude.{◌≡◌, ℕ, List, [], Result, Ok, Err, refl}
 use Rattle.yw_accepted.proofs.Loaded.{accepted_are_within}
 use Rattle.yw_model.proofs.Lacking.{here}
-use Rattle.yw_lines.specs.Meaning.{meaning}
-use Rattle.yw_lines.specs.Replies.{refused}
+use Rattle.yw_lines.proofs.Asking.{asks_properly}
+use Rattle.yw_lines.specs.Meaning.{IsProper, meaning}
+use Rattle.yw_lines.specs.Replies.{refused_line}
 use Rattle.yw_model.specs.Run.{CannotLack, MeaningAnswers, Step}
 use Rattle.yw_model.specs.Texts.{reader}
 use Rattle.yw_lines.specs.declared.word.Word.{Word}
@@ -17,20 +18,19 @@ use Rattle.yw_state.specs.declared.rule.Rule.{Rule}
 use Rattle.yw_state.specs.declared.rule.Rule.TheVariants.{NotBuilt}
 use Rattle.yw_within.proofs.Finding.{well_holds_within}
 use Rattle.yw_answered.proofs.Deciding.{has_answer}
-use Rattle.yw_answered.proofs.LinesGiven.{IsRight, line_right}
 use Rattle.yw_answered.proofs.Reading.{reads_all}
-use Rattle.yw_answered.specs.Answered.{CommandHasAnswer, IsGivenRightly, LineHasAnswer}
+use Rattle.yw_answered.specs.Answered.{CommandHasAnswer, LineHasAnswer}
 
-pub command_has_answer : (s : State) (n : ℕ) (c : Command) → IsWell reader s → IsGivenRightly c → CommandHasAnswer s n c
+pub command_has_answer : (s : State) (n : ℕ) (c : Command) → IsWell reader s → IsProper c → CommandHasAnswer s n c
 command_has_answer s n c well right = has_answer reads_all s n well (well_holds_within reader s accepted_are_within well) c right
 
 refuses : (s : State) (n : ℕ) (r : Rule) → CannotLack ((step : Step) × (t : State) × MeaningAnswers (Err r) s n step t)
-refuses s n r = here (record { taken = []; reply = refused n (placeless r) }, s, record { nothing = refl; told = refl; same = refl })
-
-by_meaning : (m : Result Asked Rule) → IsRight m → (s : State) (n : ℕ) → IsWell reader s → CannotLack ((step : Step) × (t : State) × MeaningAnswers m s n step t)
-by_meaning (Err r) right s n well = refuses s n r
-by_meaning (Ok (asked.Command c)) right s n well = command_has_answer s n c well right
-by_meaning (Ok (asked.Query q)) right s n well = refuses s n NotBuilt
+refuses s n r = here (record { taken = []; reply = refused_line n (placeless r) }, s, record { nothing = refl; told = refl; same = refl })
 
 pub line_has_answer : (built : List Word) (s : State) (n : ℕ) (line : List ℕ) → IsWell reader s → LineHasAnswer built s n line
-line_has_answer built s n line well = by_meaning (meaning built line) (line_right built line) s n well
+line_has_answer built s n line well = by_meaning (meaning built line) refl
+  where
+    by_meaning : (m : Result Asked Rule) → meaning built line ≡ m → CannotLack ((step : Step) × (t : State) × MeaningAnswers m s n step t)
+    by_meaning (Err r) is = refuses s n r
+    by_meaning (Ok (asked.Command c)) is = command_has_answer s n c well (asks_properly built line (asked.Command c) is).0
+    by_meaning (Ok (asked.Query q)) is = refuses s n NotBuilt

@@ -1,32 +1,21 @@
 -- What can't be lacking of readers of texts, commands and lines. Our own.
-use Rattle.std.specs.Prelude.{◌≡◌, ℕ, List, Option, Result, true}
+use Rattle.std.specs.Prelude.{ℕ, List, Option, Result}
 use Rattle.yw_expr.specs.Tree.{Tree}
 use Rattle.yw_expr.specs.declared.scope.Binding.{Binding}
-use Rattle.yw_lines.specs.Meaning.{IsProper, meaning}
+use Rattle.yw_lines.specs.Meaning.{meaning}
 use Rattle.yw_model.specs.Run.{CannotLack, CommandAnswers, MeaningAnswers, Step}
 use Rattle.yw_lines.specs.declared.word.Word.{Word}
 use Rattle.yw_spec.specs.declared.spec.Spec.{Spec}
-use Rattle.yw_state.specs.Allowed.{is_raised}
 use Rattle.yw_state.specs.Broken.{Breaks}
 use Rattle.yw_state.specs.State.{State}
 use Rattle.yw_state.specs.Texts.{Reader}
 use Rattle.yw_state.specs.declared.command.Command.{Command}
-use Rattle.yw_state.specs.declared.command.Command.TheVariants as commands
 use Rattle.yw_state.specs.declared.rule.Refusal.{Refusal}
 
 -- A reader by which no text lacks a reading: as a specification, or its first fault; and as a condition over some names, or its fault.
 pub record ReadsAll (reader : Reader) : Type 0 where
   pub spec : (text : List ℕ) → CannotLack ((said : Result Spec Refusal) × reader.spec text said)
   pub condition : (text : List ℕ) (scope : List Binding) → CannotLack ((said : Result Tree (List ℕ)) × reader.condition text scope said)
-
--- what is raised can be, as a line gives it
-abbrev pub RaisesRightly : Command → Type 0
-RaisesRightly (commands.Raise at kind) = is_raised kind ≡ true
-RaisesRightly command = Unit {0}
-
--- a command as a line gives it
-abbrev pub IsGivenRightly : Command → Type 0
-IsGivenRightly c = IsProper c × RaisesRightly c
 
 -- the first rule that the command breaks is found, or that it breaks none
 abbrev pub FindsRule : Reader → State → Command → Type 0

@@ -4,9 +4,10 @@
 #![tactic(auto)]
 
 ghost use Rattle.std.specs.Prelude.{ℕ, List, None};
-ghost use Rattle.yw_answered.specs.Answered.{CommandHasAnswer, IsGivenRightly, FindsRule, LineHasAnswer, ReadsAll};
+ghost use Rattle.yw_answered.specs.Answered.{CommandHasAnswer, FindsRule, LineHasAnswer, ReadsAll};
 ghost use Rattle.yw_model.specs.Run.{Answers, CannotLack, EntriesLead, HasRun, Run, Step, taken_by};
 ghost use Rattle.yw_model.specs.Texts.{reader};
+ghost use Rattle.yw_lines.specs.Meaning.{IsProper};
 ghost use Rattle.yw_lines.specs.declared.word.Word.{Word};
 ghost use Rattle.yw_state.specs.Broken.{Breaks};
 ghost use Rattle.yw_state.specs.Events.{LeadAll};
@@ -32,12 +33,12 @@ pub fn commands_are_judged<R: Reads>()
 /// A command that breaks no rule can't be lacking an entry, whichever it is: in a state that is well, where what is loaded is within, no text
 /// lacks a reading, and the command is as a line gives it.
 pub fn unbroken_has_entry<R: Reads>()
-    ensures { ReadsAll R.reader → (s : State) (c : Command) → IsWell R.reader s → HoldsWithin s → IsGivenRightly c → Breaks R.reader s c None → CannotLack (HasEntry R.reader s c) }
+    ensures { ReadsAll R.reader → (s : State) (c : Command) → IsWell R.reader s → HoldsWithin s → IsProper c → Breaks R.reader s c None → CannotLack (HasEntry R.reader s c) }
 {}
 
 /// In a state that is well, a command that is as a line gives it has an answer.
 pub fn command_has_answer()
-    ensures { (s : State) (n : ℕ) (c : Command) → IsWell reader s → IsGivenRightly c → CommandHasAnswer s n c }
+    ensures { (s : State) (n : ℕ) (c : Command) → IsWell reader s → IsProper c → CommandHasAnswer s n c }
 {}
 
 /// In a state that is well, each line has an answer, whichever words are built.

@@ -5,7 +5,6 @@ use Rattle.std.proofs.lemmas.Bool.{and_from, eq-eqb, le-leb, ltb-false}
 use Rattle.yw_base.specs.Identity.{number_end}
 use Rattle.yw_state.proofs.Tests.{by_test, never, nowhere}
 use Rattle.yw_state.specs.Allowed.{Allowed, is_next}
-use Rattle.yw_state.specs.Automatic.{IsQuiet}
 use Rattle.yw_state.specs.Broken.{Check, First, fact, fact_at, fault, test, test_at}
 use Rattle.yw_state.specs.Events.{after}
 use Rattle.yw_state.specs.Identity.{Ident, case_number}
@@ -19,6 +18,7 @@ use Rattle.yw_state.specs.declared.command.Command.{Command}
 use Rattle.yw_state.specs.declared.event.Event.{Event}
 use Rattle.yw_state.specs.declared.rule.Refusal.{Refusal}
 use Rattle.yw_still.proofs.Urgent.{urgent_moves}
+use Rattle.yw_still.specs.Still.{SomethingComes}
 use Rattle.yw_asked.specs.Asked.{HasEvent}
 
 -- ---- what may be there
@@ -75,16 +75,16 @@ event_without_text reader s c e none asked allowed =
 
 -- ---- a case that nothing moves
 
--- something isn't still to come
+-- nothing is still to come
 abbrev pub NotMoving : State → Ident → Type 0
-NotMoving s j = (IsQuiet s (case_number j) → ⊥) → ⊥
+NotMoving s j = SomethingComes s (case_number j) → ⊥
 
 pub is_clear : (reader : Reader) (s : State) (j : Ident) → IsWell reader s → NotMoving s j → held s j ≡ false → clear s j ≡ true
 is_clear reader s j well still loose = and_from _ _ (ap not loose) (ap not calm)
   where
     calm : urgent s (case_number j) ≡ false
     calm = by_test (urgent s (case_number j))
-        (λ hurry. absurd (still (λ quiet. let (e, comes) = urgent_moves reader s well (case_number j) hurry in quiet e comes)))
+        (λ hurry. absurd (still (urgent_moves reader s well (case_number j) hurry)))
         (λ e. e)
 
 -- ---- a number that is left

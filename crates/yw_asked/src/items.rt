@@ -11,7 +11,7 @@ ghost use Rattle.yw_within.specs.Within.{HoldsWithin};
 
 use yw_state::laws::reads::Reads;
 
-/// A person who breaks no rule may enter the task: from some places and with some items. The state is well, and what is loaded is within.
+/// A person who breaks no rule may enter the task, from some places. The state is well, and what is loaded is within.
 pub fn enter_has_event<R: Reads>()
     ensures { (s : State) (who : List ℕ) (i : Ident) (t : List ℕ) → IsWell R.reader s → HoldsWithin s → HasEventUnbroken R.reader s (commands.Enter who i t) }
 {}

@@ -1,5 +1,5 @@
 -- Values and their sorts, and how large a value may be.
-use Rattle.std.specs.Prelude.{ℕ, pos, ◌&&◌, Bool, true, false, List, [], length, nat_le}
+use Rattle.std.specs.Prelude.{ℕ, pos, ◌&&◌, ◌||◌, Bool, true, false, List, [], length, nat_le, if◌then◌else◌}
 use Rattle.std.specs.List.{list_all}
 use Rattle.yw_base.specs.declared.value.Sort.{Sort}
 use Rattle.yw_base.specs.declared.value.Sort.TheVariants as sorts
@@ -31,10 +31,18 @@ has_sort (values.Ints ns) sorts.Ints = true
 has_sort (values.Texts ts) sorts.Texts = true
 has_sort value sort = false
 
--- of a value that comes from outside: there the empty list is one of numbers, and stands for one of texts too
+-- the empty list comes from outside as one of numbers, and is one of texts where texts are wanted
+abbrev pub is_no_texts : Sort → Value → Bool
+is_no_texts sorts.Texts (values.Ints []) = true
+is_no_texts sort value = false
+
+-- what a value from outside means where one of this sort is wanted
+abbrev pub meant : Sort → Value → Value
+meant sort value = if is_no_texts sort value then values.Texts [] else value
+
+-- a value from outside means one of the sort
 abbrev pub fits : Value → Sort → Bool
-fits (values.Ints []) sorts.Texts = true
-fits value sort = has_sort value sort
+fits value sort = has_sort value sort || is_no_texts sort value
 
 abbrev pub most_text_bytes : ℕ
 most_text_bytes = 4096

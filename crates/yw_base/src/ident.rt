@@ -40,7 +40,7 @@ impl Model for Ident {
 const MOST_NUMBERS: usize = 40;
 
 /// The first number that is too large for an identity, 2^48.
-const NUMBER_END: u64 = 0x1_0000_0000_0000;
+pub const NUMBER_END: u64 = 0x1_0000_0000_0000;
 
 /// Up to 40 numbers, which take no memory. A contract sees them as a list.
 #[derive(Drop)]

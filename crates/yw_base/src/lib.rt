@@ -10,9 +10,9 @@ mod usage;
 mod value;
 
 pub use gate::Gate;
-pub use ident::{Ident, IdentFault};
+pub use ident::{Ident, IdentFault, NUMBER_END};
 pub use list::{Bytes, Items, NameList};
-pub use name::{Name, NameFault};
+pub use name::{MOST_NAME_BYTES, Name, NameFault};
 pub use text::Text;
 pub use usage::Usage;
-pub use value::{IntList, Row, Sort, TextList, Val, Value};
+pub use value::{IntList, MOST_ELEMENTS, MOST_TEXT_BYTES, Row, Sort, TextList, Val, Value};

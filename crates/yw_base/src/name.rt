@@ -32,7 +32,8 @@ impl Model for Name {
     ghost invariant = { λ n. is_name (string_bytes n.text) ≡ true };
 }
 
-const MOST_NAME_BYTES: usize = 64;
+/// The most bytes of a name.
+pub const MOST_NAME_BYTES: usize = 64;
 
 fn is_digit_byte(byte: u8) -> bool
     ensures { result ≡ is_digit byte }

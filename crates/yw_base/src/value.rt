@@ -1,6 +1,7 @@
 // Values, their sorts and rows of them.
 ghost use Rattle.std.specs.Prelude.{◌≡◌, IfOk};
-ghost use Rattle.yw_base.specs.Values.{fits, has_sort, sort_of, value_of};
+ghost use Rattle.std.specs.List.{list_all};
+ghost use Rattle.yw_base.specs.Values.{fits, has_sort, is_no_texts, is_short, is_small, meant, sort_of, value_of};
 
 use crate::{Items, Text};
 use std::alloc::{AllocError, Global};
@@ -49,6 +50,24 @@ pub enum Val<'a> {
 /// Values by number.
 pub type Row = Items<Value>;
 
+/// The most bytes of a text among values: our own limit.
+pub const MOST_TEXT_BYTES: usize = 4096;
+
+/// The most elements of a list among values: our own limit.
+pub const MOST_ELEMENTS: usize = 1000;
+
+fn is_short(text: &Text) -> bool
+    ensures { result ≡ is_short text.now }
+{
+    text.as_str().len() <= MOST_TEXT_BYTES
+}
+
+fn are_short(texts: &[Text]) -> bool
+    ensures { result ≡ list_all is_short texts.now }
+{
+    texts.iter().all(|text| is_short(text))
+}
+
 fn copy_texts(alloc: Global, texts: &[Text]) -> Result<TextList, AllocError>
     ensures { IfOk result (λ copy. copy ≡ texts.now) }
 {
@@ -80,14 +99,44 @@ impl Value {
         self.sort() == sort
     }
 
-    /// It stands for a value of this sort where it comes from outside: there an empty list is an empty list of
-    /// numbers, and stands for one of texts too.
+    /// It is the empty list where texts are wanted. From outside it comes as one of numbers.
+    fn is_no_texts(&self, sort: Sort) -> bool
+        ensures { result ≡ is_no_texts sort self.now }
+    {
+        match (sort, self) {
+            (Sort::Texts, Value::Ints(ints)) => ints.is_empty(),
+            _ => false,
+        }
+    }
+
+    /// It means a value of this sort where it comes from outside: there an empty list is an empty list of numbers, and
+    /// means one of texts too.
     pub fn fits(&self, sort: Sort) -> bool
         ensures { result ≡ fits self.now sort }
     {
-        match (self, sort) {
-            (Value::Ints(ints), Sort::Texts) => ints.is_empty(),
-            _ => self.has_sort(sort),
+        self.has_sort(sort) || self.is_no_texts(sort)
+    }
+
+    /// What it means where it comes from outside and a value of this sort is wanted: the empty list is one of texts where
+    /// texts are wanted, and any other value is what it is. It is moved, and takes no memory.
+    pub fn meant(self, alloc: Global, sort: Sort) -> Value
+        ensures { result ≡ meant sort self }
+    {
+        if self.is_no_texts(sort) {
+            return Value::Texts(Items::new(alloc));
+        }
+        self
+    }
+
+    /// It is within the limits of values: a text of at most 4,096 bytes, a list of at most 1,000 elements.
+    pub fn is_small(&self) -> bool
+        ensures { result ≡ is_small self.now }
+    {
+        match self {
+            Value::Bool(_) | Value::Int(_) => true,
+            Value::Text(text) => is_short(text),
+            Value::Ints(ints) => ints.len() <= MOST_ELEMENTS,
+            Value::Texts(texts) => texts.len() <= MOST_ELEMENTS && are_short(texts.as_slice()),
         }
     }
 

@@ -2,16 +2,17 @@
 use Rattle.std.proofs.Common.{List, None, Option, Some, [], false, inl, inr, refl, subst, sym, true, ◌++◌, ◌∷◌, ◌≡◌}
 use Rattle.std.specs.Option.{option_or}
 use Rattle.std.specs.Prelude.{option_map}
-use Rattle.yw_breaks.specs.Tables.{IsMoving, Joins}
+use Rattle.yw_breaks.specs.Tables.{Joins}
 use Rattle.yw_state.proofs.Tests.{nowhere}
 use Rattle.yw_state.specs.Broken.{Check, First, checks, fact, fact_at, fault, placeless, test, test_at}
-use Rattle.yw_state.specs.Identity.{Ident}
+use Rattle.yw_state.specs.Identity.{Ident, case_number}
 use Rattle.yw_state.specs.State.{State}
 use Rattle.yw_state.specs.Texts.{Reader}
 use Rattle.yw_state.specs.declared.command.Command.{Command}
 use Rattle.yw_state.specs.declared.rule.Refusal.{Refusal}
 use Rattle.yw_state.specs.declared.rule.Rule.{Rule}
 use Rattle.yw_state.specs.declared.rule.Rule.TheVariants.{NotQuiet}
+use Rattle.yw_still.specs.Still.{SomethingComes}
 use Rattle.yw_task.specs.Completes.{or_else}
 
 -- what is broken in front is the first
@@ -69,10 +70,13 @@ then_or front rest (Some r) p f g = in_front front rest (placeless r) f
 then_or front rest None p f g = behind front rest (option_map placeless p) f g
 
 -- a table with the check that the case is quiet between its parts
-pub joined : (reader : Reader) (s : State) (c : Command) (j : Ident) (front rest : List Check)
-    → checks reader s c ≡ front ++ (fact (IsMoving s j) NotQuiet ∷ rest) → Joins reader s c j front rest
-joined reader s c j front rest whole = record {
-  in_front = λ refusal f. subst (λ cs. First cs (Some refusal)) (sym whole) (in_front front (fact (IsMoving s j) NotQuiet ∷ rest) refusal f);
-  moving = λ f moves. subst (λ cs. First cs (Some (placeless NotQuiet))) (sym whole) (behind front (fact (IsMoving s j) NotQuiet ∷ rest) (Some (placeless NotQuiet)) f (inl (moves, refl)));
-  behind = λ found f quiet g. subst (λ cs. First cs found) (sym whole) (behind front (fact (IsMoving s j) NotQuiet ∷ rest) found f (inr (λ moves. moves quiet, g)));
-}
+module _ (reader : Reader) (s : State) (c : Command) (j : Ident) (front rest : List Check) where
+  abbrev quiet_and_rest : List Check
+  quiet_and_rest = fact (SomethingComes s (case_number j)) NotQuiet ∷ rest
+
+  pub joined : checks reader s c ≡ front ++ quiet_and_rest → Joins reader s c j front rest
+  joined whole = record {
+    in_front = λ refusal f. subst (λ cs. First cs (Some refusal)) (sym whole) (in_front front quiet_and_rest refusal f);
+    moving = λ f moves. subst (λ cs. First cs (Some (placeless NotQuiet))) (sym whole) (behind front quiet_and_rest (Some (placeless NotQuiet)) f (inl (moves, refl)));
+    behind = λ found f quiet g. subst (λ cs. First cs found) (sym whole) (behind front quiet_and_rest found f (inr (λ moves. quiet moves.0 moves.1, g)));
+  }

@@ -16,6 +16,7 @@ use Rattle.yw_state.specs.declared.command.Command.{Command}
 use Rattle.yw_state.specs.declared.command.Given.{Given}
 use Rattle.yw_state.specs.declared.rule.Refusal.{Refusal}
 use Rattle.yw_state.specs.declared.rule.Rule.TheVariants as rules
+use Rattle.yw_still.specs.Still.{SomethingComes}
 
 -- ---- in front
 
@@ -79,12 +80,9 @@ add_rest s who i t value =
 
 -- ---- the whole
 
--- something is still to come of itself in the case
-abbrev pub IsMoving : State → Ident → Type 0
-IsMoving s j = IsQuiet s (case_number j) → ⊥
-
--- What the parts find is what the command breaks first: what is broken before, else that the case isn't quiet, else what is broken behind.
+-- What the parts find is what the command breaks first: what is broken before, else that something comes of itself in the case, else what is
+-- broken behind.
 pub record Joins (reader : Reader) (s : State) (c : Command) (j : Ident) (front rest : List Check) : Type 0 where
   pub in_front : (refusal : Refusal) → First front (Some refusal) → Breaks reader s c (Some refusal)
-  pub moving : First front None → IsMoving s j → Breaks reader s c (Some (placeless rules.NotQuiet))
+  pub moving : First front None → SomethingComes s (case_number j) → Breaks reader s c (Some (placeless rules.NotQuiet))
   pub behind : (found : Option Refusal) → First front None → IsQuiet s (case_number j) → First rest found → Breaks reader s c found

@@ -1,4 +1,3 @@
-pub mod ReadyLemmas
 pub mod PlaceLemmas
 pub mod RowLemmas
 pub mod LayerLemmas
@@ -6,4 +5,3 @@ pub mod ExpressionLemmas
 pub mod ZipLemmas
 pub mod InLemmas
 pub mod TaskLemmas
-pub mod VerdictLemmas

@@ -9,10 +9,10 @@ use Rattle.yw_spec.specs.declared.spec.Place.{Place}
 use Rattle.yw_read.specs.declared.raw.RawFlow.{RawFlow}
 use Rattle.yw_read.specs.declared.raw.RawNet.{RawNet}
 use Rattle.yw_accept.specs.Built.{place_of, places_of, IsPlaceOf, IsPlaceCalled}
-use Rattle.yw_accept.specs.Facts.{NetIsNamed, NetLeads}
+use Rattle.yw_accept.specs.Facts.{HasUsableEnds, NetIsNamed, NetLeads}
 use Rattle.yw_accept.specs.Names.{may_lead}
-use Rattle.yw_accept.specs.Nodes.{is_among, is_task}
-use Rattle.yw_accept.proofs.Places.{IsNamedPlace, HasUsableEnds, known_by_text, place_from, place_to, place_both, place_there, text_there, ends_named, ends_usable, all_named}
+use Rattle.yw_accept.specs.Nodes.{is_name_among, is_task}
+use Rattle.yw_accept.proofs.Places.{IsNamedPlace, known_by_text, place_from, place_to, place_both, place_there, text_there, ends_named, ends_usable, all_named}
 
 module _ (net : RawNet) (named : NetIsNamed net) (leads : NetLeads net) (flow : RawFlow) (there : Contains net.flows flow) where
   pub text_from : is_task net flow.from ≡ false → place_text (place_of net flow) ≡ flow.from
@@ -24,7 +24,7 @@ module _ (net : RawNet) (named : NetIsNamed net) (leads : NetLeads net) (flow : 
   pub text_both : is_task net flow.from ≡ true → is_task net flow.to ≡ true → place_text (place_of net flow) ≡ flow.from ++ codes "->" ++ flow.to
   text_both h g = ap place_text (place_both net flow h g)
 
-  pub flow_there : (text : List ℕ) → place_text (place_of net flow) ≡ text → is_among (map place_text (places_of net)) text ≡ true
+  pub flow_there : (text : List ℕ) → place_text (place_of net flow) ≡ text → is_name_among (map place_text (places_of net)) text ≡ true
   flow_there text e = text_there net (place_of net flow) text (place_there net flow (All-contains (λ f. may_lead net f ≡ true) net.flows flow leads.leads there) there) e
 
   by_text : (text : List ℕ) (k : ℕ) (o : Option Place) → place_text (place_of net flow) ≡ text → slice_get (places_of net) k ≡ o → option_map place_text o ≡ Some text → o ≡ Some (place_of net flow)

@@ -15,7 +15,7 @@ use Rattle.yw_read.specs.declared.raw.RawTask.{RawTask}
 use Rattle.yw_read.specs.declared.raw.RawNet.{RawNet}
 use Rattle.yw_accept.specs.Built.{IsPlaceOf}
 use Rattle.yw_accept.specs.Facts.{AreDistinct, NetIsNamed}
-use Rattle.yw_accept.specs.Nodes.{is_among, task_names, named_places, nodes}
+use Rattle.yw_accept.specs.Nodes.{is_name_among, task_names, named_places, nodes}
 use Rattle.yw_build.specs.Rows.{AddsPlace, AreRows}
 use Rattle.yw_accept.proofs.Among.{among_get}
 use Rattle.yw_build.proofs.ZipLemmas.{all_zip_push, zip_along, more_of}
@@ -38,7 +38,7 @@ task_named net node t h = let lt = slice_get_within (task_names net.task) t node
 pub row_within : (net : RawNet) (node : List ℕ) (task n : ℕ) → slice_get (task_names net.task) task ≡ Some node → n ≡ length net.task → task < n
 row_within net node task n is len = omega (arith, (task_named net node task is).0, len)
 
-pub adds_none : (net : RawNet) (node : List ℕ) (flow : RawFlow) (rows : List (List ℕ)) → (is_among (task_names net.task) node ≡ true → ⊥) → AddsPlace net node flow rows rows
+pub adds_none : (net : RawNet) (node : List ℕ) (flow : RawFlow) (rows : List (List ℕ)) → (is_name_among (task_names net.task) node ≡ true → ⊥) → AddsPlace net node flow rows rows
 adds_none net node flow rows never = record {
   len = refl;
   row = λ t lt e. absurd (never (among_get (task_names net.task) node t (slice_get-get_or (task_names net.task) t [] (omega (arith, lt, length-map net.task (λ (x : RawTask). x.name))) ∙ ap Some e)));

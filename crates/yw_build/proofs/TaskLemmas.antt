@@ -14,8 +14,8 @@ use Rattle.yw_accept.specs.Nodes.{leads_to}
 use Rattle.yw_accept.specs.Scopes.{Spells, names_var, vars_scope}
 use Rattle.yw_accept.proofs.TaskFacts.{flow_to, to_outputs}
 use Rattle.yw_build.specs.Expressions.{HasMeaning, BranchIsReady, InIsReady, SetIsReady}
-use Rattle.yw_build.specs.Ready.{TaskIsReady}
-use Rattle.yw_build.proofs.ReadyLemmas.{usable_each}
+use Rattle.yw_accept.specs.Ready.{TaskIsReady}
+use Rattle.yw_accept.proofs.ReadyLemmas.{usable_each}
 
 meaning : (scope : List Binding) (Wanted : Sort → Type 0) (text : List ℕ) → Spells scope Wanted text → HasMeaning scope text
 meaning scope Wanted text (e, sort, means, is, wanted) = (e, means)
@@ -43,7 +43,7 @@ module _ (raw : RawSpec) (net : RawNet) (task : RawTask) (ready : TaskIsReady ra
 
   pub sets_ready : All (SetIsReady net task) task.set
   sets_ready i d lt = record {
-    var = AllPass-from_list_all (names_var net) task.set (and_parts _ _ ready.parameters).1 i d lt;
+    var = AllPass-from_list_all (names_var net) task.set (and_parts _ _ ready.parameters.fit).1 i d lt;
     value = meaning _ _ _ (ready.expressions.assigned i d lt);
   }
 

@@ -1,4 +1,3 @@
-pub mod Ready
 pub mod Numbers
 pub mod Rows
 pub mod Expressions

@@ -8,9 +8,7 @@ ghost use Rattle.yw_accept.specs.Verdict.{IsVerdict};
 
 mod branches;
 mod expressions;
-mod index;
 mod kinds;
-mod layers;
 mod many;
 mod nets;
 mod numbers;

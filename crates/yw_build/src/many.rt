@@ -2,7 +2,7 @@
 ghost use Rattle.std.specs.Prelude.{◌≡◌, ℕ, List, pos, int_le, map, true, Some, All, IfOk, option_to_list, slice_get};
 ghost use Rattle.std.specs.Option.{option_map};
 ghost use Rattle.yw_accept.specs.Built.{AreItems, IsInCalled, MayBeItems};
-ghost use Rattle.yw_accept.specs.Nodes.{is_among};
+ghost use Rattle.yw_accept.specs.Nodes.{is_name_among};
 ghost use Rattle.yw_accept.specs.Scopes.{vars_scope};
 ghost use Rattle.yw_accept.specs.Tasks.{bounds_fit, enough, greatest, item_fits, items_fit, least};
 ghost use Rattle.yw_build.specs.Expressions.{HasMeaning};
@@ -51,7 +51,7 @@ fn enough_of(task: &RawTask) -> u32
 
 /// The number of the parameter with this name.
 fn number_in(ins: &[RawIn], name: &str) -> usize
-    requires { is_among (map (λ p. p.name) ins.now) name.now ≡ true }
+    requires { is_name_among (map (λ p. p.name) ins.now) name.now ≡ true }
     ensures { option_map (λ p. p.name) (slice_get ins.now result) ≡ Some name.now }
 {
     for (number, parameter) in ins.iter().enumerate() {

@@ -7,18 +7,16 @@ ghost use Rattle.yw_accept.specs.Facts.{NetIsNamed};
 ghost use Rattle.yw_accept.specs.Nodes.{net_names, task_names};
 ghost use Rattle.yw_accept.specs.Index.{IsIndexOf};
 ghost use Rattle.yw_build.specs.Numbers.{AreNumbers};
-ghost use Rattle.yw_build.specs.Ready.{IsReady, NetIsReady};
+ghost use Rattle.yw_accept.specs.Ready.{IsReady, NetIsReady};
 
-use crate::index::{index_of_nets, index_of_places, index_of_tasks};
 use crate::kinds::{SpecNumbers, net_called};
-use crate::layers::layer_of_vars;
 use crate::numbers::NetNumbers;
-use crate::places::places_of;
+use crate::places::{index_of_places, places_of};
 use crate::tasks::tasks_of;
 use crate::values::vars_of;
 use crate::words::name_of;
 use std::alloc::{AllocError, Global};
-use yw_accept::Index;
+use yw_accept::{Index, index_of, vars_layer};
 use yw_base::Items;
 use yw_read::{RawNet, RawSpec};
 use yw_spec::{Net, NetList, PlaceList, Spec};
@@ -37,7 +35,7 @@ fn numbers_of<'a>(
     ensures said { IfOk result (λ numbers. numbers.said.now ≡ said.now) }
 {
     let places = index_of_places(alloc, places.as_slice())?;
-    let vars = layer_of_vars(alloc, said)?;
+    let vars = vars_layer(alloc, said)?;
     Ok(NetNumbers {
         said,
         places,
@@ -51,7 +49,7 @@ fn net_of(alloc: Global, spec: &SpecNumbers<'_>, said: &RawNet) -> Result<Net, A
     requires ready { NetIsReady spec.now.said.now said.now }
     ensures { IfOk result (IsNet spec.now.said.now said.now) }
 {
-    let tasks = index_of_tasks(alloc, said.task.as_slice())?;
+    let tasks = index_of(alloc, said.task.as_slice())?;
     let places = places_of(alloc, said, &tasks)?;
     let numbers = numbers_of(alloc, said, tasks, &places)?;
     Ok(Net {
@@ -81,7 +79,7 @@ pub fn spec_of_ready(alloc: Global, raw: &RawSpec) -> Result<Spec, AllocError>
     requires { IsReady raw.now }
     ensures { IfOk result (IsSpec raw.now) }
 {
-    let nets = index_of_nets(alloc, raw.net.as_slice())?;
+    let nets = index_of(alloc, raw.net.as_slice())?;
     let spec = SpecNumbers { said: raw, nets };
     Ok(Spec {
         name: name_of(alloc, &raw.name)?,

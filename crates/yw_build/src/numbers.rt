@@ -21,13 +21,13 @@ impl NetNumbers<'_> {
     ghost use Rattle.yw_spec.specs.Net.{place_text};
     ghost use Rattle.yw_accept.specs.Built.{places_of, IsPlaceOf, IsPlaceCalled, IsTaskCalled, IsVarCalled};
     ghost use Rattle.yw_accept.specs.Facts.{NetIsNamed, NetLeads};
-    ghost use Rattle.yw_accept.specs.Nodes.{is_among, is_task, HasFlow};
+    ghost use Rattle.yw_accept.specs.Nodes.{is_name_among, is_task, HasFlow};
     ghost use Rattle.yw_build.specs.Numbers.{AreNumbers};
 
     /// The number of the place with this text.
     pub fn place_called(&self, text: &str) -> usize
         requires numbers { AreNumbers self.now }
-        requires is { is_among (map place_text (places_of self.now.said.now)) text.now ≡ true }
+        requires is { is_name_among (map place_text (places_of self.now.said.now)) text.now ≡ true }
         ensures { IsPlaceCalled self.now.said.now text.now result }
     {
         match number_of(&self.places, text) {

@@ -1,11 +1,11 @@
 // The places of a net.
 ghost use Rattle.std.specs.Prelude.{◌≡◌, [], ◌∷◌, ◌++◌, true, All, IfOk, OnOk, map, filter};
 ghost use Rattle.yw_accept.specs.Built.{place_of, places_of};
-ghost use Rattle.yw_accept.specs.Facts.{NetIsNamed, NetLeads};
+ghost use Rattle.yw_accept.specs.Facts.{HasUsableEnds, NetIsNamed, NetLeads};
 ghost use Rattle.yw_accept.specs.Names.{is_usable};
 ghost use Rattle.yw_accept.specs.Nodes.{is_implicit, task_names};
 ghost use Rattle.yw_accept.specs.Index.{IsIndexOf};
-ghost use Rattle.yw_build.specs.Ready.{HasNames};
+ghost use Rattle.yw_spec.specs.Net.{place_text};
 
 use crate::words::name_of;
 use std::alloc::{AllocError, Global};
@@ -37,7 +37,7 @@ fn push_conditions(
 }
 
 fn push_between(alloc: Global, places: &mut PlaceList, flow: &RawFlow) -> Result<(), AllocError>
-    requires { HasNames flow.now }
+    requires { HasUsableEnds flow.now }
     ensures { OnOk result (places.new ≡ places.old ++ Place.Between flow.now.from flow.now.to ∷ []) }
 {
     let from = name_of(alloc, &flow.from)?;
@@ -60,7 +60,7 @@ fn push_implicit(
     net: &RawNet,
 ) -> Result<(), AllocError>
     requires index { IsIndexOf (task_names net.now.task) tasks.now }
-    requires names { All HasNames net.now.flows }
+    requires names { All HasUsableEnds net.now.flows }
     ensures { OnOk result (places.new ≡ places.old ++ map (place_of net.now) (filter (is_implicit net.now) net.now.flows)) }
 {
     for flow in net.flows.as_slice() {
@@ -84,4 +84,15 @@ pub fn places_of(alloc: Global, net: &RawNet, tasks: &Index) -> Result<PlaceList
     push_conditions(alloc, &mut places, net.conditions.as_slice())?;
     push_implicit(alloc, &mut places, tasks, net)?;
     Ok(places)
+}
+
+/// The places of a net by their texts.
+pub fn index_of_places(alloc: Global, places: &[Place]) -> Result<Index, AllocError>
+    ensures { IfOk result (IsIndexOf (map place_text places.now)) }
+{
+    let mut index = Index::new(alloc);
+    for (number, place) in places.iter().enumerate() {
+        index.add(place.text(alloc)?, number)?;
+    }
+    Ok(index)
 }

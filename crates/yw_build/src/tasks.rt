@@ -6,12 +6,11 @@ ghost use Rattle.yw_accept.specs.Facts.{NetIsNamed, NetLeads};
 ghost use Rattle.yw_accept.specs.Nodes.{net_names, task_names};
 ghost use Rattle.yw_accept.specs.Index.{IsIndexOf};
 ghost use Rattle.yw_build.specs.Numbers.{AreNumbers};
-ghost use Rattle.yw_build.specs.Ready.{TaskIsReady};
+ghost use Rattle.yw_accept.specs.Ready.{TaskIsReady};
 ghost use Rattle.yw_build.specs.Rows.{AreAround};
 
 use crate::branches::branches_of;
 use crate::kinds::{SpecNumbers, kind_of};
-use crate::layers::layer_of_outs;
 use crate::many::many_of;
 use crate::numbers::NetNumbers;
 use crate::parameters::{ins_of, sets_of};
@@ -20,6 +19,7 @@ use crate::rows::{Around, places_around, row_of};
 use crate::values::outs_of;
 use crate::words::{maybe_name, name_of};
 use std::alloc::{AllocError, Global};
+use yw_accept::outs_layer;
 use yw_base::Items;
 use yw_read::RawTask;
 use yw_spec::{Task, TaskList};
@@ -43,7 +43,7 @@ fn task_of(
     requires ready { TaskIsReady spec.now.said.now numbers.now.said.now said.now }
     ensures { IfOk result (IsTask spec.now.said.now numbers.now.said.now said.now) }
 {
-    let outs = layer_of_outs(alloc, said)?;
+    let outs = outs_layer(alloc, said)?;
     Ok(Task {
         name: name_of(alloc, &said.name)?,
         kind: kind_of(spec, said),

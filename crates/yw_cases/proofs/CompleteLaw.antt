@@ -35,6 +35,7 @@ use Rattle.yw_state.specs.Broken.{Check, First, test, test_at}
 use Rattle.yw_state.specs.Events.{Leads}
 use Rattle.yw_state.specs.Given.{made_values, misfit}
 use Rattle.yw_state.specs.Identity.{Ident, parent}
+use Rattle.yw_state.specs.Judged.{task_place}
 use Rattle.yw_state.specs.Map.{get}
 use Rattle.yw_state.specs.Nets.{child_net, is_atomic}
 use Rattle.yw_state.specs.Options.{is_some_and}
@@ -194,7 +195,7 @@ module _ (old : Standing) (may : MayStand old) (j : Ident) (out : Row) where
             → IsDone old (events.Complete j out) (record old { forest = f })
         completed f does allowed =
             let names : ℕ → List ℕ = names_of old.known in
-            let needs : MayComplete w.net.now j no_checks s = record { item_is = item_is; rule = sym ((words_of old may).rule j Post) } in
+            let needs : MayComplete w.net.now j no_checks s = record { item_is = item_is; rule = sym ((words_of old may).rule (task_place item_is.there.of_task Post)) } in
             let free_there = allowed names s nothing item_is may.held.sites fits_row (ap is_some is.started) no_net ((words_of old may).clear j) in
             done old may (λ n. events.Complete j row) (λ n. MayComplete w.net.now j no_checks) all_else (events.Complete j out) (record old { forest = f })
             (does names s may.held.sites needs) needs (ap (events.Complete j) same) (placed old f) refl

@@ -1,7 +1,7 @@
 -- A task is entered.
 use Rattle.std.proofs.Common.{Fits, ap, arith, inl, inr, length, refl, subst, sym, w64, ◌∙◌, ◌<◌, ◌≤◌}
 use Rattle.std.proofs.lemmas.Bool.{and_parts, leb-true, ltb-true}
-use Rattle.std.specs.Prelude.{Bool, Err, IfOk, IsTrue, List, None, Ok, Option, Result, Some, [], codes, cond, false, find, if◌then◌else◌, is_none, map, nat_le, nat_lt, not, option_and_then, option_map, slice_get, true, unwrap_or, ℕ, ◌&&◌, ◌+◌, ◌∷◌, ◌≡◌}
+use Rattle.std.specs.Prelude.{Bool, Err, IfOk, IsTrue, List, None, Ok, Option, Result, Some, [], codes, cond, false, find, if◌then◌else◌, is_none, map, nat_le, nat_lt, not, option_and_then, option_map, slice_get, true, unwrap_or, ℕ, ◌+◌, ◌∷◌, ◌≡◌}
 use Rattle.yw_base.specs.Gates.{is_or}
 use Rattle.yw_accepted.proofs.Loaded.{accepted_are_sound, accepted_are_within}
 use Rattle.yw_base.specs.Identity.{most_numbers, number_end}
@@ -38,8 +38,6 @@ use Rattle.yw_state.specs.Broken.{Check, First, fact, misses_bounds, test, test_
 use Rattle.yw_state.specs.Identity.{Ident}
 use Rattle.yw_state.specs.Joins.{Waits, has_tokens}
 use Rattle.yw_state.specs.Map.{get}
-use Rattle.yw_state.specs.Nets.{is_atomic}
-use Rattle.yw_state.specs.RuleTree.{TreeRule}
 use Rattle.yw_state.specs.Options.{all_of, is_some_and}
 use Rattle.yw_state.specs.Passing.{elements_for, entry_values, given_values, within_bounds}
 use Rattle.yw_state.specs.State.{NetAt, NetPart, State, TaskAt, net_at, net_part, no_checks, spec_called, task_at}
@@ -53,10 +51,8 @@ use Rattle.yw_state.specs.declared.rule.Rule.TheVariants as rules
 use Rattle.yw_steps.specs.Enters.{EnterBreaks, EnterIsAllowed, Enters, StandsFor}
 use Rattle.yw_steps.specs.Stands.{MayGetItems, NetIs, TaskMayGrow}
 use Rattle.yw_still.proofs.Joining.{joins_tokens}
-use Rattle.yw_state.specs.declared.tree.TreeKind.{TreeKind}
-use Rattle.yw_state.specs.declared.tree.TreeKind.TheVariants.{Pre, Select}
 use Rattle.yw_task.specs.Completes.{AnswersFirst}
-use Rattle.yw_task.specs.Due.{entry_checks, has_rules}
+use Rattle.yw_task.specs.Due.{AreDue}
 use Rattle.yw_task.specs.Enters.{enter_table, is_choice}
 use Rattle.yw_task.specs.declared.fault.StepFault.{StepFault}
 use Rattle.yw_task.specs.declared.fault.StepFault.TheVariants.{Memory, Refused}
@@ -120,15 +116,8 @@ module _ (old : Standing) (may : MayStand old) where
   pub holds_within : HoldsWithin (state_of old)
   holds_within = well_holds_within reader (state_of old) accepted_are_within may.held.well
 
-  and_no : (b : Bool) → (b && false) ≡ false
-  and_no true = refl
-  and_no false = refl
-
-  pub checks_are : (n : NetAt) (task : Task) → no_checks ≡ entry_checks (state_of old) n.part.spec n.net task
-  checks_are n task =
-      let none : (kind : TreeKind) → has_rules (state_of old) n.part.spec n.net task kind ≡ false = λ kind.
-      ap (λ (rs : List TreeRule). nat_lt 0 (length rs)) ((words_of old may).rules (record { spec = n.part.spec; net = Some n.net.name; task = Some task.name; kind = kind })) in
-      sym (λ j. record { pre = none Pre j; select = (ap (λ b. is_atomic task && b) (none Select) ∙ and_no (is_atomic task)) j; post = false })
+  pub checks_are : (i : Ident) (name : List ℕ) → AreDue (state_of old) i name no_checks
+  checks_are i name = λ x there. sym ((words_of old may).item_due x)
 
   pub short_enough : (i : Ident) (n : NetAt) → net_at (state_of old) i ≡ Some n → length i < most_numbers
   short_enough i n at = let short = net_is_short reader (state_of old) may.held.well accepted_are_sound i n at in omega (arith, short)

@@ -28,6 +28,7 @@ use Rattle.yw_state.proofs.Tests.{and_right, never, nowhere, some_same, there_an
 use Rattle.yw_state.specs.Allowed.{Allowed, allows, exit_values, has_room_for, may_leave, place_numbers}
 use Rattle.yw_state.specs.Events.{Leads}
 use Rattle.yw_state.specs.Identity.{Ident}
+use Rattle.yw_state.specs.Judged.{case_place}
 use Rattle.yw_state.specs.Nets.{task_number}
 use Rattle.yw_state.specs.Options.{is_some_and}
 use Rattle.yw_state.specs.Passing.{kept_values, made_rows, split_places}
@@ -174,6 +175,6 @@ module _ (old : Standing) (may : MayStand old) (i : Ident) (name : List ℕ) (pl
         let allowed : Allowed s (events.Exit i exit.task.name places) nothing = subst (λ n. Allowed s (events.Exit i n places) nothing) (sym its_name) exit.allowed in
         let net_is : NetIs s i w.net.now =
         record { there = as_net_at old.known (with_state w known.state); stands = known.here.at; same = refl; spec = w.spec.now; within = known.here.within } in
-        let needs : MayExit w.net.now i exit.task places false s = record { net_is = net_is; allowed = allowed; rule = λ case. sym ((words_of old may).rule i Post) } in
+        let needs : MayExit w.net.now i exit.task places false s = record { net_is = net_is; allowed = allowed; rule = λ case. sym ((words_of old may).rule (case_place net_is.there.part.spec Post)) } in
         done old may (λ names. events.Exit i exit.task.name places) (λ names. MayExit w.net.now i exit.task places false) all_else (events.Exit i name places)
         (record old { forest = f }) (does exit.task places of_known (names_of old.known) s may.held.sites needs) needs (ap (λ n. events.Exit i n places) its_name) (placed old f) refl exit.allowed

@@ -22,6 +22,7 @@ use Rattle.yw_state.specs.Allowed.{Allowed}
 use Rattle.yw_state.specs.Broken.{Check, First, placeless, test}
 use Rattle.yw_state.specs.Identity.{Ident, parent}
 use Rattle.yw_state.specs.Joins.{at_output}
+use Rattle.yw_state.specs.Judged.{task_place}
 use Rattle.yw_state.specs.Nets.{is_atomic}
 use Rattle.yw_state.specs.Options.{is_some_and}
 use Rattle.yw_state.specs.State.{ItemAt, item_at, no_checks}
@@ -147,6 +148,6 @@ module _ (old : Standing) (may : MayStand old) (j : Ident) where
         (record {
           outer = outer.of_state;
           inner = inner_is (names_of old.known) old.forest (state_of old) w.spec.now j nothing (stands_well old may) outer.of_state end_allowed;
-          checks = sym ((words_of old may).rule j Post);
+          checks = λ x there. sym ((words_of old may).rule (task_place x.of_task Post));
         })
         refl (placed old f) refl end_allowed

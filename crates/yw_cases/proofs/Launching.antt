@@ -1,6 +1,6 @@
 -- A case begins.
 use Rattle.std.proofs.Common.{ap, sym, ◌∙◌}
-use Rattle.std.specs.Prelude.{Bool, List, None, Some, false, length, nat_le, nat_lt, refl, true, ℕ, ◌&&◌, ◌+◌, ◌==◌, ◌≡◌, option_and_then, option_map}
+use Rattle.std.specs.Prelude.{Bool, List, None, Some, false, nat_le, refl, true, ℕ, ◌&&◌, ◌+◌, ◌==◌, ◌≡◌, option_and_then, option_map}
 use Rattle.yw_base.specs.Identity.{number_end}
 use Rattle.yw_cases.proofs.Trying.{done, fails, next_is, placed_next, stands_well, words_of}
 use Rattle.yw_cases.specs.Rows.{may_begin}
@@ -12,21 +12,19 @@ use Rattle.yw_known.specs.Names.{names_of}
 use Rattle.yw_library.specs.Holdings as library
 use Rattle.yw_library.specs.Holdings.{IsKept}
 use Rattle.yw_nest.proofs.FromState.{case_begins}
-use Rattle.yw_nest.specs.Cases.{BeginsAs, CaseMayBegin, Launches, tree_before}
+use Rattle.yw_nest.specs.Cases.{BeginsAs, CaseMayBegin, Launches}
 use Rattle.yw_spec.specs.declared.spec.Net.{Net}
 use Rattle.yw_spec.specs.declared.spec.Spec.{Spec}
-use Rattle.yw_state.specs.After.{due_where, with_next}
+use Rattle.yw_state.specs.After.{with_next}
 use Rattle.yw_state.specs.Allowed.{Allowed, allows, launch_fits}
 use Rattle.yw_state.specs.Map.{get}
 use Rattle.yw_state.specs.Nets.{top_net}
 use Rattle.yw_state.specs.Options.{is_some_and}
-use Rattle.yw_state.specs.RuleTree.{TreeRule}
 use Rattle.yw_state.specs.State.{no_checks, spec_called, top_called}
 use Rattle.yw_state.specs.Texts.{Said, nothing}
 use Rattle.yw_state.specs.Values.{Row}
 use Rattle.yw_state.specs.declared.event.Event.TheVariants as events
 use Rattle.yw_state.specs.declared.loaded.Loaded.{Loaded}
-use Rattle.yw_state.specs.declared.tree.TreeKind.TheVariants.{Pre}
 use Rattle.yw_tree.specs.declared.Forest.{Forest}
 
 module _ (old : Standing) (may : MayStand old) (n : ℕ) (name : List ℕ) (vals : Row) where
@@ -76,6 +74,6 @@ module _ (old : Standing) (may : MayStand old) (n : ℕ) (name : List ℕ) (vals
           (record old { forest = f; next = n + 1 }) does
           (record {
             loaded = ap (spec_called (state_of old)) named ∙ called;
-            checks = sym (ap (λ (rs : List TreeRule). due_where (nat_lt 0 (length rs)) Pre no_checks) ((words_of old may).rules (tree_before (names_of old.known number))));
+            checks = sym ((words_of old may).case_due (names_of old.known number));
           })
           (λ i. events.Launch n (named i) (same i)) (placed_next old f (n + 1)) refl allowed

@@ -6,7 +6,6 @@ ghost use Rattle.yw_cases.specs.Steps.{IsAnswer};
 ghost use Rattle.yw_cases.specs.Tried.{LeadsNowhere, Tries};
 ghost use Rattle.yw_enabled.specs.Entered.{item_count};
 ghost use Rattle.yw_mark.specs.Tokens.{is_marked};
-ghost use Rattle.yw_state.specs.Nets.{is_among};
 ghost use Rattle.yw_state.specs.declared.event.Event.TheVariants as events;
 
 use crate::here::known_net;
@@ -19,7 +18,7 @@ use yw_base::{Gate, Ident, Name, Row};
 use yw_enabled::may_be_entered;
 use yw_expr::view;
 use yw_known::{net_here, task_called};
-use yw_mark::{Taken, is_marked};
+use yw_mark::{Taken, is_among, is_marked};
 use yw_spec::{Net, Place, PlaceList, Task};
 use yw_state::Marks;
 use yw_task::element_count;
@@ -60,13 +59,6 @@ fn candidate(net: &Net, join: Gate, places: &[Place]) -> Taken
         Gate::Xor => Taken::One(first_number(net, places)),
         Gate::Or => Taken::Marked,
     }
-}
-
-/// It is one of these.
-fn is_among(places: &[usize], c: usize) -> bool
-    ensures { result ≡ is_among places.now c }
-{
-    places.iter().any(|place| c == *place)
 }
 
 /// Those of the places that are marked. An `Err` says that no memory was left.

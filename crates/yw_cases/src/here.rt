@@ -8,13 +8,10 @@ ghost use Rattle.yw_state.specs.Joins.{at_output};
 ghost use Rattle.yw_state.specs.State.{State, net_part};
 
 use std::alloc::{AllocError, Global};
-use yw_base::Ident;
+use yw_base::{Ident, NUMBER_END};
 use yw_enabled::is_at_output;
 use yw_known::{Known, KnownNet, net_here};
 use yw_tree::Forest;
-
-/// 2^48, the first number that is too large.
-const NUMBER_END: u64 = 281_474_976_710_656;
 
 /// So many numbers are drawn from `first` on, which is the next.
 pub fn draws(next: u64, first: u64, count: u64) -> bool

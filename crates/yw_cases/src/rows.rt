@@ -1,9 +1,8 @@
 // Rows of values that an event has.
 ghost use Rattle.std.specs.Prelude.{◌≡◌, ◌&&◌, ◌||◌, IfOk};
 ghost use Rattle.std.specs.Cmp.Lexicographic.{pointwise};
-ghost use Rattle.std.specs.List.{list_all};
 ghost use Rattle.std.specs.Str.{bytes_eq};
-ghost use Rattle.yw_base.specs.Values.{is_short, is_small, may_hold};
+ghost use Rattle.yw_base.specs.Values.{may_hold};
 ghost use Rattle.yw_cases.specs.Rows.{launch_value_fits};
 ghost use Rattle.yw_state.specs.Allowed.{launch_fits};
 ghost use Rattle.yw_state.specs.Passing.{row_fits};
@@ -13,40 +12,11 @@ use std::alloc::{AllocError, Global};
 use yw_base::{Items, Row, Sort, Text, Value};
 use yw_spec::{Param, Var};
 
-/// The most bytes of a text, and the most elements of a list: our own limits on values.
-const MOST_TEXT_BYTES: usize = 4096;
-
-const MOST_ELEMENTS: usize = 1000;
-
-fn is_short(text: &Text) -> bool
-    ensures { result ≡ is_short text.now }
-{
-    text.as_str().len() <= MOST_TEXT_BYTES
-}
-
-fn are_short(texts: &[Text]) -> bool
-    ensures { result ≡ list_all is_short texts.now }
-{
-    texts.iter().all(|text| is_short(text))
-}
-
-/// It is within the limits of values.
-fn is_small(value: &Value) -> bool
-    ensures { result ≡ is_small value.now }
-{
-    match value {
-        Value::Bool(_) | Value::Int(_) => true,
-        Value::Text(text) => is_short(text),
-        Value::Ints(ints) => ints.len() <= MOST_ELEMENTS,
-        Value::Texts(texts) => texts.len() <= MOST_ELEMENTS && are_short(texts.as_slice()),
-    }
-}
-
 /// It is of this sort, and within the limits of values. It takes no memory.
 pub fn may_hold(sort: Sort, value: &Value) -> bool
     ensures { result ≡ may_hold sort value.now }
 {
-    value.has_sort(sort) && is_small(value)
+    value.has_sort(sort) && value.is_small()
 }
 
 /// The texts are the same, one for one.

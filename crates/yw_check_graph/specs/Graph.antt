@@ -10,7 +10,7 @@ use Rattle.yw_reach.specs.Flows.{IsWithin}
 use Rattle.yw_reach.specs.Renaming.{named_flows}
 use Rattle.yw_accept.specs.Faults.{in_net}
 use Rattle.yw_accept.specs.Graph.{NodeIsOnPath}
-use Rattle.yw_accept.specs.Nodes.{is_among, nodes}
+use Rattle.yw_accept.specs.Nodes.{is_name_among, nodes}
 use Rattle.yw_accept.specs.Order.{InOrder}
 
 -- the name with a number
@@ -21,7 +21,7 @@ abbrev pub flow_between : List ℕ → List ℕ → RawFlow
 flow_between from to = record { from = from; to = to }
 
 abbrev pub EndsAreAmong : List (List ℕ) → RawFlow → Type 0
-EndsAreAmong names flow = (is_among names flow.from ≡ true) × (is_among names flow.to ≡ true)
+EndsAreAmong names flow = (is_name_among names flow.from ≡ true) × (is_name_among names flow.to ≡ true)
 
 -- the flow is this one by numbers
 pub record IsNumbered (names : List (List ℕ)) (said : RawFlow) (flow : Flow) : Type 0 where

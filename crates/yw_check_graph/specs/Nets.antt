@@ -10,7 +10,7 @@ use Rattle.yw_reach.specs.declared.flow.Flow.{Flow}
 use Rattle.yw_reach.specs.Marking.{Marked}
 use Rattle.yw_accept.specs.Faults.{of_net}
 use Rattle.yw_accept.specs.Graph.{ChildFits, IsUsedOnce, child}
-use Rattle.yw_accept.specs.Nodes.{is_among, net_names}
+use Rattle.yw_accept.specs.Nodes.{is_name_among, net_names}
 use Rattle.yw_accept.specs.Order.{Check, Demand, InOrder}
 use Rattle.yw_check_graph.specs.declared.nets.NetGraph.{NetGraph}
 use Rattle.yw_check_graph.specs.Graph.{AreNumbered, flow_between, name_at}
@@ -27,7 +27,7 @@ links nets = flat_map (λ (net : RawNet). links_from net.name net.task) nets
 
 -- the net that the task names, where it names one, has one of these names
 abbrev pub ChildIsAmong : List (List ℕ) → RawTask → Type 0
-ChildIsAmong names task = (name : List ℕ) → child task ≡ Some name → is_among names name ≡ true
+ChildIsAmong names task = (name : List ℕ) → child task ≡ Some name → is_name_among names name ≡ true
 
 abbrev pub ChildrenAreAmong : List (List ℕ) → RawNet → Type 0
 ChildrenAreAmong names net = All (ChildIsAmong names) net.task

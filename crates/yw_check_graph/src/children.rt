@@ -12,10 +12,9 @@ ghost use Rattle.yw_reach.specs.declared.flow.Flow.{Flow};
 ghost use Rattle.yw_reach.specs.Flows.{IsWithin};
 ghost use Rattle.yw_reach.specs.Marking.{Marked};
 
-use crate::graph::index_of;
-use crate::nets::{NetGraph, broken_net, names_of, net_graph};
+use crate::nets::{NetGraph, broken_net, net_graph};
 use std::alloc::{AllocError, Global};
-use yw_accept::{Broken, Index, has};
+use yw_accept::{Broken, Index, has, index_of};
 use yw_base::Text;
 use yw_reach::{Flow, Marks, reached};
 use yw_read::{RawNet, RawSpec, RawTask};
@@ -78,8 +77,7 @@ fn check_net(
 fn check_tasks(alloc: Global, raw: &RawSpec) -> Result<Option<Broken>, AllocError>
     ensures { IfOk result (InOrder (NetChildrenFit raw.now) raw.now.net) }
 {
-    let names = names_of(alloc, raw.net.as_slice())?;
-    let index = index_of(alloc, &names)?;
+    let index = index_of(alloc, raw.net.as_slice())?;
     for net in raw.net.as_slice() {
         match check_net(alloc, raw, &index, net)? {
             None => {}

@@ -1,7 +1,7 @@
 // The nodes of a net and its flows, by numbers.
 ghost use Rattle.std.specs.Prelude.{◌≡◌, ◌<◌, ◌∷◌, ◌++◌, [], length, true, All, IfOk, OnOk};
 ghost use Rattle.yw_accept.specs.Index.{IsIndexOf};
-ghost use Rattle.yw_accept.specs.Nodes.{is_among, nodes, task_names};
+ghost use Rattle.yw_accept.specs.Nodes.{is_name_among, nodes, task_names};
 ghost use Rattle.yw_check_graph.specs.Graph.{AreNumbered, EndsAreAmong, IsNumbered, name_at};
 
 use std::alloc::{AllocError, Global};
@@ -48,21 +48,10 @@ pub fn nodes_of(alloc: Global, net: &RawNet) -> Result<Vec<Text>, AllocError>
     Ok(names)
 }
 
-/// Names by their numbers.
-pub fn index_of(alloc: Global, names: &[Text]) -> Result<Index, AllocError>
-    ensures { IfOk result (IsIndexOf names.now) }
-{
-    let mut index = Index::new(alloc);
-    for (number, name) in names.iter().enumerate() {
-        index.add(String::from_str(alloc, name.as_str())?, number)?;
-    }
-    Ok(index)
-}
-
 /// The number of a name that is one of them.
 pub fn number_in(index: &Index, names: &[Text], name: &Text) -> usize
     requires index { IsIndexOf names.now index.now }
-    requires is { is_among names.now name.now ≡ true }
+    requires is { is_name_among names.now name.now ≡ true }
     ensures within { result < length names.now }
     ensures name { name_at names.now result ≡ name.now }
 {

@@ -8,9 +8,9 @@ ghost use Rattle.yw_accept.specs.Order.{InOrder};
 ghost use Rattle.yw_check_graph.specs.Graph.{FindsOrJoin};
 ghost use Rattle.yw_reach.specs.Walks.{CycleAlong};
 
-use crate::graph::{flows_of, index_of, nodes_of};
+use crate::graph::{flows_of, nodes_of};
 use std::alloc::{AllocError, Global};
-use yw_accept::Broken;
+use yw_accept::{Broken, index_of};
 use yw_base::Gate;
 use yw_reach::is_cyclic;
 use yw_read::{RawNet, RawSpec, RawTask};

@@ -9,9 +9,9 @@ ghost use Rattle.yw_accept.specs.Nodes.{net_names};
 ghost use Rattle.yw_check_graph.specs.Graph.{AreNumbered, name_at};
 ghost use Rattle.yw_check_graph.specs.Nets.{AddsFlows, ChildIsAmong, ChildrenAreAmong, IsNetGraph, link, links, links_from};
 
-use crate::graph::{index_of, number_in, push_copy};
+use crate::graph::{number_in, push_copy};
 use std::alloc::{AllocError, Global};
-use yw_accept::{Broken, Index};
+use yw_accept::{Broken, Index, index_of};
 use yw_base::Text;
 use yw_reach::Flow;
 use yw_read::{RawNet, RawSpec, RawTask};
@@ -28,7 +28,7 @@ pub struct NetGraph {
 }
 
 /// The names of nets in document order.
-pub fn names_of(alloc: Global, nets: &[RawNet]) -> Result<Vec<Text>, AllocError>
+fn names_of(alloc: Global, nets: &[RawNet]) -> Result<Vec<Text>, AllocError>
     ensures { IfOk result (λ v. v.items ≡ net_names nets.now) }
 {
     let mut names = Vec::new(alloc);

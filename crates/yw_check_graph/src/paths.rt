@@ -8,9 +8,9 @@ ghost use Rattle.yw_accept.specs.Nodes.{nodes};
 ghost use Rattle.yw_accept.specs.Order.{InOrder};
 ghost use Rattle.yw_check_graph.specs.Graph.{FindsOffPath, name_at};
 
-use crate::graph::{flows_of, index_of, nodes_of};
+use crate::graph::{flows_of, nodes_of};
 use std::alloc::{AllocError, Global};
-use yw_accept::Broken;
+use yw_accept::{Broken, index_of};
 use yw_base::Text;
 use yw_reach::first_off_path;
 use yw_read::{RawNet, RawSpec};

@@ -14,7 +14,7 @@ use Rattle.yw_read.specs.declared.raw.RawFlow.{RawFlow}
 use Rattle.yw_read.specs.declared.raw.RawNet.{RawNet}
 use Rattle.yw_accept.specs.Facts.{NetIsNamed}
 use Rattle.yw_accept.specs.Names.{may_lead, is_same_flow}
-use Rattle.yw_accept.specs.Nodes.{is_among, nodes, arrow}
+use Rattle.yw_accept.specs.Nodes.{is_name_among, nodes, arrow}
 use Rattle.yw_accept.proofs.Among.{usable_among}
 use Rattle.yw_accept.proofs.FactsLemmas.{flow_ends}
 use Rattle.yw_accept.proofs.Places.{around_arrow}
@@ -36,10 +36,10 @@ module _ (f g : RawFlow) (f_named : is_name f.from ≡ true) (g_named : is_name 
   pub bytes_eq-arrow : bytes_eq (arrow f) (arrow g) ≡ is_same_flow f g
   bytes_eq-arrow = same_from_decides (bytes_eq (arrow f) (arrow g)) (is_same_flow f g) (bytes_eq-Decides (arrow f) (arrow g)) (arrow_same, ends_same)
 
-pub among_arrows : (flow : RawFlow) (flows : List RawFlow) → is_name flow.from ≡ true → All (λ (f : RawFlow). is_name f.from ≡ true) flows → is_among (map arrow flows) (arrow flow) ≡ list_any (is_same_flow flow) flows
+pub among_arrows : (flow : RawFlow) (flows : List RawFlow) → is_name flow.from ≡ true → All (λ (f : RawFlow). is_name f.from ≡ true) flows → is_name_among (map arrow flows) (arrow flow) ≡ list_any (is_same_flow flow) flows
 among_arrows flow [] named all = refl
 among_arrows flow (f ∷ fs) named all =
-    ap (λ b. b || is_among (map arrow fs) (arrow flow)) (bytes_eq-arrow flow f named (all zero f (omega arith)))
+    ap (λ b. b || is_name_among (map arrow fs) (arrow flow)) (bytes_eq-arrow flow f named (all zero f (omega arith)))
     ∙ ap (λ b. is_same_flow flow f || b) (among_arrows flow fs named (λ i d lt. all (suc i) d (omega (arith, lt))))
 
 -- ---- a flow that may stand in a net leaves a node with a name

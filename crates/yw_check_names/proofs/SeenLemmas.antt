@@ -8,7 +8,7 @@ use Rattle.std.specs.Cmp.Lexicographic.{nat_list_eq_equiv}
 use Rattle.std.specs.Str.{bytes_eq}
 use Rattle.std.specs.String.{string_bytes, string_cmp}
 use Rattle.yw_accept.specs.Names.{is_new}
-use Rattle.yw_accept.specs.Nodes.{is_among}
+use Rattle.yw_accept.specs.Nodes.{is_name_among}
 use Rattle.yw_check_names.specs.Seen.{NameSet, Knows, Adds}
 
 cond_or : (b c : Bool) → cond b true c ≡ (b || c)
@@ -28,11 +28,11 @@ adds old new key added is_new updates = record {
 pub knows_none : (set : NameSet) → IsEmpty set → Knows set []
 knows_none set empty = record { has = λ name. rw empty refl }
 
-pub is_among-push : (names : List (List ℕ)) (name other : List ℕ) → is_among (names ++ name ∷ []) other ≡ (is_among names other || bytes_eq other name)
-is_among-push names name other =
-    list_any-append (bytes_eq other) names (name ∷ []) ∙ ap (λ b. is_among names other || b) (or-false (bytes_eq other name))
+pub is_name_among-push : (names : List (List ℕ)) (name other : List ℕ) → is_name_among (names ++ name ∷ []) other ≡ (is_name_among names other || bytes_eq other name)
+is_name_among-push names name other =
+    list_any-append (bytes_eq other) names (name ∷ []) ∙ ap (λ b. is_name_among names other || b) (or-false (bytes_eq other name))
 
 pub knows_more : (old new : NameSet) (name : List ℕ) (added : Bool) → Adds old new name added → (names : List (List ℕ)) → Knows old names → Knows new (names ++ name ∷ [])
 knows_more old new name added adds names knows = record {
-  has = λ other. adds.has other ∙ ap (λ b. b || bytes_eq other name) (knows.has other) ∙ sym (is_among-push names name other);
+  has = λ other. adds.has other ∙ ap (λ b. b || bytes_eq other name) (knows.has other) ∙ sym (is_name_among-push names name other);
 }

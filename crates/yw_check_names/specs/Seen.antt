@@ -5,7 +5,7 @@ use Rattle.std.specs.Str.{bytes_eq}
 use Rattle.std.specs.declared.alloc.Global.{Global}
 use Rattle.yw_accept.specs.declared.broken.Broken.{Broken}
 use Rattle.yw_accept.specs.Names.{is_new}
-use Rattle.yw_accept.specs.Nodes.{is_among}
+use Rattle.yw_accept.specs.Nodes.{is_name_among}
 use Rattle.yw_accept.specs.Order.{Check, InTurn}
 
 abbrev pub NameSet : Type 0
@@ -13,7 +13,7 @@ NameSet = BTreeSet (String Global)
 
 -- the set has these names and no others
 pub record Knows (set : NameSet) (names : List (List ℕ)) : Type 0 where
-  pub has : (name : List ℕ) → contains_text set name ≡ is_among names name
+  pub has : (name : List ℕ) → contains_text set name ≡ is_name_among names name
 
 -- the name is added, where it isn't there
 pub record Adds (old new : NameSet) (name : List ℕ) (added : Bool) : Type 0 where

@@ -3,7 +3,6 @@
 #![tactic(auto)]
 
 mod flows;
-mod named;
 mod names;
 mod net_nodes;
 mod removals;

@@ -5,10 +5,9 @@ ghost use Rattle.yw_accept.specs.Names.{AreNew, IsNew, is_usable};
 ghost use Rattle.yw_check_names.specs.Seen.{Adds, AddsAll, Knows, Notes, Tries, TriesAll};
 ghost use Rattle.yw_lex.specs.Spelling.{is_reserved};
 
-use crate::named::Named;
 use std::alloc::{AllocError, Global};
 use std::collections::BTreeSet;
-use yw_accept::Broken;
+use yw_accept::{Broken, Named};
 use yw_base::{Items, Name, NameFault, Text};
 
 /// Names that were seen.

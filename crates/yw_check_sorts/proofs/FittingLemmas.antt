@@ -1,14 +1,12 @@
 -- From the parts of a task's expressions to the whole.
-use Rattle.std.proofs.Common.{◌≡◌, ◌↔◌, ℕ, ◌++◌, Bool, true, false, List, map, All, IsTrue, is_some, option_to_list, sym, ap, ◌∙◌, subst}
+use Rattle.std.proofs.Common.{◌≡◌, ◌↔◌, ℕ, ◌++◌, Bool, true, false, List, All, IsTrue, option_to_list, sym, ap, ◌∙◌, subst}
 use Rattle.yw_expr.specs.declared.scope.Binding.{Binding}
-use Rattle.yw_expr.specs.Scope.{binding}
 use Rattle.yw_read.specs.declared.raw.RawBranch.{RawBranch}
 use Rattle.yw_read.specs.declared.raw.RawIn.{RawIn}
-use Rattle.yw_read.specs.declared.raw.RawOut.{RawOut}
 use Rattle.yw_read.specs.declared.raw.RawSet.{RawSet}
 use Rattle.yw_read.specs.declared.raw.RawTask.{RawTask}
 use Rattle.yw_read.specs.declared.raw.RawNet.{RawNet}
-use Rattle.yw_accept.specs.Scopes.{ExpressionsFit, Spells, IsList, IsOfVar, gathered, vars_scope, outs_scope, set_scope}
+use Rattle.yw_accept.specs.Scopes.{ExpressionsFit, Spells, IsList, IsOfVar, vars_scope, outs_scope, set_scope}
 use Rattle.yw_check_sorts.specs.Fitting.{AssignmentFits, ConditionFits, ReadsFit, ValueFits}
 use Rattle.yw_check_sorts.specs.declared.spelling.WantedSort.{WantedSort}
 use Rattle.yw_check_sorts.specs.Wanted.{IsWanted, sort_named, wanted_by}
@@ -44,15 +42,10 @@ assigned vars scope s name text wanted at_wanted at_name at_text fit decides =
     subst Q at_text (subst P (at_wanted ∙ ap (λ (n : List ℕ). wanted_by (sort_named vars n)) at_name) decides)
 
 -- the scope is that of the outs before that of the variables
-pub set_along : (net : RawNet) (task : RawTask) (vars outs scope : List Binding) (outs_of : List RawOut) (many : Bool) (set : List RawSet) →
-    vars ≡ vars_scope net → outs ≡ map (λ (p : RawOut). binding p.name (gathered many p.sort)) outs_of → outs_of ≡ task.outs → many ≡ is_some task.each → scope ≡ outs ++ vars → set ≡ task.set →
+pub set_along : (net : RawNet) (task : RawTask) (vars outs scope : List Binding) (set : List RawSet) → vars ≡ vars_scope net → outs ≡ outs_scope task → scope ≡ outs ++ vars → set ≡ task.set →
     (fit : Bool) → IsTrue fit ↔ All (AssignmentFits vars scope) set → IsTrue fit ↔ All (AssignmentFits (vars_scope net) (set_scope net task)) task.set
-set_along net task vars outs scope outs_of many set at_vars at_outs at_outs_of at_many at_scope at_set fit decides =
-    let is_outs : outs ≡ outs_scope task =
-    at_outs
-    ∙ ap (λ (m : Bool). map (λ (p : RawOut). binding p.name (gathered m p.sort)) outs_of) at_many
-    ∙ ap (map (λ (p : RawOut). binding p.name (gathered (is_some task.each) p.sort))) at_outs_of in
-    let is_scope : scope ≡ set_scope net task = at_scope ∙ ap (λ (bs : List Binding). bs ++ vars) is_outs ∙ ap (λ (bs : List Binding). outs_scope task ++ bs) at_vars in
+set_along net task vars outs scope set at_vars at_outs at_scope at_set fit decides =
+    let is_scope : scope ≡ set_scope net task = at_scope ∙ ap (λ (bs : List Binding). bs ++ vars) at_outs ∙ ap (λ (bs : List Binding). outs_scope task ++ bs) at_vars in
     let P : List Binding → Type 0 = λ bs. IsTrue fit ↔ All (AssignmentFits bs scope) set in
     let Q : List Binding → Type 0 = λ bs. IsTrue fit ↔ All (AssignmentFits (vars_scope net) bs) set in
     let R : List RawSet → Type 0 = λ ss. IsTrue fit ↔ All (AssignmentFits (vars_scope net) (set_scope net task)) ss in

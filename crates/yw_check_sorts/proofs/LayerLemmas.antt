@@ -1,20 +1,17 @@
--- Layers of distinct names.
-use Rattle.std.proofs.Common.{◌≡◌, ℕ, ◌+◌, ◌<◌, ◌≤◌, Bool, true, false, cond, List, [], ◌∷◌, ◌++◌, map, length, get_or, take, find, position, Option, Some, None, is_none, bytes_eq, nat_lt, inl, inr, refl, sym, ap, ◌∙◌, arith}
+-- The sort of a name in a layer.
+use Rattle.std.proofs.Common.{◌≡◌, ℕ, ◌≤◌, Bool, true, false, cond, List, [], ◌∷◌, map, length, find, position, Option, Some, None, bytes_eq, nat_lt, inl, inr, refl, sym, ap, ◌∙◌, arith}
 use Rattle.std.specs.Prelude.{slice_get, option_map}
 use Rattle.std.specs.List.{position_or_len}
 use Rattle.std.proofs.lemmas.Bool.{cases_Bool}
 use Rattle.std.proofs.lemmas.Bool.Decides.{nat_tests}
-use Rattle.std.proofs.lemmas.List.{take_more, map-append}
 use Rattle.std.proofs.lemmas.List.Folds.{find_at}
 use Rattle.std.proofs.lemmas.Option.{none-some, same_Some, slice_get_past}
 use Rattle.yw_base.specs.declared.value.Sort.{Sort}
 use Rattle.yw_expr.specs.declared.scope.Binding.{Binding}
-use Rattle.yw_expr.specs.Scope.{binding, place_in}
+use Rattle.yw_expr.specs.Scope.{place_in}
 use Rattle.yw_read.specs.declared.raw.RawVar.{RawVar}
 use Rattle.yw_read.specs.declared.raw.RawNet.{RawNet}
-use Rattle.yw_accept.specs.Facts.{AreDistinct}
 use Rattle.yw_accept.specs.Scopes.{vars_scope, sort_of_var}
-use Rattle.yw_accept.proofs.Layers.{new_name}
 use Rattle.yw_check_sorts.specs.Wanted.{sort_named}
 
 -- ---- the first element that passes, and its place
@@ -61,21 +58,3 @@ sort_named-vars net name =
     let bound : RawVar → Binding = λ v. record { name = v.name; sort = v.sort } in
     ap (option_map (λ (b : Binding). b.sort)) (find_of_map (λ (b : Binding). bytes_eq b.name name) bound net.vars)
     ∙ option_map_map (λ (b : Binding). b.sort) bound (find (λ (v : RawVar). bytes_eq v.name name) net.vars)
-
--- ---- a layer of distinct names, one name more at a time
-
-module _ {A : Type 0} (name : A → List ℕ) (sort : A → Sort) (xs : List A) (distinct : AreDistinct (map name xs)) (i : ℕ) (x : A) (lt : i < length xs) (is : x ≡ get_or xs i x) where
-  abbrev bound : A → Binding
-  bound y = binding (name y) (sort y)
-
-  pub layer_more : (old new : List Binding) → old ≡ map bound (take i xs) → (key : List ℕ) (value : Sort) → key ≡ name x → value ≡ sort x → (added : Bool) → added ≡ is_none (place_in old key) → (added ≡ true → new ≡ old ++ binding key value ∷ []) → new ≡ map bound (take (i + 1) xs)
-  layer_more old new at_old key value is_key is_value added is_new grows =
-      let before : List Binding = map bound (take i xs) in
-      let absent : place_in old key ≡ None = new_name name sort xs distinct old xs i x key refl lt is is_key at_old in
-      grows (is_new ∙ ap is_none absent)
-      ∙ ap (λ (bs : List Binding). bs ++ binding key value ∷ []) at_old
-      ∙ ap (λ (k : List ℕ). before ++ binding k value ∷ []) is_key
-      ∙ ap (λ (s : Sort). before ++ binding (name x) s ∷ []) is_value
-      ∙ ap (λ (y : A). before ++ bound y ∷ []) is
-      ∙ sym (map-append bound (take i xs) (get_or xs i x ∷ []))
-      ∙ ap (map bound) (sym (take_more xs i x lt))

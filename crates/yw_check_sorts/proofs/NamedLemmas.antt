@@ -12,7 +12,7 @@ use Rattle.std.proofs.lemmas.List.Folds.{list_any_none}
 use Rattle.std.proofs.lemmas.Option.{none-some, same_Some, slice_get_within, slice_get_past, slice_get_read, get_or_from_slice_get}
 use Rattle.std.proofs.lemmas.Slice.Eq.{bytes_eq-Decides}
 use Rattle.yw_accept.specs.Facts.{AreDistinct}
-use Rattle.yw_accept.specs.Nodes.{is_among}
+use Rattle.yw_accept.specs.Nodes.{is_name_among}
 
 module _ {A : Type 0} (of : A → List ℕ) (name : List ℕ) where
   abbrev pub has_name : A → Bool
@@ -45,10 +45,10 @@ module _ {A : Type 0} (of : A → List ℕ) (name : List ℕ) where
       ap (λ b. cond b (Some x) (find has_name xs)) other ∙ found_at xs (rest_distinct x xs h) k e
 
   -- it stands nowhere
-  pub found_none : (xs : List A) → is_among (map of xs) name ≡ false → find has_name xs ≡ None
+  pub found_none : (xs : List A) → is_name_among (map of xs) name ≡ false → find has_name xs ≡ None
   found_none [] h = refl
   found_none (x ∷ xs) h =
-      let parts = or_parts (bytes_eq name (of x)) (is_among (map of xs) name) h in
+      let parts = or_parts (bytes_eq name (of x)) (is_name_among (map of xs) name) h in
       ap (λ b. cond b (Some x) (find has_name xs)) (nat_list_eq_equiv.symm (of x) name ∙ parts.0) ∙ found_none xs parts.1
 
   -- ---- tests of all elements that speak of the one with the name alone

@@ -10,7 +10,7 @@ use Rattle.yw_read.specs.declared.raw.RawVar.{RawVar}
 use Rattle.yw_read.specs.declared.raw.RawTask.{RawTask}
 use Rattle.yw_read.specs.declared.raw.RawNet.{RawNet}
 use Rattle.yw_read.specs.declared.raw.RawSpec.{RawSpec}
-use Rattle.yw_accept.specs.Nodes.{is_among}
+use Rattle.yw_accept.specs.Nodes.{is_name_among}
 use Rattle.yw_base.specs.Usages.{comes_in, goes_out}
 use Rattle.yw_accept.specs.Scopes.{ParametersFit, is_in_var, is_out_var, is_same_sort, names_var, parameters_fit, vars_scope}
 use Rattle.yw_check_sorts.specs.Agreeing.{ItemFitsOver}
@@ -53,7 +53,7 @@ where_taken t x b e h = h ∙ ap (λ c. not c || x) (sym e)
 pub out_in : (p : RawIn) (name : List ℕ) → name ≡ p.name → (q : RawOut) → (not (bytes_eq p.name q.name) || is_same_sort p.sort q.sort) ≡ (not (bytes_eq q.name name) || is_same_sort p.sort q.sort)
 out_in p name e q = ap (λ b. not b || is_same_sort p.sort q.sort) (turned p.name q.name name e)
 
-pub among_vars : (net : RawNet) (s : RawSet) (text : List ℕ) → text ≡ s.var → is_among (map (λ (v : RawVar). v.name) net.vars) text ≡ names_var net s
+pub among_vars : (net : RawNet) (s : RawSet) (text : List ℕ) → text ≡ s.var → is_name_among (map (λ (v : RawVar). v.name) net.vars) text ≡ names_var net s
 among_vars net s text e =
     list_any_of_map (bytes_eq text) (λ (v : RawVar). v.name) net.vars
     ∙ ap (λ (n : List ℕ). list_any (λ (v : RawVar). bytes_eq n v.name) net.vars) e

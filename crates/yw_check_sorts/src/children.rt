@@ -12,9 +12,9 @@ ghost use Rattle.yw_read.specs.declared.raw.RawIn.{RawIn};
 ghost use Rattle.yw_read.specs.declared.raw.RawOut.{RawOut};
 ghost use Rattle.yw_read.specs.declared.raw.RawVar.{RawVar};
 
-use crate::named::{find_named, index_of};
+use crate::named::find_named;
 use std::alloc::{AllocError, Global};
-use yw_accept::Index;
+use yw_accept::{Index, index_of};
 use yw_base::Sort;
 use yw_read::{RawIn, RawNet, RawOut, RawSpec, RawTask, RawVar};
 

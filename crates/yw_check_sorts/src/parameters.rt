@@ -12,11 +12,10 @@ ghost use Rattle.yw_read.specs.declared.raw.RawOut.{RawOut};
 ghost use Rattle.yw_read.specs.declared.raw.RawVar.{RawVar};
 
 use crate::children::{fits_net, is_same_sort};
-use crate::layers::vars_layer;
-use crate::named::{find_named, index_of};
+use crate::named::find_named;
 use crate::spelling::{WantedSort, spells_if_any};
 use std::alloc::{AllocError, Global};
-use yw_accept::{Broken, Index, has};
+use yw_accept::{Broken, Index, has, index_of, vars_layer};
 use yw_base::Sort;
 use yw_expr::{Bindings, Scope};
 use yw_read::{RawIn, RawKind, RawNet, RawOut, RawSet, RawSpec, RawTask};
@@ -276,7 +275,7 @@ fn check_net(
     ensures { IfOk result (NetParametersAgree raw.now net.now) }
 {
     let vars = index_of(alloc, net.vars.as_slice())?;
-    let layer = vars_layer(alloc, net.vars.as_slice())?;
+    let layer = vars_layer(alloc, net)?;
     for task in net.task.as_slice() {
         match check_task(alloc, raw, nets, net, &vars, &layer, task)? {
             Some(broken) => return Ok(Some(broken)),

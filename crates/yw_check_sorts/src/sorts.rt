@@ -7,10 +7,10 @@ ghost use Rattle.yw_accept.specs.Order.{InOrder};
 ghost use Rattle.yw_accept.specs.Scopes.{ExpressionsFit, SortsFit, set_scope, vars_scope};
 ghost use Rattle.yw_check_sorts.specs.Fitting.{AssignmentFits, ConditionFits, NetSortsFit, ReadsFit, TaskSortsFit, ValueFits};
 
-use crate::layers::{outs_layer, vars_layer, wanted_for};
+use crate::layers::wanted_for;
 use crate::spelling::{WantedSort, spells, spells_if_any};
 use std::alloc::{AllocError, Global};
-use yw_accept::Broken;
+use yw_accept::{Broken, outs_layer, vars_layer};
 use yw_base::Sort;
 use yw_expr::{Bindings, Scope};
 use yw_read::{RawBranch, RawIn, RawNet, RawSet, RawSpec, RawTask};
@@ -85,7 +85,7 @@ fn set_fits(
     requires vars { vars.now ≡ vars_scope net.now }
     ensures { IfOk result (λ fit. IsTrue fit ↔ All (AssignmentFits (vars_scope net.now) (set_scope net.now task.now)) task.now.set) }
 {
-    let outs = outs_layer(alloc, task.outs.as_slice(), task.each.is_some())?;
+    let outs = outs_layer(alloc, task)?;
     let scope = Scope::nested(&outs, vars);
     let fit = assignments_fit(alloc, vars, &scope, task.set.as_slice())?;
     Ok(fit)
@@ -145,7 +145,7 @@ fn check_net(alloc: Global, net: &RawNet) -> Result<Option<Broken>, AllocError>
     requires { NetIsNamed net.now }
     ensures { IfOk result (NetSortsFit net.now) }
 {
-    let vars = vars_layer(alloc, net.vars.as_slice())?;
+    let vars = vars_layer(alloc, net)?;
     for task in net.task.as_slice() {
         match check_task(alloc, net, &vars, task)? {
             Some(broken) => return Ok(Some(broken)),

@@ -5,8 +5,7 @@ use Rattle.std.proofs.lemmas.List.Folds.{list_all-map}
 use Rattle.std.proofs.lemmas.List.Sums.{sum_by-cons}
 use Rattle.std.specs.List.{list_any, list_all}
 use Rattle.yw_read.specs.declared.raw.RawBranch.{RawBranch}
-use Rattle.yw_accept.specs.Nodes.{is_among}
-pub use Rattle.yw_accept.proofs.Lists.{list_any_of_map}
+use Rattle.yw_accept.specs.Nodes.{is_name_among}
 use Rattle.yw_check_tasks.specs.Outputs.{texts_of, AreCounts, is_counted, is_counted_once}
 
 -- tests of what elements are sent to
@@ -38,10 +37,10 @@ not_one n m e h = grind (arith, nat_tests)
 pub branches_agree : (outputs : List (Bor (List ℕ))) (branches : List RawBranch) (given named : BTreeMap (Bor (List ℕ)) ℕ) →
     AreCounts (λ name. name.now) outputs given → AreCounts (λ (b : RawBranch). b.to) branches named → (last : Bool) →
     (list_all (is_counted given) branches && list_all (is_counted_once named) outputs && last)
-    ≡ (list_all (λ (b : RawBranch). is_among (texts_of outputs) b.to) branches && list_all (λ output. count_by (λ (b : RawBranch). bytes_eq output b.to) branches == 1) (texts_of outputs) && last)
+    ≡ (list_all (λ (b : RawBranch). is_name_among (texts_of outputs) b.to) branches && list_all (λ output. count_by (λ (b : RawBranch). bytes_eq output b.to) branches == 1) (texts_of outputs) && last)
 branches_agree outputs branches given named is_given is_named last =
     let text : Bor (List ℕ) → List ℕ = λ o. o.now in
-    let leads : RawBranch → Bool = λ b. is_among (texts_of outputs) b.to in
+    let leads : RawBranch → Bool = λ b. is_name_among (texts_of outputs) b.to in
     let once : List ℕ → Bool = λ output. count_by (λ (b : RawBranch). bytes_eq output b.to) branches == 1 in
     let each_leads : list_all (is_counted given) branches ≡ list_all leads branches =
     list_all_same _ _ (λ b. ap (nat_lt 0) (is_given b.to ∙ sym (count_by_of_map (bytes_eq b.to) text outputs)) ∙ counted_any (bytes_eq b.to) (texts_of outputs)) branches in

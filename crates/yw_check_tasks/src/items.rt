@@ -29,7 +29,7 @@ fn is_in(ins: &[RawIn], name: &str) -> bool
     ins.iter().any(|p| name == p.name.as_str())
 }
 
-#[tactic(auto, using(crate::proofs::NameLemmas::list_any_of_map))]
+#[tactic(auto, using(yw_accept::proofs::Lists::list_any_of_map))]
 fn item_fits(task: &RawTask) -> bool
     ensures { result ≡ item_fits task.now }
 {

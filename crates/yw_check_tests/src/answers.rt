@@ -21,12 +21,33 @@ pub(super) enum Check {
     Sizes,
 }
 
-/// Texts one after the other.
-pub(super) fn joined(alloc: Global, pieces: &[&str]) -> Result<String, AllocError> {
-    let mut text = String::new(alloc);
+fn push_all(text: &mut String, pieces: &[&str]) -> Result<(), AllocError> {
     for piece in pieces {
         text.push_str(piece)?;
     }
+    Ok(())
+}
+
+/// Texts one after the other.
+pub(super) fn joined(alloc: Global, pieces: &[&str]) -> Result<String, AllocError> {
+    let mut text = String::new(alloc);
+    push_all(&mut text, pieces)?;
+    Ok(text)
+}
+
+/// A specification `s` of one net `main` with the conditions `i` and `o`, and these texts behind.
+pub(super) fn with_head(alloc: Global, pieces: &[&str]) -> Result<String, AllocError> {
+    let mut text = String::from_str(
+        alloc,
+        r#"name = "s"
+top = "main"
+[[net]]
+name = "main"
+input = "i"
+output = "o"
+"#,
+    )?;
+    push_all(&mut text, pieces)?;
     Ok(text)
 }
 
@@ -93,6 +114,18 @@ pub(super) fn finds(
         None => Ok(want == "-"),
         Some(broken) => Ok(broken.text(alloc)?.as_str() == want),
     }
+}
+
+/// The check finds what is told so where the keys stand between two texts behind the head of a specification.
+pub(super) fn finds_in(
+    alloc: Global,
+    by: Check,
+    frame: (&str, &str),
+    keys: &str,
+    want: &str,
+) -> Result<bool, ReadFault> {
+    let document = with_head(alloc, &[frame.0, keys, frame.1])?;
+    finds(alloc, by, document.as_str(), want)
 }
 
 /// All checks together accept the document under this name, or name the check of this number with this text.

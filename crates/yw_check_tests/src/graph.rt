@@ -1,5 +1,5 @@
 // Nodes on paths, OR-joins, and nets in nets.
-use super::answers::{Check, finds, joined};
+use super::answers::{Check, finds, finds_in, with_head};
 use std::alloc::{AllocError, Global};
 use std::test::Fail;
 use yw_read::ReadFault;
@@ -11,19 +11,12 @@ type Row = (&'static str, &'static str, &'static str, &'static str);
 
 /// A specification with one net, which has the conditions `i`, `o`, `c` and `d`, tasks `a` and `b` with these
 /// keys beside their names, and these flows.
-fn finds_in(alloc: Global, by: Check, row: &Row) -> Result<bool, ReadFault> {
-    let document = joined(alloc, &[HEAD, row.0, TASK_A, row.1, TASK_B, row.2, "\n"])?;
+fn finds_in_row(alloc: Global, by: Check, row: &Row) -> Result<bool, ReadFault> {
+    let document = with_head(alloc, &[FLOWS, row.0, TASK_A, row.1, TASK_B, row.2, "\n"])?;
     finds(alloc, by, document.as_str(), row.3)
 }
 
-const HEAD: &str = r#"
-name = "s"
-top = "main"
-[[net]]
-name = "main"
-input = "i"
-output = "o"
-conditions = ["c","d"]
+const FLOWS: &str = r#"conditions = ["c","d"]
 flows = ["#;
 
 const TASK_A: &str = r#"]
@@ -107,7 +100,11 @@ const PATHS: [Row; 12] = [
 #[test]
 fn nodes_on_paths(rt: HostRuntime) -> Result<(), Fail> {
     for row in &PATHS {
-        assert!(rt; finds_in(rt.alloc(), Check::Paths, row)?, "of {}", row.0);
+        assert!(rt;
+            finds_in_row(rt.alloc(), Check::Paths, row)?,
+            "of {}",
+            row.0
+        );
     }
     Ok(())
 }
@@ -136,19 +133,16 @@ const OR_JOINS: [Row; 9] = [
 #[test]
 fn or_joins(rt: HostRuntime) -> Result<(), Fail> {
     for row in &OR_JOINS {
-        assert!(rt; finds_in(rt.alloc(), Check::OrJoins, row)?, "of {}", row.0);
+        assert!(rt;
+            finds_in_row(rt.alloc(), Check::OrJoins, row)?,
+            "of {}",
+            row.0
+        );
     }
     Ok(())
 }
 
-const OFF_PATH: &str = r#"
-name = "s"
-top = "main"
-[[net]]
-name = "main"
-input = "i"
-output = "o"
-flows = [["i","a"],["a","o"]]
+const OFF_PATH: &str = r#"flows = [["i","a"],["a","o"]]
 [[net.task]]
 name = "a"
 [[net]]
@@ -167,14 +161,7 @@ output = "q"
 flows = []
 "#;
 
-const TWO_NETS: &str = r#"
-name = "s"
-top = "main"
-[[net]]
-name = "main"
-input = "i"
-output = "o"
-flows = [["i","a"],["a","a"],["a","o"]]
+const TWO_NETS: &str = r#"flows = [["i","a"],["a","a"],["a","o"]]
 [[net.task]]
 name = "a"
 [[net]]
@@ -189,8 +176,8 @@ join = "or"
 
 #[test]
 fn nets_apart(rt: HostRuntime) -> Result<(), Fail> {
-    assert!(rt; finds(rt.alloc(), Check::Paths, OFF_PATH, "V3 n u")?);
-    assert!(rt; finds(rt.alloc(), Check::OrJoins, TWO_NETS, "-")?);
+    assert!(rt; finds_in(rt.alloc(), Check::Paths, (OFF_PATH, ""), "", "V3 n u")?);
+    assert!(rt; finds_in(rt.alloc(), Check::OrJoins, (TWO_NETS, ""), "", "-")?);
     Ok(())
 }
 
@@ -214,7 +201,7 @@ const KINDS: [Row; 10] = [
 #[test]
 fn kinds_and_nets_of_tasks(rt: HostRuntime) -> Result<(), Fail> {
     for row in &KINDS {
-        assert!(rt; finds_in(rt.alloc(), Check::Nets, row)?, "of {}", row.1);
+        assert!(rt; finds_in_row(rt.alloc(), Check::Nets, row)?, "of {}", row.1);
     }
     Ok(())
 }

@@ -1,5 +1,5 @@
 // Names, flows and removals.
-use super::answers::{Check, finds, joined};
+use super::answers::{Check, finds, finds_in, joined};
 use std::alloc::Global;
 use std::test::Fail;
 use yw_documents::{loan, seq};
@@ -19,16 +19,15 @@ fn whole_documents_fit(rt: HostRuntime) -> Result<(), Fail> {
     Ok(())
 }
 
-/// What the check finds where the keys stand between two texts.
-fn finds_in(
+/// What the check of names finds where the keys stand between two texts.
+fn finds_between(
     alloc: Global,
-    by: Check,
     frame: (&str, &str),
     keys: &str,
     want: &str,
 ) -> Result<bool, ReadFault> {
     let document = joined(alloc, &[frame.0, keys, frame.1])?;
-    finds(alloc, by, document.as_str(), want)
+    finds(alloc, Check::Names, document.as_str(), want)
 }
 
 // ---- names
@@ -52,10 +51,7 @@ const HEAD_ROWS: [(&str, &str); 7] = [
 #[test]
 fn names_of_the_specification(rt: HostRuntime) -> Result<(), Fail> {
     for (keys, want) in &HEAD_ROWS {
-        assert!(rt;
-            finds_in(rt.alloc(), Check::Names, HEADS, keys, want)?,
-            "of {keys}"
-        );
+        assert!(rt; finds_between(rt.alloc(), HEADS, keys, want)?, "of {keys}");
     }
     Ok(())
 }
@@ -188,10 +184,7 @@ name = "a->b""#,
 #[test]
 fn names_of_nodes(rt: HostRuntime) -> Result<(), Fail> {
     for (keys, want) in &NODES {
-        assert!(rt;
-            finds_in(rt.alloc(), Check::Names, NET, keys, want)?,
-            "of {keys}"
-        );
+        assert!(rt; finds_between(rt.alloc(), NET, keys, want)?, "of {keys}");
     }
     Ok(())
 }
@@ -229,24 +222,14 @@ role = "or""#,
 #[test]
 fn names_of_variables(rt: HostRuntime) -> Result<(), Fail> {
     for (keys, want) in &VARIABLES {
-        assert!(rt;
-            finds_in(rt.alloc(), Check::Names, NET, keys, want)?,
-            "of {keys}"
-        );
+        assert!(rt; finds_between(rt.alloc(), NET, keys, want)?, "of {keys}");
     }
     Ok(())
 }
 
 /// One net `main` with one task `a`, with these keys beside its name.
 const TASK: (&str, &str) = (
-    r#"
-name = "s"
-top = "main"
-[[net]]
-name = "main"
-input = "i"
-output = "o"
-flows = []
+    r#"flows = []
 [[net.task]]
 name = "a"
 "#,
@@ -319,14 +302,7 @@ fn names_in_tasks(rt: HostRuntime) -> Result<(), Fail> {
 
 /// One net `main` with conditions `i`, `o`, `c` and `d`, tasks `a` and `b`, and these flows.
 const FLOWS: (&str, &str) = (
-    r#"
-name = "s"
-top = "main"
-[[net]]
-name = "main"
-input = "i"
-output = "o"
-conditions = ["c","d"]
+    r#"conditions = ["c","d"]
 flows = ["#,
     r#"]
 [[net.task]]
@@ -399,14 +375,7 @@ fn flows_and_removals_of_the_second_net(rt: HostRuntime) -> Result<(), Fail> {
 
 /// Two nets. In `main` are the conditions `i`, `o` and `c`, and the task `b` removes these.
 const REMOVALS: (&str, &str) = (
-    r#"
-name = "s"
-top = "main"
-[[net]]
-name = "main"
-input = "i"
-output = "o"
-conditions = ["c"]
+    r#"conditions = ["c"]
 flows = [["i","a"],["a","c"],["c","b"],["a","b"],["b","o"]]
 [[net.task]]
 name = "a"

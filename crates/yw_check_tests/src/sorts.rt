@@ -1,5 +1,5 @@
 // The sorts of expressions, and what tasks hand over and give back.
-use super::answers::{is_checked, joined};
+use super::answers::{is_checked, with_head};
 use std::alloc::Global;
 use std::test::Fail;
 use yw_read::ReadFault;
@@ -12,21 +12,14 @@ fn is_checked_in(
     number: u32,
     want: &str,
 ) -> Result<bool, ReadFault> {
-    let document = joined(alloc, &[frame.0, keys, frame.1])?;
+    let document = with_head(alloc, &[frame.0, keys, frame.1])?;
     is_checked(alloc, document.as_str(), number, want)
 }
 
 /// A specification with these keys of a task `a`, in a net with a variable of each sort. Flows go from `a` to
 /// the task `e` and to the output.
 const TASK: (&str, &str) = (
-    r#"
-name = "s"
-top = "main"
-[[net]]
-name = "main"
-input = "i"
-output = "o"
-vars = [{name="b",sort="bool"},{name="n",sort="int"},{name="t",sort="text"},{name="ns",sort="ints"},{name="ts",sort="texts"}]
+    r#"vars = [{name="b",sort="bool"},{name="n",sort="int"},{name="t",sort="text"},{name="ns",sort="ints"},{name="ts",sort="texts"}]
 flows = [["i","a"],["a","e"],["a","o"],["e","o"]]
 [[net.task]]
 name = "e"
@@ -149,14 +142,7 @@ fn parameters_that_dont_agree(rt: HostRuntime) -> Result<(), Fail> {
 
 /// A specification with these keys of a task `a` for a net that takes `x` and `y` and gives `y` and `z`.
 const CHILD: (&str, &str) = (
-    r#"
-name = "s"
-top = "main"
-[[net]]
-name = "main"
-input = "i"
-output = "o"
-vars = [{name="n",sort="int"},{name="t",sort="text"},{name="ns",sort="ints"}]
+    r#"vars = [{name="n",sort="int"},{name="t",sort="text"},{name="ns",sort="ints"}]
 flows = [["i","a"],["a","o"]]
 [[net.task]]
 name = "a"

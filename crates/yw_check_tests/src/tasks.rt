@@ -1,33 +1,14 @@
 // Tasks of several items, splits, and sizes.
-use super::answers::{Check, finds, joined};
+use super::answers::{Check, finds, finds_in, joined};
 use std::alloc::{AllocError, Global};
 use std::test::Fail;
 use yw_read::ReadFault;
-
-/// What the check finds where the keys stand between two texts.
-fn finds_in(
-    alloc: Global,
-    by: Check,
-    frame: (&str, &str),
-    keys: &str,
-    want: &str,
-) -> Result<bool, ReadFault> {
-    let document = joined(alloc, &[frame.0, keys, frame.1])?;
-    finds(alloc, by, document.as_str(), want)
-}
 
 // ---- several items
 
 /// A specification with one task `a`, with these keys beside its name.
 const TASK: (&str, &str) = (
-    r#"
-name = "s"
-top = "main"
-[[net]]
-name = "main"
-input = "i"
-output = "o"
-vars = [{name="xs",sort="ints"}]
+    r#"vars = [{name="xs",sort="ints"}]
 flows = [["i","a"],["a","o"]]
 [[net.task]]
 name = "a"
@@ -144,14 +125,7 @@ fn first_task_whose_items_dont_fit(rt: HostRuntime) -> Result<(), Fail> {
 
 /// A specification whose task `a` leads to `b` and to `c`, with these keys beside its name.
 const SPLIT: (&str, &str) = (
-    r#"
-name = "s"
-top = "main"
-[[net]]
-name = "main"
-input = "i"
-output = "o"
-conditions = ["c"]
+    r#"conditions = ["c"]
 flows = [["i","a"],["a","b"],["b","o"],["a","c"],["c","d"],["d","o"]]
 [[net.task]]
 name = "d"

@@ -1,5 +1,5 @@
 // All checks together.
-use super::answers::{is_checked, joined};
+use super::answers::{is_checked, with_head};
 use std::alloc::{AllocError, Global};
 use std::test::Fail;
 use yw_documents::{deep, loan, remind, seq};
@@ -17,11 +17,8 @@ fn accepts_whole_documents(rt: HostRuntime) -> Result<(), Fail> {
 /// Keys and tasks of a net, the number of the check that fails, or 0, and its text, or the name.
 type Row = (&'static str, u32, &'static str);
 
-const HEAD: &str =
-    "name = \"s\"\ntop = \"main\"\n[[net]]\nname = \"main\"\ninput = \"i\"\noutput = \"o\"\n";
-
 fn is_row_checked(alloc: Global, row: &Row) -> Result<bool, ReadFault> {
-    let document = joined(alloc, &[HEAD, row.0, "\n"])?;
+    let document = with_head(alloc, &[row.0, "\n"])?;
     is_checked(alloc, document.as_str(), row.1, row.2)
 }
 
@@ -266,10 +263,8 @@ fn the_ninth_net_on_a_way_down(rt: HostRuntime) -> Result<(), Fail> {
 
 /// One task with so many parameters, and further keys.
 fn many_ins(alloc: Global, count: u32, keys: &str) -> Result<String, AllocError> {
-    let mut document = String::from_str(alloc, HEAD)?;
-    document.push_str(
-        "flows = [[\"i\",\"a\"],[\"a\",\"o\"]]\n[[net.task]]\nname = \"a\"\nins = [",
-    )?;
+    let flows = "flows = [[\"i\",\"a\"],[\"a\",\"o\"]]\n[[net.task]]\nname = \"a\"\nins = [";
+    let mut document = with_head(alloc, &[flows])?;
     for k in 0..count {
         write!(document, "{{name=\"p{k}\",sort=\"int\",value=\"1\"}},")?;
     }

@@ -2,20 +2,15 @@
 ghost use Rattle.std.specs.Prelude.{◌≡◌, ◌<◌, IfOk, count_by, length};
 ghost use Rattle.std.specs.List.{list_all};
 ghost use Rattle.yw_enabled.specs.Left.{IsLeavingAs, are_enough, has_room, is_done, reaches, split_has_room};
-ghost use Rattle.yw_state.specs.After.{count_on};
-ghost use Rattle.yw_state.specs.Nets.{is_among};
 ghost use Rattle.yw_state.specs.Words.{is_completed};
 ghost use Rattle.yw_tree.specs.declared.NetState.{out-NetState};
 
 use std::alloc::{AllocError, Global};
-use yw_mark::split_places;
+use yw_mark::{MOST_TOKENS, count_on, is_among, split_places};
 use yw_spec::{Net, Task};
 use yw_state::{Marks, Stage};
 use yw_task::{items_in, kept_values, task_at};
 use yw_tree::{NetState, Node};
-
-/// The most tokens that a place may have.
-const MOST_TOKENS: u64 = 1_000_000;
 
 /// It has made its values.
 fn is_completed(stage: Stage) -> bool
@@ -64,20 +59,6 @@ fn are_enough(task: &Task, nodes: &[Node]) -> bool
 {
     let done = done_count(nodes);
     0 < nodes.len() && (done == nodes.len() || reaches(task, done))
-}
-
-/// It is one of these.
-fn is_among(places: &[usize], c: usize) -> bool
-    ensures { result ≡ is_among places.now c }
-{
-    places.iter().any(|place| c == *place)
-}
-
-/// How many tokens are on a place.
-fn count_on(marks: &Marks, c: usize) -> u64
-    ensures { result ≡ count_on marks.now c }
-{
-    marks.get(c).copied().unwrap_or(0)
 }
 
 /// One token more on the place is not too many, once the removal set is emptied.

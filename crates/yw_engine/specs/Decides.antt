@@ -18,6 +18,7 @@ use Rattle.yw_state.specs.declared.event.Event.{Event}
 use Rattle.yw_state.specs.declared.rule.Refusal.{Refusal}
 use Rattle.yw_state.specs.declared.rule.Rule.{Rule}
 use Rattle.yw_state.specs.declared.rule.Rule.TheVariants.{NotQuiet}
+use Rattle.yw_still.specs.Still.{SomethingComes}
 
 -- ---- an event
 
@@ -60,10 +61,11 @@ Answers old e d new = (c : Command) → Breaks reader (state_of old) c None → 
 
 -- ---- a command of a case
 
--- What is broken before the case must be quiet, and that it is so: this rule, or NotQuiet; nothing where neither is broken.
+-- What is broken before the case must be quiet, and that it is so: this rule, or NotQuiet where something comes of itself; nothing where
+-- neither is broken.
 abbrev pub IsInFront : Standing → Option Rule → ℕ → Option Refusal → Type 0
 IsInFront h (Some rule) n found = found ≡ Some (placeless rule)
-IsInFront h None n (Some refusal) = (IsQuiet (state_of h) n → ⊥) × (refusal ≡ placeless NotQuiet)
+IsInFront h None n (Some refusal) = SomethingComes (state_of h) n × (refusal ≡ placeless NotQuiet)
 IsInFront h None n None = IsQuiet (state_of h) n
 
 -- in what is held the command breaks this rule first, or none

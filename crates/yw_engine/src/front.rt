@@ -39,8 +39,8 @@ pub fn in_front(work: &Work, front: Option<Rule>, case: u64) -> Result<Option<Re
     if let Some(rule) = front {
         return Ok(Some(placeless(work.alloc, rule)));
     }
-    if work.is_case_quiet(case)? {
-        return Ok(None);
+    match work.next_event(case)? {
+        Some(_event) => Ok(Some(placeless(work.alloc, Rule::NotQuiet))),
+        None => Ok(None),
     }
-    Ok(Some(placeless(work.alloc, Rule::NotQuiet)))
 }

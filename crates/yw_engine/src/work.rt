@@ -26,7 +26,7 @@ impl Work {
     ghost use Rattle.yw_state.specs.Automatic.{IsQuiet};
 
     /// The next event that comes of itself in a case, or `None` where the case is quiet. An `Err` says that no memory was left.
-    fn next_event(&self, case: u64) -> Result<Option<Event>, AllocError>
+    pub fn next_event(&self, case: u64) -> Result<Option<Event>, AllocError>
         requires { MayStand self.now.standing }
         ensures { IfOk result (IsNext self.now.standing case) }
     {
@@ -36,7 +36,7 @@ impl Work {
     }
 
     /// Nothing comes of itself in a case. An `Err` says that no memory was left.
-    pub fn is_case_quiet(&self, case: u64) -> Result<bool, AllocError>
+    fn is_case_quiet(&self, case: u64) -> Result<bool, AllocError>
         requires { MayStand self.now.standing }
         ensures { IfOk result (λ quiet. IsTrue quiet ↔ IsQuiet (state_of self.now.standing) case) }
     {

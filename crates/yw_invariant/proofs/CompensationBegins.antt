@@ -18,7 +18,7 @@ use Rattle.yw_state.proofs.MapLemmas.{by_name, by_option, get-update_same, nowhe
 use Rattle.yw_state.proofs.Absent.{part-kept}
 use Rattle.yw_state.specs.After.{change, new_net, stands, where_some, where_spec, with_run, with_sites}
 use Rattle.yw_state.specs.Allowed.{depth_end}
-use Rattle.yw_state.specs.ByName.{Named, first_values, given_named, source_at, var_named}
+use Rattle.yw_state.specs.ByName.{Valuation, first_values, given_named, source_at, var_named}
 use Rattle.yw_state.specs.Exlets.{end_if_over, is_over, taken_first}
 use Rattle.yw_state.specs.Identity.{Ident, is_case_ident, parent}
 use Rattle.yw_state.specs.Map as Map
@@ -138,11 +138,11 @@ module _ (reader : Reader) (sound : ReadsSound reader) (s : State) (well : IsWel
           to_waiting name spec net None = refl
           to_waiting name spec net (Some z) = refl
 
-  with_source : (name : List ℕ) (spec : Spec) (net : Net) (source : Named) → ((n : List ℕ) → source n ≡ source_at s j n) → IsWell reader (end_if_over (change s r (λ x. begins_with s name spec net (with_run taken_first x))) r)
+  with_source : (name : List ℕ) (spec : Spec) (net : Net) (source : Valuation) → ((n : List ℕ) → source n ≡ source_at s j n) → IsWell reader (end_if_over (change s r (λ x. begins_with s name spec net (with_run taken_first x))) r)
       → IsWell reader (end_if_over (with_sites s (update (update s.sites r (with_run taken_first)) r (λ x. stands (new_net name spec.top net (first_values source net)) (with_run (λ (z : RunPart). record z { waiting = true }) x)))) r)
   with_source name spec net source same w =
       subst (λ (m : Sites). IsWell reader (end_if_over (with_sites s m) r)) (sym (updated_twice s.sites r (with_run taken_first) (λ x. stands (new_net name spec.top net (first_values source net)) (with_run (λ (z : RunPart). record z { waiting = true }) x))))
-      (subst (λ (f : Named). IsWell reader (end_if_over (change s r (λ x. stands (new_net name spec.top net (first_values f net)) (with_run (λ (z : RunPart). record z { waiting = true }) (with_run taken_first x)))) r)) (λ i n. sym (same n) i) w)
+      (subst (λ (f : Valuation). IsWell reader (end_if_over (change s r (λ x. stands (new_net name spec.top net (first_values f net)) (with_run (λ (z : RunPart). record z { waiting = true }) (with_run taken_first x)))) r)) (λ i n. sym (same n) i) w)
 
   pub compensated_is_well : (name : List ℕ)
       → IsWell reader (end_if_over (if nat_lt (length r) depth_end then where_spec taken name (λ spec net. change taken r (begins_with taken name spec net)) else taken) r)

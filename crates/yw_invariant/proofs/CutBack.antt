@@ -1,39 +1,33 @@
 -- An item begins anew, or counts as completed, while a run at it goes on: what is well stays well.
-use Rattle.std.specs.Prelude.{◌≡◌, ◌⊎◌, ◌||◌, Bool, true, false, not, [], Option, Some, None, is_some, option_map, option_and_then, refl, if◌then◌else◌}
+use Rattle.std.specs.Prelude.{◌≡◌, ◌⊎◌, ◌||◌, Bool, true, false, not, [], Some, None, is_some, option_map, option_and_then, refl, if◌then◌else◌}
 use Rattle.std.proofs.Common.{sym, ◌∙◌, ap, subst, inl, inr, arith}
-use Rattle.std.proofs.lemmas.Bool.{or_left, or_right}
+use Rattle.std.proofs.lemmas.Bool.{or_left}
 use Rattle.std.proofs.lemmas.Slice.Eq.{bytes_eq-Decides}
 use Rattle.yw_invariant.proofs.Changes.{numbers_left, updated_twice}
 use Rattle.yw_invariant.proofs.Places.{deep_is_no_case, not_under_itself, stays_above, strictly_under_parent}
 use Rattle.yw_invariant.proofs.ReadyItems as items
 use Rattle.yw_invariant.proofs.RunsGoOn as runs
-use Rattle.yw_invariant.proofs.Turning.{Turns, target_same, turned_is_well, same_option}
+use Rattle.yw_invariant.proofs.Turning.{Turns, item_here, part_here, turned_is_well, same_option}
 use Rattle.yw_invariant.proofs.Values.{given_fits}
-use Rattle.yw_state.proofs.Alike.{item_in, net_by}
+use Rattle.yw_state.proofs.Alike.{item_in, net_by, nothing_due}
 use Rattle.yw_state.proofs.ItemWell.{renewed}
-use Rattle.yw_state.proofs.MapLemmas.{by_name, by_option, get-retain_kept, get-update_same, never, nowhere, retain_stands}
-use Rattle.yw_state.proofs.MarksWell.{make_due_is_well}
+use Rattle.yw_state.proofs.MapLemmas.{by_name, by_option, get-retain_kept, never, nowhere, retain_stands}
+use Rattle.yw_state.proofs.MarksWell.{item_due_is_well}
 use Rattle.yw_state.proofs.RetainWell.{retained_is_well}
 use Rattle.yw_state.proofs.Tests.{or_cases}
 use Rattle.yw_state.specs.After.{change, completed, make_due, make_select_due, with_item, with_sites}
 use Rattle.yw_state.specs.ByName.{made_of_given}
 use Rattle.yw_state.specs.Identity.{Ident, parent, same, strictly_under}
+use Rattle.yw_state.specs.Judged.{task_place}
 use Rattle.yw_state.specs.Map.{get, retain, update}
 use Rattle.yw_state.specs.Nets.{is_atomic}
 use Rattle.yw_state.specs.Options.{is_some_and}
-use Rattle.yw_state.specs.State.{State, Site, Sites, ItemAt, ItemPart, RunPart, bare_but, is_case, is_target, item_at, item_part, net_at, no_checks, run_part}
+use Rattle.yw_state.specs.State.{State, Site, Sites, ItemAt, ItemPart, RunPart, bare_but, item_at, item_part, net_at, no_checks, run_part}
 use Rattle.yw_state.specs.Texts.{Reader}
 use Rattle.yw_state.specs.Well.{IsWell, ItemFits, wants_net}
-use Rattle.yw_state.specs.Words.{has_check, is_ready}
+use Rattle.yw_state.specs.Words.{is_ready}
 use Rattle.yw_state.specs.declared.part.Stage.TheVariants.{Ready}
-use Rattle.yw_state.specs.declared.tree.TreeKind.{TreeKind}
-use Rattle.yw_state.specs.declared.tree.TreeKind.TheVariants.{Pre, Post, Select}
-
-no_check : (kind : TreeKind) → has_check no_checks kind ≡ false
-no_check Pre = refl
-no_check Post = refl
-no_check Select = refl
-no_check kind = refl
+use Rattle.yw_state.specs.declared.tree.TreeKind.TheVariants.{Select}
 
 module _ (reader : Reader) (s : State) (well : IsWell reader s) (r : Ident) (y : RunPart) (run : run_part s r ≡ Some y) (idle : y.waiting ≡ false) where
   abbrev j : Ident
@@ -111,7 +105,7 @@ module _ (reader : Reader) (s : State) (well : IsWell reader s) (r : Ident) (y :
           to_run = λ z. same_option z.run;
           task = task;
           suspended = λ z here e. left_is_well.marks.suspended j (ap (λ o. is_some_and o (λ (w : Site). w.suspended)) here ∙ e);
-          due = λ z here kind e. never (sym (no_check kind) ∙ e);
+          due = λ z here kind e. never (sym (nothing_due kind) ∙ e);
           select = λ z here e. never e;
           wants = items.of_this reader left left_is_well j x now (λ z. wants_net (renewed g z) ≡ false) wants;
           waits = λ z e. nowhere (sym (items.no_run reader left left_is_well j x now) ∙ e);
@@ -132,30 +126,20 @@ module _ (reader : Reader) (s : State) (well : IsWell reader s) (r : Ident) (y :
     pub cut_back_is_well : IsWell reader (change (with_sites s (bare_but s.sites j r)) j (λ z. record (with_item g z) { due = no_checks }))
     cut_back_is_well = subst (λ (m : Sites). IsWell reader (with_sites s m)) (sym cut_twice) cut_is_well
 
-    is_item : is_target cut_state j ≡ true
-    is_item =
-        target_same left j None cut g (λ z. z) cuts left_is_well.parents j
-        ∙ or_right (is_case left j) (is_some (item_part left j)) (ap is_some there.1)
-
-    part_now : item_part cut_state j ≡ option_map g (item_part left j)
-    part_now =
-        ap (option_and_then (λ (z : Site). z.item)) (get-update_same by_name left.sites j cut) ∙ mapped (get left.sites j)
-      where
-        mapped : (o : Option Site) → option_and_then (λ (z : Site). z.item) (option_map cut o) ≡ option_map g (option_and_then (λ (z : Site). z.item) o)
-        mapped None = refl
-        mapped (Some z) = refl
-
     -- a worklet may be chosen for it where it is ready
     pub select_due_is_well : ((z : ItemPart) → is_ready (g z).stage ≡ true)
-        → IsWell reader (make_select_due (change (with_sites s (bare_but s.sites j r)) j (λ z. record (with_item g z) { due = no_checks })) j x.of_task.task)
+        → IsWell reader (make_select_due (change (with_sites s (bare_but s.sites j r)) j (λ z. record (with_item g z) { due = no_checks })) j x.of_task)
     select_due_is_well ready =
-        subst (λ (m : Sites). IsWell reader (make_select_due (with_sites s m) j x.of_task.task)) (sym cut_twice) (either (is_atomic x.of_task.task))
+        subst (λ (m : Sites). IsWell reader (make_select_due (with_sites s m) j x.of_task)) (sym cut_twice) (either (is_atomic x.of_task.task))
       where
         ready_now : is_some_and (item_part cut_state j) (λ z. is_ready z.stage) ≡ true
-        ready_now = ap (λ o. is_some_and o (λ (z : ItemPart). is_ready z.stage)) (part_now ∙ ap (option_map g) there.1) ∙ ready there.0
+        ready_now = ap (λ o. is_some_and o (λ (z : ItemPart). is_ready z.stage)) (part_here left j None cut g (λ z. z) cuts left_is_well.parents ∙ ap (option_map g) there.1) ∙ ready there.0
 
-        either : (b : Bool) → IsWell reader (if b then make_due cut_state j Select else cut_state)
-        either true = make_due_is_well reader cut_state j Select is_item (λ e. ready_now) cut_is_well
+        item_now : item_at cut_state j ≡ Some (renewed g x)
+        item_now = item_here left j None cut g (λ z. z) cuts left_is_well.parents ∙ ap (option_map (renewed g)) now
+
+        either : (b : Bool) → IsWell reader (if b then make_due cut_state j (task_place x.of_task Select) else cut_state)
+        either true = item_due_is_well reader cut_state j cut_is_well (renewed g x) item_now Select (λ e. ready_now)
         either false = cut_is_well
 
   -- ---- the two primitives
@@ -164,7 +148,7 @@ module _ (reader : Reader) (s : State) (well : IsWell reader s) (r : Ident) (y :
   restarts z = record z { stage = Ready; who = None; made = [] }
 
   pub restarted_is_well : (x : ItemAt) → item_at s j ≡ Some x
-      → IsWell reader (make_select_due (change (with_sites s (bare_but s.sites j r)) j (λ z. record (with_item restarts z) { due = no_checks })) j x.of_task.task)
+      → IsWell reader (make_select_due (change (with_sites s (bare_but s.sites j r)) j (λ z. record (with_item restarts z) { due = no_checks })) j x.of_task)
   restarted_is_well x item =
       select_due_is_well x item restarts (λ z. refl) refl
       (record { given = (well.content.item j x item).given; made = λ e. never e; not_made = λ e. refl; who_atomic = λ e. never e; who_begun = λ e. never e })

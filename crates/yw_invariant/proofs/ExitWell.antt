@@ -3,7 +3,7 @@ use Rattle.std.specs.Prelude.{◌≡◌, ◌≤◌, ◌<◌, ◌&&◌, ◌||◌,
 use Rattle.std.specs.Cmp.Lexicographic.{pointwise}
 use Rattle.std.specs.List.{list_all}
 use Rattle.std.proofs.Common.{sym, ◌∙◌, ap, subst, arith}
-use Rattle.std.proofs.lemmas.Bool.{and_from, and_parts, eqb-true, or_left}
+use Rattle.std.proofs.lemmas.Bool.{and_parts, eqb-true}
 use Rattle.yw_base.specs.Identity.{under}
 use Rattle.yw_base.specs.Values.{most_elements}
 use Rattle.yw_base.specs.declared.gate.Gate.{Gate}
@@ -13,27 +13,26 @@ use Rattle.yw_invariant.proofs.Assigned.{kept_fit}
 use Rattle.yw_invariant.proofs.Changes.{dropped_is_well}
 use Rattle.yw_invariant.proofs.MadeRows.{made_rows_few, made_rows_fit}
 use Rattle.yw_invariant.proofs.NetGoesOn.{KeepsNet, goes_on_is_well, net_here_now, rebased}
-use Rattle.yw_invariant.proofs.NetsEnd.{is_not_select}
 use Rattle.yw_invariant.proofs.Tasks.{OfTask, net_sound, of_spec, part_of, task_there}
 use Rattle.yw_invariant.proofs.TokensFit.{apart_where, count, given_few, given_length, none_on, one_on, room_once_wiped, wiped_few, wiped_length}
 use Rattle.yw_sound.specs.Sound.{ReadsSound, TaskIsSound, are_apart}
-use Rattle.yw_spec.specs.declared.spec.Net.{Net}
 use Rattle.yw_spec.specs.declared.spec.Place.{Place}
 use Rattle.yw_spec.specs.declared.task.Task.{Task}
 use Rattle.yw_state.proofs.Absent.{idents_of}
 use Rattle.yw_state.proofs.Alike.{net_by}
 use Rattle.yw_state.proofs.MapLemmas.{by_name, by_option, by_test, get-retain_gone, get-retain_kept, never, nowhere, some_same}
-use Rattle.yw_state.proofs.MarksWell.{make_due_is_well}
-use Rattle.yw_state.proofs.Tests.{then_some, there_and}
-use Rattle.yw_state.specs.After.{change, empty_region, exit, make_due, produce, where_some, with_net, with_sites, without_items}
+use Rattle.yw_state.proofs.MarksWell.{case_due_is_well}
+use Rattle.yw_state.proofs.Tests.{then_some, there, there_and}
+use Rattle.yw_state.specs.After.{change, exit, exit_to, items_gone, make_due, post_at_output, region_emptied, values_assigned, where_some, with_net, with_sites, without_items}
 use Rattle.yw_state.specs.Allowed.{Allowed, allows, exit_values, may_leave, most_tokens, place_numbers}
 use Rattle.yw_state.specs.Events.{after}
 use Rattle.yw_state.specs.Identity.{Ident, is_case_ident}
+use Rattle.yw_state.specs.Judged.{case_place}
 use Rattle.yw_state.specs.Map.{get}
 use Rattle.yw_state.specs.Nets.{is_among}
 use Rattle.yw_state.specs.Options.{is_some_and}
 use Rattle.yw_state.specs.Passing.{made_rows, split_places}
-use Rattle.yw_state.specs.State.{State, Site, Sites, NetAt, NetPart, TaskAt, drop, drop_all, is_item, items_of, net_at, net_part, task_at, tokens_on}
+use Rattle.yw_state.specs.State.{State, Site, Sites, NetAt, NetPart, TaskAt, drop, drop_all, items_of, net_at, net_part, task_at, tokens_on}
 use Rattle.yw_state.specs.Texts.{Reader, Said}
 use Rattle.yw_state.specs.Values.{Row}
 use Rattle.yw_state.specs.Well.{IsWell, NetFits}
@@ -105,28 +104,22 @@ puts_on s i x cs = pointwise nat_eq cs (split_places x.task (exit_values s i x))
 
 -- ---- a case's check behind its end
 
--- as `exit` ends
-abbrev post_at_output : State → Ident → Net → List ℕ → State
-post_at_output s i net cs = if is_case_ident i && is_among cs net.output then make_due s i Post else s
-
-post_is_well : (reader : Reader) (s : State) (i : Ident) (net : Net) (cs : List ℕ) → IsWell reader s → IsWell reader (post_at_output s i net cs)
-post_is_well reader s i net cs well = elsewhere (is_case_ident i) refl (is_among cs net.output)
+post_is_well : (reader : Reader) (s : State) (i : Ident) (n : NetAt) (cs : List ℕ) → ((p : NetPart) → net_part s i ≡ Some p → p.spec ≡ n.part.spec) → IsWell reader s → IsWell reader (post_at_output s i n cs)
+post_is_well reader s i n cs same well = elsewhere (is_case_ident i) refl (is_among cs n.net.output)
   where
     -- where nothing stands, nothing changes
-    due : is_case_ident i ≡ true → IsWell reader (make_due s i Post)
+    due : is_case_ident i ≡ true → IsWell reader (make_due s i (case_place n.part.spec Post))
     due case =
         by_option (get s.sites i)
         (λ none. subst (λ (m : Sites). IsWell reader (with_sites s m)) (sym (unchanged none)) well)
         (λ x some.
-        make_due_is_well reader s i Post
-        (or_left (is_case_ident i && is_some (net_part s i)) (is_item s i) (and_from _ _ case (ancestors.net_of_case reader s well i (ap is_some some) case)))
-        (λ e. absurd (is_not_select e))
-        well)
+        let (p, net) = there (net_part s i) (ancestors.net_of_case reader s well i (ap is_some some) case) in
+        subst (λ name. IsWell reader (make_due s i (case_place name Post))) (same p net) (case_due_is_well reader s i well p case net Post refl))
       where
-        unchanged : get s.sites i ≡ None → (make_due s i Post).sites ≡ s.sites
+        unchanged : get s.sites i ≡ None → (make_due s i (case_place n.part.spec Post)).sites ≡ s.sites
         unchanged none = rw none refl
 
-    elsewhere : (b : Bool) → is_case_ident i ≡ b → (c : Bool) → IsWell reader (if b && c then make_due s i Post else s)
+    elsewhere : (b : Bool) → is_case_ident i ≡ b → (c : Bool) → IsWell reader (if b && c then make_due s i (case_place n.part.spec Post) else s)
     elsewhere true case true = due case
     elsewhere true case false = well
     elsewhere false case c = well
@@ -143,7 +136,7 @@ module _ (reader : Reader) (sound : ReadsSound reader) (s : State) (well : IsWel
   -- ---- the items have gone, and the assignments are made
 
   abbrev left : State
-  left = without_items i s x.number
+  left = items_gone s i x
 
   left_is_well : IsWell reader left
   left_is_well = dropped_all_is_well reader (idents_of s i x.number) s well
@@ -175,15 +168,14 @@ module _ (reader : Reader) (sound : ReadsSound reader) (s : State) (well : IsWel
   left_fits n e = subst (λ (m : NetAt). NetFits (rebased new_values m)) (net_left n e) new_values_fit
 
   abbrev assigned : State
-  assigned = change left i (with_net new_values)
+  assigned = values_assigned s i x
 
   assigned_is_well : IsWell reader assigned
   assigned_is_well = goes_on_is_well left i new_values new_values_keep left_fits reader left_is_well
 
-  tokens_assigned : (n : NetAt) → net_at assigned i ≡ Some n → n.part.tokens ≡ x.within.part.tokens
-  tokens_assigned n e =
-      let (m, there, is) = net_here_now left i new_values new_values_keep left_fits n e in
-      ap (λ (y : NetAt). y.part.tokens) (sym is) ∙ ap (λ (y : NetAt). y.part.tokens) (sym (net_left m there))
+  net_assigned : (n : NetAt) → net_at assigned i ≡ Some n → rebased new_values x.within ≡ n
+  net_assigned n e =
+      let (m, stood, is) = net_here_now left i new_values new_values_keep left_fits n e in ap (rebased new_values) (net_left m stood) ∙ is
 
   -- ---- the removal set is emptied
 
@@ -209,15 +201,18 @@ module _ (reader : Reader) (sound : ReadsSound reader) (s : State) (well : IsWel
   wiped_is_well = goes_on_is_well assigned i without_tokens without_tokens_keep assigned_fits reader assigned_is_well
 
   abbrev emptied : State
-  emptied = fold (without_items i) wiped x.task.drop_tasks
+  emptied = region_emptied s i x
 
   emptied_is_well : IsWell reader emptied
   emptied_is_well = without_each_is_well reader i x.task.drop_tasks wiped wiped_is_well
 
-  tokens_emptied : (n : NetAt) → net_at emptied i ≡ Some n → n.part.tokens ≡ fold none_on x.within.part.tokens x.task.drop_places
-  tokens_emptied n e =
-      let (m, there, is) = net_here_now assigned i without_tokens without_tokens_keep assigned_fits n (net_before_each i x.task.drop_tasks wiped n e) in
-      ap (λ (y : NetAt). y.part.tokens) (sym is) ∙ ap (λ (tokens : List ℕ). fold none_on tokens x.task.drop_places) (tokens_assigned m there)
+  abbrev within_emptied : NetAt
+  within_emptied = rebased without_tokens (rebased new_values x.within)
+
+  net_emptied : (n : NetAt) → net_at emptied i ≡ Some n → within_emptied ≡ n
+  net_emptied n e =
+      let (m, stood, is) = net_here_now assigned i without_tokens without_tokens_keep assigned_fits n (net_before_each i x.task.drop_tasks wiped n e) in
+      ap (rebased without_tokens) (net_assigned m stood) ∙ is
 
   -- ---- each of the places gets a token
 
@@ -234,7 +229,7 @@ module _ (reader : Reader) (sound : ReadsSound reader) (s : State) (well : IsWel
 
   room : (n : NetAt) → net_at emptied i ≡ Some n → (c : ℕ) → is_among cs c ≡ true → count n.part.tokens c < most_tokens
   room n e c within =
-      subst (λ (tokens : List ℕ). count tokens c < most_tokens) (sym (tokens_emptied n e))
+      subst (λ (y : NetAt). count y.part.tokens c < most_tokens) (net_emptied n e)
       (room_once_wiped x.task.drop_places x.within.part.tokens c
       (ap (λ k. is_among x.task.drop_places c || nat_lt k most_tokens) (sym (counted c)) ∙ each_passes (has_room_for s i x) cs chosen.1 c within))
 
@@ -253,21 +248,31 @@ module _ (reader : Reader) (sound : ReadsSound reader) (s : State) (well : IsWel
   abbrev given : State
   given = change emptied i (with_net one_more)
 
-  given_is_well : IsWell reader given
-  given_is_well = goes_on_is_well emptied i one_more (record { spec = λ n. refl; net = λ n. refl }) emptied_fits reader emptied_is_well
+  one_more_keep : KeepsNet one_more
+  one_more_keep = record { spec = λ n. refl; net = λ n. refl }
 
-  exited_is_well : IsWell reader (post_at_output given i x.within.net cs)
-  exited_is_well = post_is_well reader given i x.within.net cs given_is_well
+  given_is_well : IsWell reader given
+  given_is_well = goes_on_is_well emptied i one_more one_more_keep emptied_fits reader emptied_is_well
+
+  net_given : (n : NetAt) → net_at given i ≡ Some n → rebased one_more within_emptied ≡ n
+  net_given n e =
+      let (m, stood, is) = net_here_now emptied i one_more one_more_keep emptied_fits n e in ap (rebased one_more) (net_emptied m stood) ∙ is
+
+  -- where the net still stands, it is of the same specification
+  same_spec : (p : NetPart) → net_part given i ≡ Some p → p.spec ≡ x.within.part.spec
+  same_spec p net =
+      let (n, at) = there (net_at given i) (given_is_well.content.of_spec i p net) in
+      let of_part = part_of given p n (ap (option_and_then (net_by given)) (sym net) ∙ at) in
+      ap (λ (q : NetPart). q.spec) (sym of_part) ∙ ap (λ (y : NetAt). y.part.spec) (sym (net_given n at))
+
+  exited_is_well : IsWell reader (exit_to s i x cs)
+  exited_is_well = post_is_well reader given i x.within cs same_spec given_is_well
 
 module _ (reader : Reader) (sound : ReadsSound reader) (s : State) (i : Ident) (t : List ℕ) (places : List Place) (said : Said) (well : IsWell reader s) where
   exit_is_well : (x : TaskAt) → task_at s i t ≡ Some x → is_some_and (place_numbers x.within.net places) (puts_on s i x) ≡ true → IsWell reader (exit s i places x)
   exit_is_well x is puts =
       let (cs, numbers, fit) = there_and (place_numbers x.within.net places) (puts_on s i x) puts in
-      subst (λ o. IsWell reader (exits (unwrap_or o []))) (sym numbers) (exited_is_well reader sound s well i x (task_there s i t x is) cs fit)
-    where
-      -- as `exit` does
-      exits : List ℕ → State
-      exits cs = post_at_output (produce (empty_region (change (without_items i s x.number) i (with_net (λ n. record n { vals = exit_values s i x }))) i x.task) i cs) i x.within.net cs
+      subst (λ o. IsWell reader (exit_to s i x (unwrap_or o []))) (sym numbers) (exited_is_well reader sound s well i x (task_there s i t x is) cs fit)
 
   pub exit_keeps_well : Allowed s (events.Exit i t places) said → IsWell reader (after s (events.Exit i t places) said)
   unfolding allows after

@@ -1,24 +1,15 @@
 -- What allowed events lead to from the opening is well, where specifications are sound.
-use Rattle.std.specs.Prelude.{◌≡◌, true, List, [], ◌∷◌}
-use Rattle.std.proofs.Common.{sym, subst, arith}
+use Rattle.std.specs.Prelude.{List, [], ◌∷◌}
+use Rattle.std.proofs.Common.{sym, ◌∙◌, subst, arith}
 use Rattle.yw_invariant.proofs.EventsWell.{event_keeps_well}
 use Rattle.yw_sound.specs.Sound.{ReadsSound}
+use Rattle.yw_state.proofs.Alike.{nothing_due}
 use Rattle.yw_state.proofs.MapLemmas.{never, nowhere}
 use Rattle.yw_state.specs.Events.{LeadAll}
-use Rattle.yw_state.specs.State.{State, no_checks, opening}
+use Rattle.yw_state.specs.State.{State, opening}
 use Rattle.yw_state.specs.Texts.{Reader}
 use Rattle.yw_state.specs.Well.{IsWell}
-use Rattle.yw_state.specs.Words.{has_check}
 use Rattle.yw_state.specs.declared.event.Event.{Event}
-use Rattle.yw_state.specs.declared.tree.TreeKind.{TreeKind}
-use Rattle.yw_state.specs.declared.tree.TreeKind.TheVariants.{Pre, Post, Select}
-
--- no check is due there
-none_due : {A : Type 0} (kind : TreeKind) → has_check no_checks kind ≡ true → A
-none_due Pre e = never e
-none_due Select e = never e
-none_due Post e = never e
-none_due kind e = never e
 
 -- nothing stands there
 pub opening_is_well : (reader : Reader) → IsWell reader opening
@@ -53,8 +44,8 @@ opening_is_well reader =
       };
       marks = record {
         suspended = λ j e. never e;
-        due = λ j kind e. none_due kind e;
-        due_has_rule = λ j kind e. none_due kind e;
+        due = λ j kind e. never (sym (nothing_due kind) ∙ e);
+        due_has_rule = λ j kind e. never (sym (nothing_due kind) ∙ e);
         select = λ j e. never e;
       };
       content = record {

@@ -1,18 +1,20 @@
--- An item comes, under a number that wasn't drawn, in a net that has its task: what is well stays well.
-use Rattle.std.specs.Prelude.{◌≡◌, ◌≤◌, ◌<◌, ◌+◌, ℕ, ◌&&◌, ◌||◌, ◌==◌, Bool, true, false, not, List, [], length, Option, Some, None, is_some, option_map, option_and_then, unwrap_or, nat_lt, refl, slice_get, IsNone, if◌then◌else◌}
+-- An item comes with its checks, under a number that wasn't drawn, in a net that has its task: what is well stays well.
+use Rattle.std.specs.Prelude.{◌≡◌, ◌≤◌, ◌<◌, ◌+◌, ℕ, ◌&&◌, ◌||◌, ◌==◌, Bool, true, false, not, List, [], length, Option, Some, None, is_some, option_map, option_and_then, unwrap_or, nat_lt, refl, slice_get, if◌then◌else◌}
 use Rattle.std.specs.List.{cons_option, list_all}
 use Rattle.std.specs.Ordering.{eq_by_cmp}
 use Rattle.std.proofs.Common.{sym, ◌∙◌, ap, subst, arith}
-use Rattle.std.proofs.lemmas.Bool.{eqb-true, lt-ltb, ltb-true, or_right}
-use Rattle.yw_base.specs.Identity.{is_identity, number_end}
+use Rattle.std.proofs.lemmas.Bool.{eqb-true, lt-ltb, ltb-true}
+use Rattle.yw_base.specs.Identity.{is_identity}
 use Rattle.yw_spec.specs.declared.task.Task.{Task}
+use Rattle.yw_invariant.proofs.Children.{IsNew}
 use Rattle.yw_invariant.proofs.EntryComes.{length-insert_new}
 use Rattle.yw_invariant.proofs.Places.{parent_of_child}
-use Rattle.yw_state.proofs.Alike.{all_weaker, asked_of, due_test, item_in, net_by}
+use Rattle.yw_state.proofs.Alike.{all_weaker, asked_of, item_in, net_by}
 use Rattle.yw_state.proofs.MapLemmas.{by_name, by_option, by_test, get-insert_other, get-insert_same, never, nowhere, some_same, tied, tied_self}
+use Rattle.yw_state.proofs.TreePlaces.{item_has_rule, item_is_target}
 use Rattle.yw_state.specs.After.{new_item, put, with_next}
 use Rattle.yw_state.specs.Identity.{Ident, case_number, is_case_ident, is_child, parent}
-use Rattle.yw_state.specs.Judged.{has_rule}
+use Rattle.yw_state.specs.Judged.{has_rule, has_rules, task_place}
 use Rattle.yw_state.specs.Map.{get, insert, lexical}
 use Rattle.yw_state.specs.Options.{is_some_and}
 use Rattle.yw_state.specs.Passing.{row_fits}
@@ -20,34 +22,30 @@ use Rattle.yw_state.specs.RuleTree.{TreeRule}
 use Rattle.yw_state.specs.State.{State, Site, Sites, NetPart, ItemPart, RunPart, ItemAt, NetAt, TaskAt, due_at, is_suspended, is_target, item_at, item_of_task, item_part, items_of, net_at, net_part, no_checks, run_part}
 use Rattle.yw_state.specs.Texts.{Reader}
 use Rattle.yw_state.specs.Values.{Row}
-use Rattle.yw_state.specs.Well.{NumbersFit, NetsStand, ParentsStand, MarksStand, ContentFits, IsWell, ItemFits, RulesFit, DepthFits, IsAtLevel, is_composite, is_drawn, most_items, wants_net}
+use Rattle.yw_state.specs.Well.{NumbersFit, NetsStand, ParentsStand, MarksStand, ContentFits, IsWell, ItemFits, RulesFit, DepthFits, IsAtLevel, is_composite, item_limit, wants_net}
 use Rattle.yw_state.specs.Well.IsAtLevel.{first, further}
 use Rattle.yw_state.specs.Words.{has_check, is_ready}
+use Rattle.yw_state.specs.declared.part.Checks.{Checks}
 use Rattle.yw_state.specs.declared.part.Stage.TheVariants.{Ready}
 use Rattle.yw_state.specs.declared.tree.TreeKind.{TreeKind}
 use Rattle.yw_state.specs.declared.tree.TreeKind.TheVariants.{Select}
 
--- An item of the task may come at j, which is given these, and the counter is this then.
-pub record ItemMayCome (s : State) (j : Ident) (x : TaskAt) (given : Row) (next : ℕ) : Type 0 where
-  pub undrawn : is_drawn s j ≡ false
-  pub later : s.next ≤ next
-  pub most : next ≤ number_end
-  pub identity : is_identity j ≡ true
-  pub drawn : list_all (λ n. nat_lt n next) j ≡ true
-  pub over : IsNone (get s.ended (case_number j))
-  pub deep : 2 ≤ length j
+-- An item of the task may come at j, which is given these and judged by these, and the counter is this then.
+pub record ItemMayCome (s : State) (j : Ident) (x : TaskAt) (given : Row) (due : Checks) (next : ℕ) : Type 0 where
+  pub fresh : IsNew s j next
   pub within : net_at s (parent j) ≡ Some x.within
   pub task : slice_get x.within.net.tasks x.number ≡ Some x.task
   pub fits : row_fits x.task.ins given ≡ true
-  pub few : length (items_of s (parent j) x.number) < most_items x.task.many
+  pub few : length (items_of s (parent j) x.number) < item_limit x.task.many
+  pub checks : (kind : TreeKind) → has_check due kind ≡ true → has_rules s (task_place x kind) ≡ true
 
 no_item : (part : Option ItemPart) → item_in part None ≡ None
 no_item None = refl
 no_item (Some x) = refl
 
-module _ (s : State) (j : Ident) (x : TaskAt) (given : Row) (next : ℕ) (may : ItemMayCome s j x given next) (numbers : NumbersFit s) where
+module _ (s : State) (j : Ident) (x : TaskAt) (given : Row) (due : Checks) (next : ℕ) (may : ItemMayCome s j x given due next) (numbers : NumbersFit s) where
   abbrev site : Site
-  site = new_item x.number given
+  site = new_item x.number given due
 
   abbrev part : ItemPart
   part = record { task = x.number; stage = Ready; given = given; made = []; who = None }
@@ -72,7 +70,7 @@ module _ (s : State) (j : Ident) (x : TaskAt) (given : Row) (next : ℕ) (may : 
       old other (get-insert_other by_name s.sites j site k other))
 
   nothing_at : get s.sites j ≡ None
-  nothing_at = by_option (get s.sites j) (λ none. none) (λ y stands. never (sym may.undrawn ∙ numbers.drawn j y stands))
+  nothing_at = by_option (get s.sites j) (λ none. none) (λ y stands. never (sym may.fresh.undrawn ∙ numbers.drawn j y stands))
 
   -- what is read alike of an item and of nothing is as before
   read_same : {A : Type 0} (read : Option Site → A) → read (Some site) ≡ read None → (k : Ident) → read (get sites k) ≡ read (get s.sites k)
@@ -90,8 +88,14 @@ module _ (s : State) (j : Ident) (x : TaskAt) (given : Row) (next : ℕ) (may : 
   suspended_same : (k : Ident) → is_suspended t k ≡ is_suspended s k
   suspended_same = read_same (λ o. is_some_and o (λ (y : Site). y.suspended)) refl
 
-  due_same : (k : Ident) → due_at t k ≡ due_at s k
-  due_same = read_same (λ o. unwrap_or (option_map (λ (y : Site). y.due) o) no_checks) refl
+  abbrev due_in : Option Site → Checks
+  due_in o = unwrap_or (option_map (λ (y : Site). y.due) o) no_checks
+
+  due_here : due_at t j ≡ due
+  due_here = ap due_in (get-insert_same by_name s.sites j site)
+
+  due_same : (k : Ident) → ¬ (k ≡ j) → due_at t k ≡ due_at s k
+  due_same k other = ap due_in (get-insert_other by_name s.sites j site k other)
 
   pub net_at_same : (k : Ident) → net_at t k ≡ net_at s k
   net_at_same k = ap (option_and_then (net_by s)) (net_same k)
@@ -129,7 +133,7 @@ module _ (s : State) (j : Ident) (x : TaskAt) (given : Row) (next : ℕ) (may : 
   target_kept : (k : Ident) → is_target s k ≡ true → is_target t k ≡ true
   target_kept =
       of_each (λ k. is_target s k ≡ true → is_target t k ≡ true)
-      (λ e. or_right (is_case_ident j && is_some (net_part t j)) (is_some (item_part t j)) (ap is_some part_here))
+      (λ e. item_is_target t j new item_here)
       (λ k other e. ap (λ o. is_case_ident k && is_some o || is_some (item_part t k)) (net_same k) ∙ ap (λ o. is_case_ident k && is_some (net_part s k) || is_some o) (part_same k other) ∙ e)
 
   has_rule_same : (k : Ident) (kind : TreeKind) → ¬ (k ≡ j) → has_rule t k kind ≡ has_rule s k kind
@@ -141,15 +145,15 @@ module _ (s : State) (j : Ident) (x : TaskAt) (given : Row) (next : ℕ) (may : 
   numbers_kept : NumbersFit t
   numbers_kept =
       record {
-        least = omega (arith, numbers.least, may.later);
-        most = may.most;
-        identities = λ k y e. new_or_old k (λ same here. ap is_identity same ∙ may.identity) (λ other there. numbers.identities k y (sym there ∙ e));
+        least = omega (arith, numbers.least, may.fresh.later);
+        most = may.fresh.most;
+        identities = λ k y e. new_or_old k (λ same here. ap is_identity same ∙ may.fresh.identity) (λ other there. numbers.identities k y (sym there ∙ e));
         drawn = λ k y e.
-            new_or_old k (λ same here. ap (list_all (λ n. nat_lt n next)) same ∙ may.drawn)
-            (λ other there. all_weaker (λ n. nat_lt n s.next) (λ n. nat_lt n next) (λ n less. lt-ltb n next (omega (arith, ltb-true n s.next less, may.later))) k (numbers.drawn k y (sym there ∙ e)));
+            new_or_old k (λ same here. ap (list_all (λ n. nat_lt n next)) same ∙ may.fresh.drawn)
+            (λ other there. all_weaker (λ n. nat_lt n s.next) (λ n. nat_lt n next) (λ n less. lt-ltb n next (omega (arith, ltb-true n s.next less, may.fresh.later))) k (numbers.drawn k y (sym there ∙ e)));
         ended_some = numbers.ended_some;
-        ended_drawn = λ n way e. omega (arith, numbers.ended_drawn n way e, may.later);
-        over = λ k y e. new_or_old k (λ same here. ap (λ i. is_some (get s.ended (case_number i))) same ∙ may.over) (λ other there. numbers.over k y (sym there ∙ e));
+        ended_drawn = λ n way e. omega (arith, numbers.ended_drawn n way e, may.fresh.later);
+        over = λ k y e. new_or_old k (λ same here. ap (λ i. is_some (get s.ended (case_number i))) same ∙ may.fresh.over) (λ other there. numbers.over k y (sym there ∙ e));
       }
 
   nets_kept : NetsStand s → NetsStand t
@@ -181,7 +185,7 @@ module _ (s : State) (j : Ident) (x : TaskAt) (given : Row) (next : ℕ) (may : 
   parents_kept : ParentsStand s → ParentsStand t
   parents_kept parents =
       record {
-        item_depth = of_each (λ k. (y : ItemPart) → item_part t k ≡ Some y → 2 ≤ length k) (λ y e. may.deep) (λ k other y e. parents.item_depth k y (sym (part_same k other) ∙ e));
+        item_depth = of_each (λ k. (y : ItemPart) → item_part t k ≡ Some y → 2 ≤ length k) (λ y e. may.fresh.deep) (λ k other y e. parents.item_depth k y (sym (part_same k other) ∙ e));
         item_of_net =
             of_each (λ k. (y : ItemPart) → item_part t k ≡ Some y → is_some (item_at t k) ≡ true)
             (λ y e. ap is_some item_here)
@@ -200,24 +204,26 @@ module _ (s : State) (j : Ident) (x : TaskAt) (given : Row) (next : ℕ) (may : 
             (λ other there. parents.something k y (sym there ∙ e));
       }
 
-  marks_kept : MarksStand s → MarksStand t
-  marks_kept marks =
+  marks_kept : ParentsStand s → MarksStand s → MarksStand t
+  marks_kept parents marks =
       record {
         suspended = λ k e. target_kept k (marks.suspended k (sym (suspended_same k) ∙ e));
-        due = λ k kind e. target_kept k (marks.due k kind (was_due k kind e));
-        due_has_rule = λ k kind e. has_rule_same k kind (elsewhere k kind e) ∙ marks.due_has_rule k kind (was_due k kind e);
-        select = λ k e. ap (λ o. is_some_and o (λ (z : ItemPart). is_ready z.stage)) (part_same k (elsewhere k Select e)) ∙ marks.select k (was_due k Select e);
+        due =
+            of_each (λ k. (kind : TreeKind) → has_check (due_at t k) kind ≡ true → is_target t k ≡ true)
+            (λ kind e. item_is_target t j new item_here)
+            (λ k other kind e. target_kept k (marks.due k kind (was_due k other kind e)));
+        due_has_rule =
+            of_each (λ k. (kind : TreeKind) → has_check (due_at t k) kind ≡ true → has_rule t k kind ≡ true)
+            (λ kind e. item_has_rule t j new item_here (parents_kept parents) kind ∙ may.checks kind (ap (λ c. has_check c kind) (sym due_here) ∙ e))
+            (λ k other kind e. has_rule_same k kind other ∙ marks.due_has_rule k kind (was_due k other kind e));
+        select =
+            of_each (λ k. has_check (due_at t k) Select ≡ true → is_some_and (item_part t k) (λ z. is_ready z.stage) ≡ true)
+            (λ e. ap (λ o. is_some_and o (λ (z : ItemPart). is_ready z.stage)) part_here)
+            (λ k other e. ap (λ o. is_some_and o (λ (z : ItemPart). is_ready z.stage)) (part_same k other) ∙ marks.select k (was_due k other Select e));
       }
     where
-      was_due : (k : Ident) (kind : TreeKind) → has_check (due_at t k) kind ≡ true → has_check (due_at s k) kind ≡ true
-      was_due k kind e = ap (λ c. has_check c kind) (sym (due_same k)) ∙ e
-
-      -- nothing is due at j
-      elsewhere : (k : Ident) (kind : TreeKind) → has_check (due_at t k) kind ≡ true → ¬ (k ≡ j)
-      elsewhere k kind e same =
-          never
-          (sym (due_test kind (get s.sites k) ∙ ap (λ o. is_some_and o (λ (z : Site). has_check z.due kind)) (ap (get s.sites) same ∙ nothing_at))
-          ∙ was_due k kind e)
+      was_due : (k : Ident) → ¬ (k ≡ j) → (kind : TreeKind) → has_check (due_at t k) kind ≡ true → has_check (due_at s k) kind ≡ true
+      was_due k other kind e = ap (λ c. has_check c kind) (sym (due_same k other)) ∙ e
 
   -- ---- depth
 
@@ -260,10 +266,10 @@ module _ (s : State) (j : Ident) (x : TaskAt) (given : Row) (next : ℕ) (may : 
   pub one_more_at_most : (i : Ident) (n : ℕ) → length (items_of t i n) ≤ length (items_of s i n) + 1
   one_more_at_most i n = let now = count_now i n in let more = longer (item_of_task i n j site) (items_of s i n) in omega (arith, now, more)
 
-  count_kept : (i : Ident) (a : NetAt) (n : ℕ) (task : Task) → net_at s i ≡ Some a → slice_get a.net.tasks n ≡ Some task → length (items_of s i n) ≤ most_items task.many → length (items_of t i n) ≤ most_items task.many
+  count_kept : (i : Ident) (a : NetAt) (n : ℕ) (task : Task) → net_at s i ≡ Some a → slice_get a.net.tasks n ≡ Some task → length (items_of s i n) ≤ item_limit task.many → length (items_of t i n) ≤ item_limit task.many
   count_kept i a n task e at before =
       by_option (item_of_task i n j site)
-      (λ none. subst (λ c. c ≤ most_items task.many) (sym (count_now i n ∙ ap (λ o. length (cons_option o (items_of s i n))) none)) before)
+      (λ none. subst (λ c. c ≤ item_limit task.many) (sym (count_now i n ∙ ap (λ o. length (cons_option o (items_of s i n))) none)) before)
       (λ y some.
       let (below, number) = if_one (is_child j i) (x.number == n) (j, part) (ap is_some some) in
       let net : i ≡ parent j = sym (parent_of_child j i below) in
@@ -271,7 +277,7 @@ module _ (s : State) (j : Ident) (x : TaskAt) (given : Row) (next : ℕ) (may : 
       let one : a ≡ x.within = some_same a x.within (sym e ∙ ap (net_at s) net ∙ may.within) in
       let task_is : task ≡ x.task = some_same task x.task (sym at ∙ ap (λ (b : NetAt). slice_get b.net.tasks n) one ∙ ap (slice_get x.within.net.tasks) (sym same) ∙ may.task) in
       let here : length (items_of s i n) ≡ length (items_of s (parent j) x.number) = ap (λ k. length (items_of s k n)) net ∙ ap (λ m. length (items_of s (parent j) m)) (sym same) in
-      let bound : most_items task.many ≡ most_items x.task.many = ap (λ (u : Task). most_items u.many) task_is in
+      let bound : item_limit task.many ≡ item_limit x.task.many = ap (λ (u : Task). item_limit u.many) task_is in
       let few = may.few in
       let more = one_more_at_most i n in
       omega (arith, here, bound, few, more))
@@ -318,10 +324,7 @@ module _ (s : State) (j : Ident) (x : TaskAt) (given : Row) (next : ℕ) (may : 
         numbers = numbers_kept;
         nets = nets_kept well.nets;
         parents = parents_kept well.parents;
-        marks = marks_kept well.marks;
+        marks = marks_kept well.parents well.marks;
         content = content_kept reader well.content;
         depth = depth_kept well.depth;
       }
-
-  pub item_is_there : item_part t j ≡ Some part
-  item_is_there = part_here

@@ -65,9 +65,9 @@ module _ (reader : Reader) (sound : ReadsSound reader) (s : State) (j : Ident) (
       let here = and_parts (is_executing x.part.stage) (is_composite x) (ap (λ o. is_some_and o executing_composite) (sym item) ∙ calm.1) in
       subst (λ o. IsWell reader (where_some o s (end_net s j made_by_child))) (sym item)
       (by_option (net_at s j)
-      (λ none. subst (λ o. IsWell reader (where_some o s (λ n. complete (with_sites s (bare s.sites j)) j (made_by_child n x)))) (sym none) well)
+      (λ none. subst (λ o. IsWell reader (where_some o s (λ n. complete (with_sites s (bare s.sites j)) j (made_by_child n x) x))) (sym none) well)
       (λ n net.
-      subst (λ o. IsWell reader (where_some o s (λ n. complete (with_sites s (bare s.sites j)) j (made_by_child n x)))) (sym net)
+      subst (λ o. IsWell reader (where_some o s (λ n. complete (with_sites s (bare s.sites j)) j (made_by_child n x) x))) (sym net)
       (ended_is_well reader s j well x item calm.0 (made_by_child n x) (child_fits n x (well.content.net j n net) (has_all reader sound s well j x item here.1 n net))))))
 
 -- ---- an empty task
@@ -80,7 +80,7 @@ module _ (reader : Reader) (sound : ReadsSound reader) (s : State) (well : IsWel
   not_select : (y : Site) → Stands s j y → has_check y.due Select ≡ true → {A : Type 0} → A
   not_select y here e =
       tasks.atomic_is_not_empty x.of_task.task
-      (tasks.select_is_atomic reader sound s well j x item (deep_is_no_case j (items.deep reader s well j x item)) (well.marks.due_has_rule j Select (is_due y here Select e)))
+      (tasks.select_is_atomic reader sound s well j x item (well.marks.due_has_rule j Select (is_due y here Select e)))
       empty
 
   ends : Turns s j None (with_item (completed [])) (completed []) (λ r. r)

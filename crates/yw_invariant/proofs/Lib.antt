@@ -15,6 +15,7 @@ pub mod ItemsEnd
 pub mod WorkletBegins
 pub mod NetGoesOn
 pub mod TokensFit
+pub mod Children
 pub mod EntryComes
 pub mod ItemComes
 pub mod Levels
@@ -24,6 +25,7 @@ pub mod TasksEntered
 pub mod Assigned
 pub mod MadeRows
 pub mod ExitWell
+pub mod RaiseWell
 pub mod RunsBegin
 pub mod EventsWell
 pub mod FromOpening

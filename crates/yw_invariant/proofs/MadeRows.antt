@@ -14,7 +14,7 @@ use Rattle.yw_state.specs.Identity.{Ident, is_child, parent}
 use Rattle.yw_state.specs.Passing.{made_rows, row_fits}
 use Rattle.yw_state.specs.State.{State, Site, ItemPart, NetAt, item_at, item_of_task, item_part, items_of, net_at}
 use Rattle.yw_state.specs.Texts.{Reader}
-use Rattle.yw_state.specs.Well.{IsWell, Stands, most_items}
+use Rattle.yw_state.specs.Well.{IsWell, Stands, item_limit}
 use Rattle.yw_state.specs.Words.{is_completed}
 
 -- where it is completed, what it has made fits
@@ -92,7 +92,7 @@ module _ (reader : Reader) (s : State) (well : IsWell reader s) (i : Ident) (n :
   pub made_rows_fit : list_all (row_fits t.outs) (made_rows (items_of s i k)) ≡ true
   made_rows_fit = rows_fit t (items_of s i k) (entries_fit s.sites.list (λ e within. find-entry by_name s.sites.list e s.sites.sorted within))
 
-  pub made_rows_few : length (made_rows (items_of s i k)) ≤ most_items t.many
+  pub made_rows_few : length (made_rows (items_of s i k)) ≤ item_limit t.many
   made_rows_few =
       let all = well.content.count i n k t net at in
       let done = no_more_pass (λ (e : Ident × ItemPart). is_completed e.1.stage) (items_of s i k) in

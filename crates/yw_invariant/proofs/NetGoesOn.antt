@@ -21,7 +21,7 @@ use Rattle.yw_state.specs.Options.{is_some_and}
 use Rattle.yw_state.specs.RuleTree.{TreeRule}
 use Rattle.yw_state.specs.State.{State, Site, Sites, NetPart, ItemPart, ItemAt, NetAt, TaskAt, due_at, is_target, item_at, item_of_task, item_part, items_of, net_at, net_part, run_part, spec_called}
 use Rattle.yw_state.specs.Texts.{Reader}
-use Rattle.yw_state.specs.Well.{NumbersFit, NetsStand, ParentsStand, MarksStand, ContentFits, IsWell, ItemFits, NetFits, RulesFit, IsAtLevel, is_child_of, is_composite, is_top, most_items, wants_net}
+use Rattle.yw_state.specs.Well.{NumbersFit, NetsStand, ParentsStand, MarksStand, ContentFits, IsWell, ItemFits, NetFits, RulesFit, IsAtLevel, is_child_of, is_composite, is_top, item_limit, wants_net}
 use Rattle.yw_state.specs.Well.IsAtLevel.{first, further}
 use Rattle.yw_state.specs.Words.{has_check, is_ready}
 use Rattle.yw_state.specs.declared.tree.TreeKind.{TreeKind}
@@ -307,7 +307,7 @@ module _ (s : State) (i : Ident) (f : NetPart → NetPart) (keeps : KeepsNet f) 
         item = λ k x e. let (y, some, is) = item_before k x e in subst ItemFits is (moved_fits (goes (parent k)) y (content.item k y some));
         count = λ k n number task e d.
             let (m, some, is) = net_at_before k n e in
-            subst (λ count. count ≤ most_items task.many) (sym (count_same k number)) (content.count k m number task some (ap (λ (x : NetAt). slice_get x.net.tasks number) is ∙ d));
+            subst (λ count. count ≤ item_limit task.many) (sym (count_same k number)) (content.count k m number task some (ap (λ (x : NetAt). slice_get x.net.tasks number) is ∙ d));
         run_length = λ k r e. content.run_length k r (sym (run_same k) ∙ e);
         run_fit = λ k r e. content.run_fit k r (sym (run_same k) ∙ e);
         rules = λ key rs e. same_rules key rs (content.rules key rs e);

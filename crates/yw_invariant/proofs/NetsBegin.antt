@@ -19,7 +19,7 @@ use Rattle.yw_state.proofs.ItemWell.{renewed}
 use Rattle.yw_state.proofs.MapLemmas.{by_option, never, nowhere, some_same}
 use Rattle.yw_state.specs.After.{begin_at, begun, new_net, stands, start_sub, where_some, with_item}
 use Rattle.yw_state.specs.Allowed.{Allowed, allows, most_tokens}
-use Rattle.yw_state.specs.ByName.{Named, first_values, given_named}
+use Rattle.yw_state.specs.ByName.{Valuation, first_values, given_named}
 use Rattle.yw_state.specs.Events.{after}
 use Rattle.yw_state.specs.Identity.{Ident, parent}
 use Rattle.yw_state.specs.Map.{get}
@@ -47,7 +47,7 @@ one_level_more s (further j n nested level) is_nested above some =
     omega (arith, up, longer)
 
 -- a new net fits that begins with values that fit
-pub new_net_fits : (name : List ℕ) (k : ℕ) (net : Net) (source : Named) → GivesSmall source → begins_right net ≡ true → NetFits (record { part = new_net name k net (first_values source net); net = net })
+pub new_net_fits : (name : List ℕ) (k : ℕ) (net : Net) (source : Valuation) → GivesSmall source → begins_right net ≡ true → NetFits (record { part = new_net name k net (first_values source net); net = net })
 new_net_fits name k net source small right =
     record {
       vals = first_values_fit source small net.vars right;

@@ -6,7 +6,7 @@ use Rattle.std.proofs.lemmas.Bool.{and_parts, or_left, or_right}
 use Rattle.yw_base.specs.Identity.{under}
 use Rattle.yw_invariant.proofs.ReadyItems as items
 use Rattle.yw_invariant.proofs.RunsGoOn.{some_left}
-use Rattle.yw_invariant.proofs.Turning.{Turns, target_same, turned_is_well, same_option}
+use Rattle.yw_invariant.proofs.Turning.{Turns, item_here, turned_is_well, same_option}
 use Rattle.yw_invariant.proofs.Changes.{dropped_is_well, numbers_left, updated_twice}
 use Rattle.yw_invariant.proofs.Places.{deep_is_no_case, not_under_itself, stays_above, strictly_under_other, strictly_under_parent, under_itself}
 use Rattle.yw_invariant.proofs.Values.{worklet_fits}
@@ -14,7 +14,7 @@ use Rattle.yw_state.proofs.Alike.{due_test, item_in, net_by}
 use Rattle.yw_state.proofs.Clear.{none_due}
 use Rattle.yw_state.proofs.ItemWell.{renewed}
 use Rattle.yw_state.proofs.MapLemmas.{by_name, by_option, by_test, get-remove_other, get-remove_same, get-retain, get-retain_gone, get-retain_kept, get-update_other, get-update_same, never, nowhere, same_map, some_same, tied, tied_self}
-use Rattle.yw_state.proofs.MarksWell.{make_due_is_well}
+use Rattle.yw_state.proofs.MarksWell.{item_due_is_well}
 use Rattle.yw_state.proofs.RetainWell.{retained_is_well}
 use Rattle.yw_state.specs.After.{change, complete, completed, end_net, make_due, where_some, with_item, with_run, with_sites}
 use Rattle.yw_state.specs.Allowed.{Allowed, allows}
@@ -22,10 +22,11 @@ use Rattle.yw_state.specs.ByName.{made_by_worklet}
 use Rattle.yw_state.specs.Events.{after}
 use Rattle.yw_state.specs.Exlets.{end_compensation, end_if_over, going_on, is_over}
 use Rattle.yw_state.specs.Identity.{Ident, case_number, parent, strictly_under}
+use Rattle.yw_state.specs.Judged.{task_place}
 use Rattle.yw_state.specs.Map.{get, lexical, remove, retain}
 use Rattle.yw_state.specs.Options.{is_some_and}
 use Rattle.yw_state.specs.Passing.{row_fits}
-use Rattle.yw_state.specs.State.{State, Site, Sites, ItemPart, ItemAt, RunPart, bare, drop, due_at, is_case, is_target, item_at, item_part, net_at, run_part}
+use Rattle.yw_state.specs.State.{State, Site, Sites, ItemPart, ItemAt, RunPart, bare, drop, due_at, item_at, item_part, net_at, run_part}
 use Rattle.yw_state.specs.Texts.{Reader, Said}
 use Rattle.yw_state.specs.Values.{Row}
 use Rattle.yw_state.specs.Well.{IsWell, ItemFits, Stands, has_work}
@@ -36,7 +37,7 @@ use Rattle.yw_state.specs.declared.event.Event.TheVariants as events
 use Rattle.yw_state.specs.declared.tree.TreeKind.{TreeKind}
 use Rattle.yw_state.specs.declared.tree.TreeKind.TheVariants.{Post, Select}
 
-pub is_not_select : ¬ (Post ≡ Select)
+is_not_select : ¬ (Post ≡ Select)
 is_not_select e = cc
 
 -- ---- what stands strictly under j goes
@@ -122,15 +123,13 @@ module _ (reader : Reader) (s : State) (j : Ident) (well : IsWell reader s) wher
     completed_now : IsWell reader (change cleared j made)
     completed_now = turned_is_well cleared j None made (completed out) (λ r. r) completes cleared_is_well.parents reader cleared_is_well
 
-    targeted : is_target (change cleared j made) j ≡ true
-    targeted =
-        target_same cleared j None made (completed out) (λ r. r) completes cleared_is_well.parents j
-        ∙ or_right (is_case cleared j) (is_some (item_part cleared j)) there
+    item_now : item_at (change cleared j made) j ≡ Some (renewed (completed out) x)
+    item_now = item_here cleared j None made (completed out) (λ r. r) completes cleared_is_well.parents ∙ ap (option_map (renewed (completed out))) now
 
-    pub ended_is_well : IsWell reader (complete (with_sites s (bare s.sites j)) j out)
+    pub ended_is_well : IsWell reader (complete (with_sites s (bare s.sites j)) j out x)
     ended_is_well =
-        subst (λ (m : Sites). IsWell reader (make_due (with_sites s m) j Post)) (sym (updated_twice cleared.sites j bared (with_item (completed out))))
-        (make_due_is_well reader (change cleared j made) j Post targeted (λ e. absurd (is_not_select e)) completed_now)
+        subst (λ (m : Sites). IsWell reader (make_due (with_sites s m) j (task_place x.of_task Post))) (sym (updated_twice cleared.sites j bared (with_item (completed out))))
+        (item_due_is_well reader (change cleared j made) j completed_now (renewed (completed out) x) item_now Post (λ e. absurd (is_not_select e)))
 
 -- ---- a worklet
 
@@ -145,9 +144,9 @@ module _ (reader : Reader) (s : State) (j : Ident) (said : Said) (well : IsWell 
       (λ x item.
       subst (λ o. IsWell reader (where_some o s (end_net s j made_by_worklet))) (sym item)
       (by_option (net_at s j)
-      (λ none. subst (λ o. IsWell reader (where_some o s (λ n. complete (with_sites s (bare s.sites j)) j (made_by_worklet n x)))) (sym none) well)
+      (λ none. subst (λ o. IsWell reader (where_some o s (λ n. complete (with_sites s (bare s.sites j)) j (made_by_worklet n x) x))) (sym none) well)
       (λ n net.
-      subst (λ o. IsWell reader (where_some o s (λ n. complete (with_sites s (bare s.sites j)) j (made_by_worklet n x)))) (sym net)
+      subst (λ o. IsWell reader (where_some o s (λ n. complete (with_sites s (bare s.sites j)) j (made_by_worklet n x) x))) (sym net)
       (ended_is_well reader s j well x item calm.0 (made_by_worklet n x) (worklet_fits n x (well.content.net j n net) (well.content.item j x item))))))
     where
       worked_at : ItemAt → Bool

@@ -11,8 +11,7 @@ use Rattle.yw_invariant.proofs.CutBack.{completed_is_well, restarted_is_well}
 use Rattle.yw_invariant.proofs.Places.{shorter, under_its_case, under_parent}
 use Rattle.yw_invariant.proofs.RunsGoOn as runs
 use Rattle.yw_sound.specs.Sound.{ReadsSound}
-use Rattle.yw_state.proofs.Absent.{part-kept}
-use Rattle.yw_state.proofs.Alike.{asked_of, may_be_due}
+use Rattle.yw_state.proofs.Alike.{may_be_due}
 use Rattle.yw_state.proofs.ChangeWell.{MayChange, change_is_well}
 use Rattle.yw_state.proofs.EndWell as ending
 use Rattle.yw_state.proofs.Gone.{same_item_at}
@@ -25,13 +24,13 @@ use Rattle.yw_state.specs.Allowed.{Allowed, allows}
 use Rattle.yw_state.specs.ByName.{made_of_given}
 use Rattle.yw_state.specs.Events.{after}
 use Rattle.yw_state.specs.Exlets.{end_if_over, is_over, take_primitive, taken_first}
-use Rattle.yw_state.specs.Identity.{Ident, case_ident, case_number, is_case_ident, parent, same, strictly_under}
-use Rattle.yw_state.specs.Judged.{has_rule}
+use Rattle.yw_state.specs.Identity.{Ident, case_ident, case_number, parent, same, strictly_under}
+use Rattle.yw_state.specs.Judged.{has_rules, task_place}
 use Rattle.yw_state.specs.Map as Map
 use Rattle.yw_state.specs.Map.{get, insert, update}
 use Rattle.yw_state.specs.Nets.{is_atomic}
 use Rattle.yw_state.specs.Options.{is_some_and}
-use Rattle.yw_state.specs.State.{State, Site, Sites, ItemAt, ItemPart, RunPart, bare_but, drop, is_case, is_item, is_target, item_at, net_part, no_checks, run_part}
+use Rattle.yw_state.specs.State.{State, Site, Sites, ItemAt, ItemPart, RunPart, bare_but, drop, is_case, is_item, is_target, item_at, no_checks, run_part}
 use Rattle.yw_state.specs.Texts.{Reader, Said, nothing}
 use Rattle.yw_state.specs.Well.{IsWell, Stands}
 use Rattle.yw_state.specs.Words.{has_check, is_completed}
@@ -42,6 +41,7 @@ use Rattle.yw_state.specs.declared.part.Way.TheVariants.{Cancelled, Removed}
 use Rattle.yw_state.specs.declared.tree.Primitive.{Primitive}
 use Rattle.yw_state.specs.declared.tree.Primitive.TheVariants as primitives
 use Rattle.yw_state.specs.declared.tree.TreeKind.TheVariants.{Select}
+use Rattle.yw_state.specs.declared.tree.TreePlace.{TreePlace}
 
 -- ---- a case is removed
 
@@ -186,29 +186,26 @@ module _ (reader : Reader) (sound : ReadsSound reader) (s : State) (well : IsWel
   abbrev restarts : ItemPart → ItemPart
   restarts x = record x { stage = Ready; who = None; made = [] }
 
-  has_rule_same : (t : State) → has_rule (change t r takes) j Select ≡ has_rule t j Select
-  has_rule_same t =
-      ap (λ n. asked_of (is_case_ident j) t n (item_at (change t r takes) j) Select) (part-kept (λ x. x.net) takes (λ x. refl) t.sites r j)
-      ∙ ap (λ x. asked_of (is_case_ident j) t (net_part t j) x Select) (same_item_at t r j)
-
   abbrev left : State
   left = cut_back s restarts
 
-  abbrev due : Bool → Site → Site
-  due b z = record z { due = due_where b Select z.due }
+  abbrev choice : ItemAt → TreePlace
+  choice x = task_place x.of_task Select
 
-  restart : (x : ItemAt) → item_at s j ≡ Some x → IsWell reader (end_if_over (make_select_due (cut_back taken restarts) j x.of_task.task) r)
+  abbrev due : ItemAt → Site → Site
+  due x z = record z { due = due_where (has_rules s (choice x)) Select z.due }
+
+  restart : (x : ItemAt) → item_at s j ≡ Some x → IsWell reader (end_if_over (make_select_due (cut_back taken restarts) j x.of_task) r)
   restart x item =
-      subst (λ (m : Sites). IsWell reader (end_if_over (make_select_due (with_sites s m) j x.of_task.task) r)) (sym (cut_swap (λ z. record (with_item restarts z) { due = no_checks })))
+      subst (λ (m : Sites). IsWell reader (end_if_over (make_select_due (with_sites s m) j x.of_task) r)) (sym (cut_swap (λ z. record (with_item restarts z) { due = no_checks })))
       (either (is_atomic x.of_task.task) (restarted_is_well reader s well r y run idle x item))
     where
-      either : (b : Bool) → IsWell reader (if b then make_due left j Select else left) → IsWell reader (end_if_over (if b then make_due (change left r takes) j Select else change left r takes) r)
+      either : (b : Bool) → IsWell reader (if b then make_due left j (choice x) else left) → IsWell reader (end_if_over (if b then make_due (change left r takes) j (choice x) else change left r takes) r)
       either false w = run_goes_on left w (run_left (λ z. record (with_item restarts z) { due = no_checks }))
       either true w =
-          subst (λ b. IsWell reader (end_if_over (change (change left r takes) j (due b)) r)) (sym (has_rule_same left))
-          (subst (λ (m : Sites). IsWell reader (end_if_over (with_sites s m) r)) (sym (updates_swap left.sites j r (due (has_rule left j Select)) takes not_itself))
-          (run_goes_on (make_due left j Select) w
-          (get-update_other by_name left.sites j (due (has_rule left j Select)) r not_the_run ∙ run_left (λ z. record (with_item restarts z) { due = no_checks }))))
+          subst (λ (m : Sites). IsWell reader (end_if_over (with_sites s m) r)) (sym (updates_swap left.sites j r (due x) takes not_itself))
+          (run_goes_on (make_due left j (choice x)) w
+          (get-update_other by_name left.sites j (due x) r not_the_run ∙ run_left (λ z. record (with_item restarts z) { due = no_checks })))
 
   complete : (x : ItemAt) → item_at s j ≡ Some x → IsWell reader (end_if_over (if is_completed x.part.stage then taken else cut_back taken (completed (made_of_given x))) r)
   complete x item = either (is_completed x.part.stage)

@@ -5,12 +5,12 @@ use Rattle.std.proofs.lemmas.Bool.{and_parts, eqb-true}
 use Rattle.yw_base.specs.Identity.{most_numbers}
 use Rattle.yw_invariant.proofs.Levels as levels
 use Rattle.yw_invariant.proofs.Places.{shorter}
+use Rattle.yw_invariant.proofs.RaiseWell as raising
 use Rattle.yw_invariant.proofs.ReadyItems as items
 use Rattle.yw_invariant.proofs.Tasks as tasks
 use Rattle.yw_sound.specs.Sound.{ReadsSound}
 use Rattle.yw_state.proofs.Alike.{case_asks, item_asks}
 use Rattle.yw_state.proofs.MapLemmas.{by_option, by_test, never}
-use Rattle.yw_state.proofs.RaiseWell as raising
 use Rattle.yw_state.specs.Allowed.{Allowed, allows, begins_exlet, comes_next, concludes, is_next, is_raised}
 use Rattle.yw_state.specs.Events.{after}
 use Rattle.yw_state.specs.Identity.{Ident, is_case_ident, parent}

@@ -8,17 +8,17 @@ use Rattle.yw_spec.specs.declared.task.Kind.TheVariants as kinds
 use Rattle.yw_spec.specs.declared.task.Task.{Task}
 use Rattle.yw_invariant.proofs.NetsBegin.{loaded_sound}
 use Rattle.yw_sound.specs.Sound.{NetIsSound, ReadsSound, TaskIsSound}
-use Rattle.yw_state.proofs.Alike.{asked_of, net_by}
+use Rattle.yw_state.proofs.Alike.{net_by}
 use Rattle.yw_state.proofs.MapLemmas.{by_option, never, some_same}
 use Rattle.yw_state.proofs.Tests.{map_some, or_cases, then_some}
-use Rattle.yw_state.proofs.TreePlaces.{one_place}
-use Rattle.yw_state.specs.Identity.{Ident, is_case_ident, parent}
-use Rattle.yw_state.specs.Judged.{has_rule, is_tree_place, place_key, rules_at, task_place}
+use Rattle.yw_state.proofs.TreePlaces.{item_has_rule, one_place}
+use Rattle.yw_state.specs.Identity.{Ident, parent}
+use Rattle.yw_state.specs.Judged.{has_rule, has_rules, is_tree_place, place_key, task_place}
 use Rattle.yw_state.specs.Map.{get}
 use Rattle.yw_state.specs.Nets.{child_net, is_atomic, is_empty, task_called, task_number}
 use Rattle.yw_state.specs.Options.{is_some_and}
 use Rattle.yw_state.specs.RuleTree.{TreeRule}
-use Rattle.yw_state.specs.State.{State, ItemAt, ItemPart, NetAt, NetPart, TaskAt, item_at, item_part, net_at, net_part, spec_called, task_at, task_in}
+use Rattle.yw_state.specs.State.{State, ItemAt, ItemPart, NetAt, NetPart, TaskAt, item_at, item_part, net_at, spec_called, task_at, task_in}
 use Rattle.yw_state.specs.Texts.{Reader}
 use Rattle.yw_state.specs.Well.{IsWell}
 use Rattle.yw_state.specs.declared.tree.TreeKind.TheVariants.{Select}
@@ -118,8 +118,8 @@ module _ (reader : Reader) (sound : ReadsSound reader) (s : State) (well : IsWel
         either (inr e) = no_second (is_some (child_net t)) e
 
     -- worklets are chosen for atomic tasks alone
-    pub select_is_atomic : is_case_ident j ≡ false → has_rule s j Select ≡ true → is_atomic x.of_task.task ≡ true
-    select_is_atomic no_case e =
+    pub select_is_atomic : has_rule s j Select ≡ true → is_atomic x.of_task.task ≡ true
+    select_is_atomic e =
         by_option (get s.rules (place_key place))
         (λ none. never (ap (λ (o : Option (List TreeRule)). nat_lt 0 (length (unwrap_or o []))) (sym none) ∙ some_rule))
         (λ rs some.
@@ -137,8 +137,5 @@ module _ (reader : Reader) (sound : ReadsSound reader) (s : State) (well : IsWel
         place : TreePlace
         place = task_place x.of_task Select
 
-        some_rule : nat_lt 0 (length (rules_at s (task_place x.of_task Select))) ≡ true
-        some_rule =
-            ap (λ o. asked_of false s (net_part s j) o Select) (sym item)
-            ∙ ap (λ b. asked_of b s (net_part s j) (item_at s j) Select) (sym no_case)
-            ∙ e
+        some_rule : has_rules s place ≡ true
+        some_rule = sym (item_has_rule s j x item well.parents Select) ∙ e

@@ -7,7 +7,8 @@ use Rattle.yw_spec.specs.declared.spec.Place.{Place}
 use Rattle.yw_spec.specs.declared.task.Many.{Many}
 use Rattle.yw_spec.specs.declared.task.Task.{Task}
 use Rattle.yw_invariant.proofs.Given.{entry_fits}
-use Rattle.yw_invariant.proofs.ItemsCome.{all_added, draws_next, short}
+use Rattle.yw_invariant.proofs.Children.{draws_next}
+use Rattle.yw_invariant.proofs.ItemsCome.{all_added, checks_have_rules, short}
 use Rattle.yw_invariant.proofs.NetGoesOn.{KeepsNet, count_same, goes_on_is_well, net_there_now, rebased}
 use Rattle.yw_invariant.proofs.Tasks.{OfTask, task_there}
 use Rattle.yw_invariant.proofs.Tasks as tasks
@@ -15,7 +16,7 @@ use Rattle.yw_invariant.proofs.TokensFit.{one_less, taken_few, taken_length}
 use Rattle.yw_sound.specs.Sound.{ReadsSound}
 use Rattle.yw_state.proofs.MapLemmas.{by_option, by_test, never, some_same}
 use Rattle.yw_state.proofs.Tests.{map_some, then_some}
-use Rattle.yw_state.specs.After.{add_items, enter, take, where_some, with_next}
+use Rattle.yw_state.specs.After.{add_items, enter, item_checks, take, where_some, with_next}
 use Rattle.yw_state.specs.Allowed.{Allowed, allows, place_numbers}
 use Rattle.yw_state.specs.Events.{after}
 use Rattle.yw_state.specs.Identity.{Ident}
@@ -25,7 +26,7 @@ use Rattle.yw_state.specs.Passing.{elements_for, entry_values, given_values, wit
 use Rattle.yw_state.specs.State.{State, NetPart, NetAt, TaskAt, items_of, net_at, task_at}
 use Rattle.yw_state.specs.Texts.{Reader, Said}
 use Rattle.yw_state.specs.Values.{Row}
-use Rattle.yw_state.specs.Well.{IsWell, NetFits, most_items}
+use Rattle.yw_state.specs.Well.{IsWell, NetFits, item_limit}
 use Rattle.yw_state.specs.Words.{active, clear}
 use Rattle.yw_state.specs.declared.event.Event.TheVariants as events
 
@@ -40,7 +41,7 @@ as_many {A} {B} f (x ∷ xs) ys e =
     let whole = ap (λ (vs : List B). length vs) made in
     omega (arith, rest_as_many, whole)
 
-within_most : (t : Task) (row : Row) (many : Option Many) (rows : List Row) → option_and_then (λ es. all_of (map (given_values t row) es)) (elements_for many row) ≡ Some rows → within_bounds many (length rows) ≡ true → length rows ≤ most_items many
+within_most : (t : Task) (row : Row) (many : Option Many) (rows : List Row) → option_and_then (λ es. all_of (map (given_values t row) es)) (elements_for many row) ≡ Some rows → within_bounds many (length rows) ≡ true → length rows ≤ item_limit many
 within_most t row None rows e within = let one = as_many (given_values t row) (None ∷ []) rows e in omega (arith, one)
 within_most t row (Some m) rows e within = leb-true (length rows) m.max (and_parts (nat_le m.min (length rows)) (nat_le (length rows) m.max) within).1
 
@@ -61,7 +62,7 @@ module _ (reader : Reader) (sound : ReadsSound reader) (s : State) (well : IsWel
   task_then = record x { within = rebased without x.within }
 
   module _ (first : ℕ) (rows : List Row) (rows_are : entry_values x.task x.within.part.vals ≡ Some rows) (within : within_bounds x.task.many (length rows) ≡ true) (none : active s i x.number ≡ false) where
-    few : length (items_of (take s i cs) i x.number) + length rows ≤ most_items x.task.many
+    few : length (items_of (take s i cs) i x.number) + length rows ≤ item_limit x.task.many
     few =
         let same = count_same s i without keeps fits i x.number in
         let most = within_most x.task x.within.part.vals x.task.many rows rows_are within in
@@ -76,13 +77,14 @@ module _ (reader : Reader) (sound : ReadsSound reader) (s : State) (well : IsWel
     entered_is_well is_counter room =
         let net = tasks.net_sound reader sound s well i x.within of.within in
         let fit = entry_fits x.within.net x.task x.within.part.vals (well.content.net i x.within of.within).vals (tasks.of_spec s i x.within of.within).spec (net.tasks x.number x.task of.task) rows rows_are in
-        all_added reader i (short reader sound s well i x of) task_then rows fit (take s i cs) first
+        all_added reader i (short reader sound s well i x of) task_then (item_checks (take s i cs) x) rows fit (take s i cs) first
         (record {
           well = subst (λ n. IsWell reader (with_next (take s i cs) n)) (sym is_counter) (goes_on_is_well s i without keeps fits reader well);
           within = net_there_now s i without keeps fits x.within of.within;
           task = of.task;
           few = few;
           room = room;
+          checks = checks_have_rules (take s i cs) x;
         })
 
 module _ (reader : Reader) (sound : ReadsSound reader) (s : State) (i : Ident) (t : List ℕ) (places : List Place) (first count : ℕ) (said : Said) (well : IsWell reader s) where

@@ -19,7 +19,7 @@ use Rattle.yw_state.specs.Options.{is_some_and}
 use Rattle.yw_state.specs.RuleTree.{TreeRule}
 use Rattle.yw_state.specs.State.{State, Site, Sites, NetPart, ItemPart, RunPart, ItemAt, NetAt, due_at, is_target, item_at, item_of_task, item_part, items_of, net_at, net_part, run_part, task_in}
 use Rattle.yw_state.specs.Texts.{Reader}
-use Rattle.yw_state.specs.Well.{NumbersFit, NetsStand, ParentsStand, MarksStand, ContentFits, IsWell, ItemFits, NetFits, RulesFit, IsAtLevel, Stands, has_work, is_child_of, is_composite, is_top, most_items, wants_net}
+use Rattle.yw_state.specs.Well.{NumbersFit, NetsStand, ParentsStand, MarksStand, ContentFits, IsWell, ItemFits, NetFits, RulesFit, IsAtLevel, Stands, has_work, is_child_of, is_composite, is_top, item_limit, wants_net}
 use Rattle.yw_state.specs.Well.IsAtLevel.{first, further}
 use Rattle.yw_state.specs.Words.{has_check, is_ready}
 use Rattle.yw_state.specs.declared.tree.TreeKind.{TreeKind}
@@ -99,7 +99,7 @@ module _ (s : State) (j : Ident) (net : Option NetPart) (f : Site → Site) (g :
   net_here : net_part t j ≡ net
   net_here = ap (option_and_then (λ (x : Site). x.net)) (at_here ∙ ap (option_map f) site.1) ∙ turns.to_net site.0 site.1
 
-  part_here : item_part t j ≡ option_map g (item_part s j)
+  pub part_here : item_part t j ≡ option_map g (item_part s j)
   part_here = ap (option_and_then (λ (x : Site). x.item)) at_here ∙ mapped (get s.sites j)
     where
       mapped : (o : Option Site) → option_and_then (λ (x : Site). x.item) (option_map f o) ≡ option_map g (option_and_then (λ (x : Site). x.item) o)
@@ -139,7 +139,7 @@ module _ (s : State) (j : Ident) (net : Option NetPart) (f : Site → Site) (g :
       (λ none. ap (option_map (λ t. record { part = g x; of_task = t })) none ∙ sym (ap (λ o. option_map (renewed g) (option_map (λ t. record { part = x; of_task = t }) o)) none))
       (λ t some. ap (option_map (λ t. record { part = g x; of_task = t })) some ∙ sym (ap (λ o. option_map (renewed g) (option_map (λ t. record { part = x; of_task = t }) o)) some))
 
-  item_here : item_at t j ≡ option_map (renewed g) (item_at s j)
+  pub item_here : item_at t j ≡ option_map (renewed g) (item_at s j)
   item_here =
       by_option (item_part s j)
       (λ none. ap (λ o. item_in o (net_at t (parent j))) (part_here ∙ ap (option_map g) none) ∙ sym (ap (λ o. option_map (renewed g) (item_in o (net_at s (parent j)))) none))
@@ -387,10 +387,10 @@ module _ (s : State) (j : Ident) (net : Option NetPart) (f : Site → Site) (g :
             (λ k other n e. content.net k n (sym (net_at_kept k other) ∙ e));
         item = of_each (λ k. (x : ItemAt) → item_at t k ≡ Some x → ItemFits x) (of_item_here ItemFits turns.item_fits) (λ k other x e. content.item k x (sym (item_kept k other) ∙ e));
         count =
-            of_each (λ i. (n : NetAt) (k : ℕ) (task : Task) → net_at t i ≡ Some n → slice_get n.net.tasks k ≡ Some task → length (items_of t i k) ≤ most_items task.many)
-            (λ n k task e d. subst (λ count. count ≤ most_items task.many) (sym (none_of_net k)) (omega arith))
+            of_each (λ i. (n : NetAt) (k : ℕ) (task : Task) → net_at t i ≡ Some n → slice_get n.net.tasks k ≡ Some task → length (items_of t i k) ≤ item_limit task.many)
+            (λ n k task e d. subst (λ count. count ≤ item_limit task.many) (sym (none_of_net k)) (omega arith))
             (λ i other n k task e d.
-            subst (λ count. count ≤ most_items task.many) (sym (length-update by_name (λ e. item_of_task i k e.0 e.1) s.sites j f (child_alike i k))) (content.count i n k task (sym (net_at_kept i other) ∙ e) d));
+            subst (λ count. count ≤ item_limit task.many) (sym (length-update by_name (λ e. item_of_task i k e.0 e.1) s.sites j f (child_alike i k))) (content.count i n k task (sym (net_at_kept i other) ∙ e) d));
         run_length =
             of_each (λ k. (r : RunPart) → run_part t k ≡ Some r → length r.rest ≤ most_primitives)
             (of_run_here (λ r. length r.rest ≤ most_primitives) (λ r e. (turns.run_fits r e).most))

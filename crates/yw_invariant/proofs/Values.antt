@@ -14,7 +14,7 @@ use Rattle.yw_spec.specs.declared.task.Param.{Param}
 use Rattle.yw_sound.proofs.Giving.{zero_fits}
 use Rattle.yw_sound.specs.Sound.{HasVar}
 use Rattle.yw_state.proofs.MapLemmas.{never, by_test, by_option, nowhere, some_same}
-use Rattle.yw_state.specs.ByName.{Named, given_named, made_by_child, made_by_worklet, made_of_given, of_sort, var_named}
+use Rattle.yw_state.specs.ByName.{Valuation, given_named, made_by_child, made_by_worklet, made_of_given, of_sort, var_named}
 use Rattle.yw_base.specs.Usages.{comes_in, goes_out}
 use Rattle.yw_state.specs.Passing.{row_fits}
 use Rattle.yw_state.specs.State.{NetAt, ItemAt}
@@ -96,13 +96,13 @@ module _ (n : NetAt) (x : ItemAt) (net_fits : NetFits n) (item_fits : ItemFits x
 -- ---- what a net begins with
 
 -- a value that is found is small
-abbrev pub GivesSmall : Named → Type 0
+abbrev pub GivesSmall : Valuation → Type 0
 GivesSmall source = (name : List ℕ) (v : Value) → source name ≡ Some v → is_small v ≡ true
 
 pub given_small : (x : ItemAt) → ItemFits x → GivesSmall (given_named x)
 given_small x fits name v e = found_small (λ (e : Param × Value). bytes_eq e.0.name name) (zip x.of_task.task.ins x.part.given) (params_small x.of_task.task.ins x.part.given fits.given) v e
 
-module _ (source : Named) (small : GivesSmall source) where
+module _ (source : Valuation) (small : GivesSmall source) where
   first_value_fits : (x : Var) → may_hold x.sort x.init ≡ true → may_hold x.sort (if comes_in x.usage then unwrap_or (option_and_then (of_sort x.sort) (source x.name)) x.init else x.init) ≡ true
   first_value_fits x init =
       elim (comes_in x.usage) as (λ b. may_hold x.sort (if b then unwrap_or (option_and_then (of_sort x.sort) (source x.name)) x.init else x.init) ≡ true) [

@@ -45,7 +45,7 @@ module _ (reader : Reader) (sound : ReadsSound reader) (s : State) (well : IsWel
       same_part y is = tasks.part_of_item s j x y item is
 
   atomic : is_atomic x.of_task.task ≡ true
-  atomic = tasks.select_is_atomic reader sound s well j x item (deep_is_no_case j (items.deep reader s well j x item)) (well.marks.due_has_rule j Select select)
+  atomic = tasks.select_is_atomic reader sound s well j x item (well.marks.due_has_rule j Select select)
 
   -- the choice is made
   abbrev passed : State

@@ -90,6 +90,10 @@ pub record HasRecord {D : Type 0} (g : Ghosts D) (before now : Journal) (new : D
   pub current : IsCurrent now (with_record c bytes) (g.state new)
   pub each_has : (i : Image) → g.may_leave new i → Holds before.file (with_record c bytes) now.end i
 
+-- the journal stands for a content of the files, where the desk tells what they hold
+abbrev pub StandsFor : {D : Type 0} → Ghosts D → Journal → D → Type 0
+StandsFor g j desk = IsTrue (g.tells desk) → (c : Content) × IsCurrent j c (g.state desk)
+
 -- the journal with one record more, which is handed in so
 abbrev pub with_end : Journal → List ℕ → Journal
 with_end j framed = record j { end = j.end + length framed; number = j.number + 1 }

@@ -1,5 +1,5 @@
 -- Laws of what the files hold.
-use Rattle.std.specs.Prelude.{◌≡◌, ◌⊎◌, ◌==◌, ◌&&◌, ℕ, ◌+◌, ◌≤◌, ◌<◌, nat_le, List, [], ◌∷◌, ◌++◌, length, take, drop, slice_index, Bool, true, false, if◌then◌else◌, Option, None, Some, refl}
+use Rattle.std.specs.Prelude.{◌≡◌, ◌⊎◌, ◌==◌, ◌&&◌, ℕ, ◌+◌, ◌≤◌, nat_le, List, [], ◌∷◌, ◌++◌, length, take, drop, slice_index, Bool, true, false, if◌then◌else◌, Option, None, Some, refl}
 use Rattle.std.specs.Int.{w64, to_be_bytes, from_be_bytes}
 use Rattle.std.specs.Str.{bytes_eq}
 use Rattle.std.proofs.Common.{inl, inr, ⊎_elim, sym, ap, ◌∙◌, subst, arith, append_assoc, length-append}
@@ -11,7 +11,7 @@ use Rattle.yw_outside.specs.declared.desk.File.TheVariants.{A, B}
 use Rattle.yw_outside.specs.declared.image.Image.{Image}
 use Rattle.yw_outside.specs.Image.{file_in, other_in}
 use Rattle.yw_journal.specs.Files.{Content, FileHas, Holds, HasContent, NoneIsLive, IsHead, IsLesser, opening, magic, greatest, end_of, records_size, is_live, header_damage, magic_of, generation_of, count_of, snapshot_size_of}
-use Rattle.yw_journal.specs.Journal.{IsMadeOf, IsHeldBeside, IsBeforeOrMade, IsBeforeShutOrMade, made, header_bytes, other_file, with_record}
+use Rattle.yw_journal.specs.Journal.{IsMadeOf, IsAboveOther, IsHeldBeside, IsBeforeOrMade, IsBeforeShutOrMade, made, header_bytes, other_file, with_record}
 use Rattle.yw_journal.specs.Records.{AreOpen, IsFramed, IsFramedState}
 
 -- the first eight bytes
@@ -234,7 +234,7 @@ module _ (f : File) (c : Content) (old : Image) (beside : IsHeldBeside f c old) 
       beside_shut B i end shut other h = record { file = subst (λ (l : List ℕ). FileHas l c end) (sym other) h.file; other = inl shut }
 
   -- the other file is lesser than one of this generation
-  pub beside_lesser : (generation : ℕ) → (is_live (other_in f old) ≡ true → generation_of (other_in f old) < generation) → IsLesser generation (other_in f old)
+  pub beside_lesser : (generation : ℕ) → IsAboveOther f generation old → IsLesser generation (other_in f old)
   beside_lesser generation above =
       ⊎_elim
       (λ (none : NoneIsLive old × (c ≡ opening)). inl (none_other f none.0))
@@ -255,7 +255,7 @@ module _ (f : File) (c : Content) (old : Image) (beside : IsHeldBeside f c old) 
 
   -- a file that is made at any moment of its making
   pub made_or_before : (generation number : ℕ) (snapshot framed : List ℕ) → 1 ≤ generation → generation ≤ greatest → number ≤ greatest → IsFramedState framed snapshot
-      → (is_live (other_in f old) ≡ true → generation_of (other_in f old) < generation) → (i : Image) → IsBeforeShutOrMade f (header_bytes generation number) framed old i
+      → IsAboveOther f generation old → (i : Image) → IsBeforeShutOrMade f (header_bytes generation number) framed old i
       → IsBeforeOrMade f c (made generation number snapshot) old i
   made_or_before generation number snapshot framed some small few is above i b = record {
     holds = ⊎_elim

@@ -1,12 +1,12 @@
 -- What a journal stands for, and what its calls leave.
-use Rattle.std.specs.Prelude.{◌≡◌, ◌⊎◌, ℕ, ◌+◌, ◌-◌, ◌≤◌, ◌^◌, List, [], ◌∷◌, ◌++◌, take, false}
+use Rattle.std.specs.Prelude.{◌≡◌, ◌⊎◌, ℕ, ◌+◌, ◌-◌, ◌≤◌, ◌<◌, ◌^◌, List, [], ◌∷◌, ◌++◌, take, true, false}
 use Rattle.std.specs.Int.{w64, to_be_bytes}
 use Rattle.yw_outside.specs.declared.desk.File.{File}
 use Rattle.yw_outside.specs.declared.desk.File.TheVariants.{A, B}
 use Rattle.yw_outside.specs.declared.image.Image.{Image}
 use Rattle.yw_outside.specs.Image.{file_in, other_in, overwritten}
 use Rattle.yw_journal.specs.declared.journal.Journal.{Journal}
-use Rattle.yw_journal.specs.Files.{Content, Holds, HasContent, NoneIsLive, opening, number_of, is_live, magic}
+use Rattle.yw_journal.specs.Files.{Content, Holds, HasContent, NoneIsLive, opening, number_of, generation_of, is_live, magic}
 
 -- the numbers of a journal that can go on
 pub record IsReady (j : Journal) : Type 0 where
@@ -46,6 +46,10 @@ other_file B = A
 -- the files hold this content without this file: no file is live, or the other is the live one of higher generation
 abbrev pub IsHeldBeside : File → Content → Image → Type 0
 IsHeldBeside f c i = (NoneIsLive i × (c ≡ opening)) ⊎ ((end : ℕ) × Holds (other_file f) c end i)
+
+-- the other file has a lower generation, where it is live
+abbrev pub IsAboveOther : File → ℕ → Image → Type 0
+IsAboveOther f generation i = is_live (other_in f i) ≡ true → generation_of (other_in f i) < generation
 
 -- the content from before, or the new one whole; the other file and the output are not touched
 pub record IsBeforeOrMade (f : File) (before new : Content) (old image : Image) : Type 0 where

@@ -1,9 +1,8 @@
 // A record more.
-ghost use Rattle.std.specs.Prelude.{◌≡◌, List, ℕ, IsTrue, OnOk, OnErr, Err};
+ghost use Rattle.std.specs.Prelude.{◌≡◌, List, ℕ, OnOk, OnErr, Err};
 ghost use Rattle.yw_outside.specs.Since.{LeavesOnly};
-ghost use Rattle.yw_journal.specs.Calls.{Counts, ForRecord, HasNoRoom, HasRecord, IsAppendedTo, Rewrites, NonePending, with_end};
-ghost use Rattle.yw_journal.specs.Files.{Content};
-ghost use Rattle.yw_journal.specs.Journal.{IsReady, IsCurrent, IsBeforeOrAfter};
+ghost use Rattle.yw_journal.specs.Calls.{Counts, ForRecord, HasNoRoom, HasRecord, IsAppendedTo, Rewrites, NonePending, StandsFor, with_end};
+ghost use Rattle.yw_journal.specs.Journal.{IsReady, IsBeforeOrAfter};
 ghost use Rattle.yw_journal.specs.Records.{IsFramed};
 
 use crate::synced::write_synced;
@@ -18,7 +17,7 @@ impl Journal {
     pub fn append<D: Desk>(&mut self, desk: &mut D, framed: &[u8]) -> Result<(), AppendFault>
         requires ready { IsReady self.old }
         requires framed { (bytes : List ℕ) × IsFramed framed.now bytes }
-        requires current { IsTrue (D.tells desk.old) → (c : Content) × IsCurrent self.old c (D.state desk.old) }
+        requires current { StandsFor D.Desk self.old desk.old }
         requires settled { NonePending D.Desk desk.old }
 
         // At Ok the record is there, and no other byte has changed.
@@ -32,7 +31,8 @@ impl Journal {
 
         // A crash at any moment leaves the records from before, or these and the new one.
         ensures any_moment { ForRecord D.Desk self.old framed.now desk.old (λ c bytes.
-            LeavesOnly D.Desk desk.old desk.new (IsBeforeOrAfter self.old.file c bytes (D.state desk.old))) }
+            LeavesOnly D.Desk desk.old desk.new
+            (IsBeforeOrAfter self.old.file c bytes (D.state desk.old))) }
 
         // Each other answer has its cause, and no failed call is passed over.
         ensures counts { Counts D.Desk desk.old desk.new result }

@@ -5,7 +5,8 @@ ghost use Rattle.yw_journal.specs.Files.{Content, FileHas, HasContent};
 
 /// A file has one content, and its records end at one offset.
 pub fn content_once()
-    ensures { (file : List ℕ) (c d : Content) (end stop : ℕ) → FileHas file c end → FileHas file d stop → (c ≡ d) × (end ≡ stop) }
+    ensures { (file : List ℕ) (c d : Content) (end stop : ℕ)
+        → FileHas file c end → FileHas file d stop → (c ≡ d) × (end ≡ stop) }
 {}
 
 /// Both files hold one content.

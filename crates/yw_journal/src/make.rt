@@ -1,11 +1,10 @@
 // A file made anew.
-ghost use Rattle.std.specs.Prelude.{◌≡◌, ◌≤◌, ◌<◌, ◌+◌, ◌^◌, List, ℕ, IsTrue, IfOk, OnOk, Err, true, false, length};
+ghost use Rattle.std.specs.Prelude.{◌≡◌, ◌≤◌, ◌<◌, ◌+◌, ◌^◌, List, ℕ, IsTrue, IfOk, OnOk, Err, false, length};
 ghost use Rattle.yw_outside.specs.declared.image.Image.{Image};
-ghost use Rattle.yw_outside.specs.Image.{file_in, other_in};
+ghost use Rattle.yw_outside.specs.Image.{file_in};
 ghost use Rattle.yw_outside.specs.Since.{LeavesOnly, OfFiles};
 ghost use Rattle.yw_journal.specs.Calls.{Counts, ForSnapshot, HasNoRoom, IsFilledAfter, IsMade, IsMadeOver, IsOpenOrEmpty, IsShut, IsShutOf, Leaves, Rewrites, NonePending, made_journal};
-ghost use Rattle.yw_journal.specs.Files.{generation_of, is_live};
-ghost use Rattle.yw_journal.specs.Journal.{IsReady, IsCurrent, IsBeforeOrMade, IsBeforeOrShut, IsBeforeShutOrMade, KeepsGateByte, made, header_bytes};
+ghost use Rattle.yw_journal.specs.Journal.{IsReady, IsCurrent, IsAboveOther, IsBeforeOrMade, IsBeforeOrShut, IsBeforeShutOrMade, KeepsGateByte, made, header_bytes};
 ghost use Rattle.yw_journal.specs.Records.{IsFramedState};
 
 use crate::synced::write_synced;
@@ -28,8 +27,10 @@ fn header(generation: u64, number: u64) -> [u8; HEADER]
 
 // The file is empty, or its gate is open.
 fn is_open<D: Desk>(desk: &mut D, f: File) -> Result<bool, Failed>
-    ensures open { IsTrue (D.tells desk.old) → IfOk result (λ yes. IsTrue yes → IsOpenOrEmpty (file_in f (D.state desk.old))) }
-    ensures shut { IsTrue (D.tells desk.old) → IfOk result (λ yes. yes ≡ false → IsShut (file_in f (D.state desk.old))) }
+    ensures open { IsTrue (D.tells desk.old) → IfOk result (λ yes. IsTrue yes
+        → IsOpenOrEmpty (file_in f (D.state desk.old))) }
+    ensures shut { IsTrue (D.tells desk.old) → IfOk result (λ yes. yes ≡ false
+        → IsShut (file_in f (D.state desk.old))) }
     ensures state { D.state desk.new ≡ D.state desk.old }
     ensures crash { (c : Image) → D.may_leave desk.new c → D.may_leave desk.old c }
     ensures any_moment { LeavesOnly D.Desk desk.old desk.new (D.may_leave desk.old) }
@@ -66,7 +67,8 @@ fn write_rest<D: Desk>(
     requires some { IsTrue (D.tells desk.old) → 1 ≤ length (file_in f (D.state desk.old)) }
     requires fits { 21 + length framed.now < 2 ^ 63 }
     requires settled { NonePending D.Desk desk.old }
-    ensures rewrites { OnOk result (Rewrites D.Desk f (IsFilledAfter header.now framed.now) desk.old desk.new) }
+    ensures rewrites { OnOk result (Rewrites D.Desk f
+        (IsFilledAfter header.now framed.now) desk.old desk.new) }
     ensures any_moment { Leaves D.Desk (KeepsGateByte f) desk.old desk.new }
     ensures counts { OfFiles D.Desk desk.old desk.new result }
 {
@@ -83,8 +85,10 @@ fn make_of<D: Desk>(
 ) -> Result<(), Failed>
     requires fits { 21 + length framed.now < 2 ^ 63 }
     requires settled { NonePending D.Desk desk.old }
-    ensures rewrites { OnOk result (Rewrites D.Desk f (IsMadeOver header.now framed.now) desk.old desk.new) }
-    ensures any_moment { Leaves D.Desk (IsBeforeShutOrMade f header.now framed.now) desk.old desk.new }
+    ensures rewrites { OnOk result (Rewrites D.Desk f
+        (IsMadeOver header.now framed.now) desk.old desk.new) }
+    ensures any_moment { Leaves D.Desk
+        (IsBeforeShutOrMade f header.now framed.now) desk.old desk.new }
     ensures counts { OfFiles D.Desk desk.old desk.new result }
 {
     shut(desk, f)?;
@@ -112,17 +116,19 @@ impl Journal {
         requires few { number ≤ 2 ^ 62 }
         requires limited { limit ≤ 2 ^ 62 }
         requires framed { (snapshot : List ℕ) × IsFramedState framed_state.now snapshot }
-        requires above { IsTrue (D.tells desk.old) → is_live (other_in file (D.state desk.old)) ≡ true → generation_of (other_in file (D.state desk.old)) < generation }
+        requires above { IsTrue (D.tells desk.old)
+            → IsAboveOther file generation (D.state desk.old) }
         requires settled { NonePending D.Desk desk.old }
 
         // At Ok the file is made, byte for byte, and nothing else has changed.
-        ensures journal { IfOk result (λ j. j ≡ made_journal file generation number framed_state.now limit) }
+        ensures journal { IfOk result (λ j.
+            j ≡ made_journal file generation number framed_state.now limit) }
         ensures ready { IfOk result IsReady }
         ensures rewrites { OnOk result (Rewrites D.Desk file
             (IsMadeOver (header_bytes generation number) framed_state.now) desk.old desk.new) }
         ensures made { IfOk result (λ j. IsMade D.Desk j framed_state.now desk.old desk.new) }
-        ensures current { IfOk result (λ j. ForSnapshot D.Desk file framed_state.now desk.old (λ c snapshot.
-            IsCurrent j (made generation number snapshot) (D.state desk.new))) }
+        ensures current { IfOk result (λ j. ForSnapshot D.Desk file framed_state.now desk.old
+            (λ c snapshot. IsCurrent j (made generation number snapshot) (D.state desk.new))) }
 
         // A crash at any moment leaves what was held before, or the new file.
         ensures any_moment { ForSnapshot D.Desk file framed_state.now desk.old (λ c snapshot.
@@ -133,7 +139,8 @@ impl Journal {
         ensures counts { Counts D.Desk desk.old desk.new result }
         ensures full { (n : ℕ) → result ≡ Err (AppendFault.Full n)
             → HasNoRoom limit 21 framed_state.now n × (desk.new ≡ desk.old) }
-        ensures fits { (n : ℕ) → HasNoRoom limit 21 framed_state.now n → result ≡ Err (AppendFault.Full n) }
+        ensures fits { (n : ℕ) → HasNoRoom limit 21 framed_state.now n
+            → result ≡ Err (AppendFault.Full n) }
     {
         let end = HEADER as u64 + 1 + framed_state.len() as u64;
         if end > limit {

@@ -12,10 +12,13 @@ use yw_outside::{Desk, Failed, File};
 pub fn write_synced<D: Desk>(desk: &mut D, f: File, at: u64, bytes: &[u8]) -> Result<(), Failed>
     requires within { IsTrue (D.tells desk.old) → at ≤ length (file_in f (D.state desk.old)) }
     requires fits { at + length bytes.now < 2 ^ 63 }
-    ensures written { IsTrue (D.tells desk.old) → Written f at bytes.now (D.state desk.old) result (D.state desk.new) }
+    ensures written { IsTrue (D.tells desk.old)
+        → Written f at bytes.now (D.state desk.old) result (D.state desk.new) }
     ensures durable { OnOk result (IsDurable f (D.state desk.new) (D.may_leave desk.new)) }
-    ensures crash { (c : Image) → D.may_leave desk.new c → LeftByWrite D.Desk f at bytes.now desk.old c }
-    ensures any_moment { LeavesOnly D.Desk desk.old desk.new (LeftByWrite D.Desk f at bytes.now desk.old) }
+    ensures crash { (c : Image) → D.may_leave desk.new c
+        → LeftByWrite D.Desk f at bytes.now desk.old c }
+    ensures any_moment { LeavesOnly D.Desk desk.old desk.new
+        (LeftByWrite D.Desk f at bytes.now desk.old) }
     ensures settled { NonePending D.Desk desk.old → OnOk result (NonePending D.Desk desk.new) }
     ensures counts { OfFiles D.Desk desk.old desk.new result }
 {

@@ -13,13 +13,14 @@ use Rattle.yw_state.proofs.Entries.{comes_from, entry-found, find-entry, mapped_
 use Rattle.yw_state.proofs.Gone.{same_item_at, taken}
 use Rattle.yw_state.proofs.MapLemmas.{by_name, get-remove_other, get-retain_kept, get-update_other, retain_stands}
 use Rattle.yw_state.proofs.Tests.{by_option, by_test, never, nowhere, there, then_some}
-use Rattle.yw_state.specs.After.{change, complete, completed, end_net, exit, idents, make_due, produce, set_values, where_some, where_spec, wipe, with_item, with_net, with_sites, without_items}
-use Rattle.yw_state.specs.Allowed.{exit_values, place_numbers}
+use Rattle.yw_state.specs.After.{change, complete, completed, end_net, exit, idents, items_gone, make_due, produce, region_emptied, values_assigned, where_some, where_spec, wipe, with_item, with_net, with_sites, without_items}
+use Rattle.yw_state.specs.Allowed.{place_numbers}
 use Rattle.yw_state.specs.ByName.{made_by_child, made_by_worklet, made_of_given}
 use Rattle.yw_state.specs.Events.{after}
-use Rattle.yw_state.specs.Exlets.{case_of, cut_back, end_compensation, end_if_over, primitive, restarted, take_primitive}
+use Rattle.yw_state.specs.Exlets.{case_above, cut_back, end_compensation, end_if_over, primitive, restarted, take_primitive}
 use Rattle.yw_state.specs.Gone.{cut_back_removes, primitive_removes, removes, under_item}
 use Rattle.yw_state.specs.Identity.{Ident, case_ident, is_child, parent, same, strictly_under}
+use Rattle.yw_state.specs.Judged.{case_place}
 use Rattle.yw_state.specs.Map.{entries, get, retain}
 use Rattle.yw_state.specs.Options.{is_some_and}
 use Rattle.yw_state.specs.State.{State, Site, Sites, ItemAt, ItemPart, NetAt, NetPart, TaskAt, bare, bare_but, drop, drop_all, if_of_task, item_at, item_of_task, item_part, items_of, net_at, spec_called, task_at, top_called}
@@ -133,24 +134,24 @@ module _ (k : Ident) where
   exit-same s i places x other out =
       let cs : List ℕ = unwrap_or (place_numbers x.within.net places) [] in
       let parts = or_parts (under_item s i k x.number) (list_any (under_item s i k) x.task.drop_tasks) out in
-      let gone = without_items i s x.number in
-      let assigned = set_values gone i (exit_values s i x) in
+      let gone = items_gone s i x in
+      let assigned = values_assigned s i x in
       let wiped = wipe assigned i x.task.drop_places in
-      let emptied = fold (without_items i) wiped x.task.drop_tasks in
+      let emptied = region_emptied s i x in
       let put = produce emptied i cs in
       let from : ItemsFrom s wiped = λ q y is. drop_all-items (idents (items_of s i x.number)) s q y (net-items gone i _ q y (net-items assigned i _ q y is)) in
       let before : Same k s wiped = change-same assigned i _ other ∙ change-same gone i _ other ∙ without-same s s i x.number (λ q y is. is) parts.0 in
       let there : Same k s put = change-same emptied i _ other ∙ each-same s i x.task.drop_tasks wiped from parts.1 ∙ before in
-      either-same _ s (make_due put i Post) put (change-same put i _ other ∙ there) there
+      either-same _ s (make_due put i (case_place x.within.part.spec Post)) put (change-same put i _ other ∙ there) there
 
   -- ---- ends of nets and compensations
 
-  complete-same : (s : State) (j : Ident) (out : Row) → same k j ≡ false → Same k s (complete s j out)
-  complete-same s j out other = change-same (change s j (with_item (completed out))) j _ other ∙ change-same s j _ other
+  complete-same : (s : State) (j : Ident) (out : Row) (x : ItemAt) → same k j ≡ false → Same k s (complete s j out x)
+  complete-same s j out x other = change-same (change s j (with_item (completed out))) j _ other ∙ change-same s j _ other
 
   ended-same : (s : State) (j : Ident) (made : NetAt → ItemAt → Row) → same k j ≡ false → strictly_under k j ≡ false → Same k s (where_some (item_at s j) s (end_net s j made))
   ended-same s j made other out =
-      some-same (item_at s j) s _ (λ x e. some-same (net_at s j) s _ (λ n d. complete-same (with_sites s (bare s.sites j)) j (made n x) other ∙ bare-same s.sites j other out))
+      some-same (item_at s j) s _ (λ x e. some-same (net_at s j) s _ (λ n d. complete-same (with_sites s (bare s.sites j)) j (made n x) x other ∙ bare-same s.sites j other out))
 
   over-same : (s : State) (r : Ident) → same k r ≡ false → Same k s (end_if_over s r)
   over-same s r other = either-same _ s _ s (get-remove_other by_name s.sites r k (apart k r other)) refl
@@ -164,7 +165,7 @@ module _ (k : Ident) where
   cut_back-same : (s : State) (r j : Ident) (f : ItemPart → ItemPart) → same k j ≡ false → (strictly_under k j && not (same k r)) ≡ false → Same k s (cut_back s r j f)
   cut_back-same s r j f other out = change-same (with_sites s (bare_but s.sites j r)) j _ other ∙ bare_but-same s.sites j r other out
 
-  primitive-same : (s : State) (r : Ident) (p : Primitive) → same k r ≡ false → same k (parent r) ≡ false → same k (case_of r) ≡ false → primitive_removes s r k p ≡ false → Same k s (primitive s r (parent r) p)
+  primitive-same : (s : State) (r : Ident) (p : Primitive) → same k r ≡ false → same k (parent r) ≡ false → same k (case_above r) ≡ false → primitive_removes s r k p ≡ false → Same k s (primitive s r (parent r) p)
   primitive-same s r SuspendItem run item case out = change-same s (parent r) _ item
   primitive-same s r ContinueItem run item case out = change-same s (parent r) _ item
   primitive-same s r RestartItem run item case out = some-same (item_at s (parent r)) s _ (λ x is.
@@ -178,9 +179,9 @@ module _ (k : Ident) where
       (λ on. ap (λ b. get (if b then s else cut_back s r (parent r) (completed (made_of_given x))).sites k) on
       ∙ cut_back-same s r (parent r) (completed (made_of_given x)) item (sym (ap (λ b. not b && cut_back_removes r k) on) ∙ cut)))
   primitive-same s r RemoveItem run item case out = drop-same s.sites (parent r) out
-  primitive-same s r SuspendCase run item case out = change-same s (case_of r) _ case
-  primitive-same s r ContinueCase run item case out = change-same s (case_of r) _ case
-  primitive-same s r RemoveCase run item case out = drop-same s.sites (case_of r) out
+  primitive-same s r SuspendCase run item case out = change-same s (case_above r) _ case
+  primitive-same s r ContinueCase run item case out = change-same s (case_above r) _ case
+  primitive-same s r RemoveCase run item case out = drop-same s.sites (case_above r) out
   primitive-same s r (Compensate name) run item case out = either-same _ s _ s (spec-same s name _ (λ spec net. change-same s r _ run)) refl
   primitive-same s r (Unknown text) run item case out = refl
 
@@ -189,7 +190,7 @@ module _ (k : Ident) where
   same_removes s r CompleteItem = ap (λ (o : Option ItemAt). is_some_and o (λ x. not (is_completed x.part.stage)) && cut_back_removes r k) (same_item_at s r (parent r))
   same_removes s r p = refl
 
-  taken-same : (s : State) (r : Ident) (p : Primitive) → same k r ≡ false → same k (parent r) ≡ false → same k (case_of r) ≡ false → primitive_removes s r k p ≡ false → Same k s (take_primitive s r p)
+  taken-same : (s : State) (r : Ident) (p : Primitive) → same k r ≡ false → same k (parent r) ≡ false → same k (case_above r) ≡ false → primitive_removes s r k p ≡ false → Same k s (take_primitive s r p)
   taken-same s r p run item case out =
       over-same (primitive (taken s r) r (parent r) p) r run ∙ primitive-same (taken s r) r p run item case (same_removes s r p ∙ out) ∙ change-same s r _ run
 
@@ -204,7 +205,7 @@ module _ (k : Ident) where
   others_stay s (events.CompleteSub j) said may out other = ended-same s j made_by_child other out
   others_stay s (events.CompleteWorklet j) said may out other = ended-same s j made_by_worklet other out
   others_stay s (events.Prim r p) said may out other =
-      let parts = or_parts (same k r || same k (parent r)) (same k (case_of r)) other in
+      let parts = or_parts (same k r || same k (parent r)) (same k (case_above r)) other in
       let both = or_parts (same k r) (same k (parent r)) parts.0 in
       taken-same s r p both.0 both.1 parts.1 out
   others_stay s (events.Compensated r) said may out other = compensated-same s r other out

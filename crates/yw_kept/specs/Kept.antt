@@ -1,7 +1,7 @@
 -- The events that remove something, and what they change besides. What an event removes stands in `Gone` of `yw_state`; that all else stays is the
 -- paper's for exits and ends of nets. The list is our own.
 use Rattle.std.specs.Prelude.{◌||◌, Bool, true, false}
-use Rattle.yw_state.specs.Exlets.{case_of}
+use Rattle.yw_state.specs.Exlets.{case_above}
 use Rattle.yw_state.specs.Identity.{Ident, parent, same}
 use Rattle.yw_state.specs.declared.event.Event.{Event}
 use Rattle.yw_state.specs.declared.event.Event.TheVariants as events
@@ -22,6 +22,6 @@ abbrev pub is_done_at : Event → Ident → Bool
 is_done_at (events.Exit i t places) j = same j i
 is_done_at (events.CompleteSub i) j = same j i
 is_done_at (events.CompleteWorklet i) j = same j i
-is_done_at (events.Prim r p) j = same j r || same j (parent r) || same j (case_of r)
+is_done_at (events.Prim r p) j = same j r || same j (parent r) || same j (case_above r)
 is_done_at (events.Compensated r) j = same j r
 is_done_at e j = false

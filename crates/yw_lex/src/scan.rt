@@ -6,12 +6,9 @@ ghost use Rattle.yw_lex.specs.Spelling.{BeginsPair, IsName, IsNextDigit, IsNumbe
 ghost use Rattle.yw_lex.specs.Tokens.{HasNoFront, IsLongest, IsLongestToken};
 
 use crate::Word;
+use yw_base::{MOST_NAME_BYTES, MOST_TEXT_BYTES};
 
 const MOST_NUMBER: u64 = 9223372036854775807;
-
-const MOST_NAME_BYTES: usize = 64;
-
-const MOST_TEXT_BYTES: usize = 4096;
 
 const QUOTE: u8 = b'\'';
 

@@ -1,7 +1,7 @@
 -- What a line means: nothing, by a rule, or a command or a query. A line is a JSON object, as `serde_json` reads it, with
 -- `cmd` and exactly the fields of its word. A word that isn't among those built is refused before its fields are looked at. Our own.
-use Rattle.std.specs.Prelude.{◌≡◌, ℕ, List, length, Bool, true, nat_lt, if◌then◌else◌, Option, Some, None, Result, Err, ok_or, codes}
-use Rattle.std.specs.List.{list_any}
+use Rattle.std.specs.Prelude.{◌≡◌, ℕ, List, length, Bool, true, nat_le, nat_lt, if◌then◌else◌, Option, Some, None, Result, Err, ok_or, codes}
+use Rattle.std.specs.List.{list_all, list_any}
 use Rattle.std.specs.Str.{bytes_eq, is_utf8}
 use Rattle.serde_json.specs.Data.{Data}
 use Rattle.serde_json.specs.Read.{read}
@@ -13,7 +13,8 @@ use Rattle.yw_state.specs.declared.rule.Rule.{Rule}
 use Rattle.yw_state.specs.declared.rule.Rule.TheVariants.{LineTooLong, NotJson, NotCommand, NotBuilt}
 use Rattle.yw_lines.specs.declared.word.Word.{Word}
 use Rattle.yw_lines.specs.Fields.{field, one_of}
-use Rattle.yw_state.specs.Allowed.{are_roles}
+use Rattle.yw_base.specs.Spelling.{is_name}
+use Rattle.yw_state.specs.Allowed.{are_roles, is_raised}
 use Rattle.yw_lines.specs.Lines.{line_limit}
 use Rattle.yw_lines.specs.Shapes.{shape_of}
 use Rattle.yw_lines.specs.Words.{word_in, word_text}
@@ -37,9 +38,11 @@ text_meaning built line = if is_utf8 line then value_meaning built (read line) e
 unfoldable pub meaning : List Word → List ℕ → Result Asked Rule
 meaning built line = if nat_lt line_limit (length line) then Err LineTooLong else text_meaning built line
 
--- a command whose fields are as a line gives them
+-- a command as a line gives it: names are names, roles are roles, a text is no longer than a line, and what is raised can be
 abbrev pub IsProper : Command → Type 0
-IsProper (commands.Person name roles) = are_roles roles ≡ true
+IsProper (commands.Person name roles) = (is_name name ≡ true) × (list_all is_name roles ≡ true) × (are_roles roles ≡ true)
+IsProper (commands.Load text) = nat_le (length text) line_limit ≡ true
+IsProper (commands.Raise at kind) = is_raised kind ≡ true
 IsProper command = Unit {0}
 
 -- what is asked is proper

@@ -27,8 +27,8 @@ refused_data n refusal =
 abbrev pub line_of : Data → List ℕ
 line_of d = compact_text d ++ 10 ∷ []
 
-unfoldable pub done : ℕ → List Event → Bool → List ℕ
-done n events quiet = line_of (done_data n events quiet)
+unfoldable pub done_line : ℕ → List Event → Bool → List ℕ
+done_line n events quiet = line_of (done_data n events quiet)
 
-unfoldable pub refused : ℕ → Refusal → List ℕ
-refused n refusal = line_of (refused_data n refusal)
+unfoldable pub refused_line : ℕ → Refusal → List ℕ
+refused_line n refusal = line_of (refused_data n refusal)

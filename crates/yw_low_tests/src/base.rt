@@ -131,7 +131,7 @@ fn says(value: Val, int: i64, text: &str) -> bool {
     }
 }
 
-/// A copy of the value has the sort, and says the same.
+/// A copy of the value has the sort, is within the limits, and says the same.
 fn copy_says(
     alloc: Global,
     value: &Value,
@@ -141,7 +141,8 @@ fn copy_says(
 ) -> Result<bool, AllocError> {
     let copy = value.copy(alloc)?;
     let has_sort = copy.sort() == sort && copy.has_sort(sort) && copy.fits(sort);
-    Ok(has_sort && copy.lend().sort() == sort && says(copy.lend(), int, text))
+    let is_kept = has_sort && copy.is_small() && copy.lend().sort() == sort;
+    Ok(is_kept && says(copy.lend(), int, text))
 }
 
 fn is_text_copied(alloc: Global) -> Result<bool, AllocError> {
@@ -200,6 +201,12 @@ fn fits(value: &Value, ints: bool, texts: bool) -> bool {
     value.fits(Sort::Ints) == ints && value.fits(Sort::Texts) == texts && !value.fits(Sort::Int)
 }
 
+/// What the empty list means where this sort is wanted is of the sort.
+fn means(alloc: Global, sort: Sort) -> bool {
+    let meant = Value::Ints(Items::new(alloc)).meant(alloc, sort);
+    meant.has_sort(sort)
+}
+
 #[test]
 fn fits_the_empty_list(rt: HostRuntime) -> Result<(), Fail> {
     let empty = Value::Ints(Items::new(rt.alloc()));
@@ -207,6 +214,7 @@ fn fits_the_empty_list(rt: HostRuntime) -> Result<(), Fail> {
     assert!(rt; fits(&Value::Texts(Items::new(rt.alloc())), false, true));
     let one = Value::Ints(Items::from_vec(vec![in rt.alloc(); 1]?));
     assert!(rt; fits(&one, true, false));
+    assert!(rt; means(rt.alloc(), Sort::Texts) && means(rt.alloc(), Sort::Ints));
     Ok(())
 }
 

@@ -5,7 +5,6 @@ use Rattle.yw_base.specs.declared.gate.Gate.TheVariants.{And, Xor, Or}
 use Rattle.yw_mark.specs.Tokens.{HasMarks, is_marked}
 use Rattle.yw_mark.specs.declared.join.Taken.{Taken}
 use Rattle.yw_mark.specs.declared.join.Taken.TheVariants.{All, One, Marked}
-use Rattle.yw_spec.specs.Net.{before}
 use Rattle.yw_spec.specs.declared.spec.Net.{Net}
 use Rattle.yw_spec.specs.declared.task.Task.{Task}
 use Rattle.yw_state.specs.Identity.{Ident}

@@ -3,7 +3,7 @@ ghost use Rattle.std.specs.Prelude.{◌≡◌, ◌<◌, Some, IfSome, find, is_s
 ghost use Rattle.std.specs.List.{list_all, list_any};
 ghost use Rattle.yw_mark.specs.Taking.{Chooses, HasTokens, OfTask, taken_places};
 ghost use Rattle.yw_mark.specs.Tokens.{TakesEach, is_marked};
-ghost use Rattle.yw_spec.specs.Net.{before};
+ghost use Rattle.yw_spec.specs.Net.{places_before};
 
 use crate::token::{is_marked, lose};
 use yw_base::Gate;
@@ -87,7 +87,7 @@ fn lose_each(marks: &mut Marks, places: &[usize])
 /// It takes no memory.
 pub fn take(net: &Net, marks: &mut Marks, t: usize, taken: Taken)
     requires { t < length net.now.tasks }
-    ensures { TakesEach (taken_places marks.old (before net.now t) taken) marks.old marks.new }
+    ensures { TakesEach (taken_places marks.old (places_before net.now t) taken) marks.old marks.new }
 {
     match taken {
         Taken::One(c) => lose_each(marks, &[c]),

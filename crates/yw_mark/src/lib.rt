@@ -8,4 +8,4 @@ mod token;
 
 pub use join::{Taken, is_any_marked, join_choice, take};
 pub use split::split_places;
-pub use token::{TokenLimit, is_marked, put};
+pub use token::{MOST_TOKENS, TokenLimit, count_on, is_among, is_marked, put};

@@ -3,20 +3,28 @@ ghost use Rattle.std.specs.Prelude.{◌≡◌, ◌<◌, ◌≤◌, ◌↔◌, le
 ghost use Rattle.yw_mark.specs.Tokens.{is_marked};
 ghost use Rattle.yw_state.specs.After.{count_on, one_less, one_more};
 ghost use Rattle.yw_state.specs.Allowed.{most_tokens};
+ghost use Rattle.yw_state.specs.Nets.{is_among};
 
 use thiserror::Error;
 use yw_state::Marks;
 
 /// How many tokens a place may have. The limit is our own.
-const MOST_TOKENS: u64 = 1_000_000;
+pub const MOST_TOKENS: u64 = 1_000_000;
 
 /// Why no token was put: the place has as many as it may have, 1,000,000.
 #[derive(Clone, Copy, Debug, Error, PartialEq, Eq)]
 #[error("the place has 1000000 tokens")]
 pub struct TokenLimit;
 
-/// How many tokens are on a place; none where there is no such place.
-fn count_on(marks: &Marks, c: usize) -> u64
+/// The place, by its number, is one of these. It takes no memory.
+pub fn is_among(places: &[usize], c: usize) -> bool
+    ensures { result ≡ is_among places.now c }
+{
+    places.iter().any(|place| c == *place)
+}
+
+/// How many tokens are on a place; none where there is no such place. It takes no memory.
+pub fn count_on(marks: &Marks, c: usize) -> u64
     ensures { result ≡ count_on marks.now c }
 {
     marks.get(c).copied().unwrap_or(0)

@@ -6,7 +6,7 @@ use Rattle.yw_state.specs.Texts.{Reader}
 use Rattle.yw_state.specs.Events.{LeadAll}
 use Rattle.yw_state.specs.Legal.{IsLegal}
 use Rattle.yw_lines.specs.Meaning.{meaning}
-use Rattle.yw_lines.specs.Replies.{done, refused}
+use Rattle.yw_lines.specs.Replies.{done_line, refused_line}
 use Rattle.yw_state.specs.Broken.{Breaks, placeless}
 use Rattle.yw_state.specs.declared.rule.Rule.{Rule}
 use Rattle.yw_state.specs.declared.rule.Rule.TheVariants.{NotBuilt}
@@ -51,7 +51,7 @@ pub record Step : Type 0 where
 -- a refusal is said, and changes nothing
 pub record Refuses (refusal : Refusal) (s : State) (n : ℕ) (step : Step) (t : State) : Type 0 where
   pub nothing : step.taken ≡ []
-  pub told : step.reply ≡ refused n refusal
+  pub told : step.reply ≡ refused_line n refusal
   pub same : t ≡ s
 
 -- one legal entry is taken, and its line is said
@@ -59,7 +59,7 @@ pub record Accepts (c : Command) (s : State) (n : ℕ) (step : Step) (t : State)
   pub entry : Entry
   pub legal : IsLegal reader s c entry.events entry.quiet t
   pub one : step.taken ≡ entry ∷ []
-  pub told : step.reply ≡ done n entry.events entry.quiet
+  pub told : step.reply ≡ done_line n entry.events entry.quiet
 
 -- by the first rule that is broken, if one is
 abbrev pub FoundAnswers : Option Refusal → Command → State → ℕ → Step → State → Type 0

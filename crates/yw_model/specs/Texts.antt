@@ -36,16 +36,16 @@ ReadsSpec text (Err refusal) = IsUnfit text refusal
 
 -- ---- conditions
 
-abbrev placed : List ℕ → ℕ → List ℕ
-placed name at = name ++ codes " " ++ decimal at
+abbrev at_byte : List ℕ → ℕ → List ℕ
+at_byte name at = name ++ codes " " ++ decimal at
 
 -- the fault's name and its place; that there are too many tokens or brackets has none
 abbrev pub fault_text : ExprFault → List ℕ
-fault_text (faults.Lex at) = placed (codes "Lex") at
+fault_text (faults.Lex at) = at_byte (codes "Lex") at
 fault_text faults.Deep = codes "Deep"
-fault_text (faults.Syntax at) = placed (codes "Syntax") at
-fault_text (faults.UnknownName at) = placed (codes "UnknownName") at
-fault_text (faults.Types at) = placed (codes "Types") at
+fault_text (faults.Syntax at) = at_byte (codes "Syntax") at
+fault_text (faults.UnknownName at) = at_byte (codes "UnknownName") at
+fault_text (faults.Types at) = at_byte (codes "Types") at
 fault_text faults.Memory = codes "Memory"
 
 -- the text spells an expression that is neither true nor false

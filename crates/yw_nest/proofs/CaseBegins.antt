@@ -1,23 +1,18 @@
 -- A case that begins: what the map has then.
-use Rattle.std.proofs.Common.{Bool, List, None, Option, Some, [], ap, false, length, subst, sym, true, ℕ, ◌+◌, ◌++◌, ◌∙◌, ◌≡◌}
-use Rattle.std.specs.Prelude.{nat_lt, option_and_then, slice_get}
-use Rattle.yw_nest.proofs.Maps.{updated_new}
-use Rattle.yw_nest.specs.Cases.{Launches, first_tokens, tree_before}
+use Rattle.std.proofs.Common.{List, None, Some, [], ap, false, length, subst, sym, ℕ, ◌+◌, ◌++◌, ◌∙◌, ◌≡◌}
+use Rattle.std.specs.Prelude.{option_and_then, slice_get}
+use Rattle.yw_nest.specs.Cases.{Launches, first_tokens}
 use Rattle.yw_sites.specs.Idents.{AreChildren}
 use Rattle.yw_spec.specs.declared.spec.Net.{Net}
 use Rattle.yw_spec.specs.declared.spec.Spec.{Spec}
-use Rattle.yw_state.proofs.Alike.{asked_of}
-use Rattle.yw_state.proofs.MapLemmas.{by_name, get-insert_same}
-use Rattle.yw_state.specs.After.{begin_case, due_where, empty_site, launch, new_net, put, stands, where_some, with_next, with_sites}
+use Rattle.yw_state.specs.After.{begin_case, case_checks, launch, new_case, where_some, with_next, with_sites}
 use Rattle.yw_state.specs.Events.{after}
 use Rattle.yw_state.specs.Identity.{Ident, case_ident}
-use Rattle.yw_state.specs.Judged.{has_rule, rules_at}
-use Rattle.yw_state.specs.Map.{insert, update}
+use Rattle.yw_state.specs.Map.{insert}
 use Rattle.yw_state.specs.Nets.{top_net}
-use Rattle.yw_state.specs.State.{NetPart, Site, State, top_called}
+use Rattle.yw_state.specs.State.{Site, top_called}
 use Rattle.yw_state.specs.Values.{Row}
 use Rattle.yw_state.specs.declared.part.Checks.{Checks}
-use Rattle.yw_state.specs.declared.tree.TreeKind.TheVariants.{Pre}
 use Rattle.yw_tree.proofs.Keys.{ids_are, kids}
 use Rattle.yw_tree.specs.Becomes.{Gets}
 use Rattle.yw_tree.specs.Begins.{BeginsNet}
@@ -44,24 +39,16 @@ module _ (old new : Forest) (spec : Spec) (number n : ℕ) (vals : Row) (due : C
   unfolding after
   launched gets boxed = record {
     leads = λ names s said sites needs.
-        let i : Ident = case_ident n in
         let name : List ℕ = names number in
-        let part : NetPart = new_net name spec.top top vals in
-        let x : Site = stands part empty_site in
-        let t : State = with_next (put s i x) (n + 1) in
-        let judged : Bool → Site → Site = λ b y. record y { due = due_where b Pre y.due } in
-        let has : Bool = nat_lt 0 (length (rules_at s (tree_before name))) in
+        let x : Site = new_case name spec top vals (case_checks s name) in
         let is_top : top_called s name ≡ Some top = ap (option_and_then top_net) needs.loaded ∙ at in
         let begin : launch s n name vals ≡ begin_case s n name vals spec top =
         ap (λ o. where_some o s (λ z. where_some (top_called s name) s (begin_case s n name vals z))) needs.loaded ∙ ap (λ o. where_some o s (begin_case s n name vals spec)) is_top in
-        let rule : has_rule t i Pre ≡ has = ap (λ (o : Option Site). asked_of true t (option_and_then (λ (y : Site). y.net) o) None Pre) (get-insert_same by_name s.sites i x) in
-        let site : case_site names begun ≡ judged has x = λ j. record { net = Some (begins.part names j); item = None; run = None; suspended = false; due = needs.checks j } in
+        let site : case_site names begun ≡ x = λ j. record { net = Some (begins.part names j); item = None; run = None; suspended = false; due = needs.checks j } in
         begin
-        ∙ ap (λ b. with_sites t (update (insert s.sites i x) i (judged b))) rule
-        ∙ ap (with_sites t) (updated_new s.sites i x (judged has))
         ∙ ap (with_sites (with_next s (n + 1)))
-        (ap (λ m. insert m i (judged has x)) sites
-        ∙ ap (λ k. insert (sites_of names old) k (judged has x)) (sym is_n)
+        (ap (λ m. insert m (case_ident n) x) sites
+        ∙ ap (λ k. insert (sites_of names old) k x) (sym is_n)
         ∙ ap (insert (sites_of names old) id) (sym site)
         ∙ sym (gets names));
     boxed = boxed;

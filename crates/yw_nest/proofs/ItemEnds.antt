@@ -12,7 +12,7 @@ use Rattle.yw_state.specs.declared.part.Stage.TheVariants.{Completed}
 use Rattle.yw_tree.proofs.ForestLaw.{identity_in_case}
 use Rattle.yw_tree.proofs.NetLaw.{site_open}
 use Rattle.yw_tree.proofs.OwnChange.{own_changed}
-use Rattle.yw_tree.specs.Forest.{IsForest, item_of, placed}
+use Rattle.yw_tree.specs.Forest.{IsForest, item_of, item_replaced}
 use Rattle.yw_tree.specs.Places.{Keeps}
 use Rattle.yw_tree.specs.declared.Forest.{Forest}
 use Rattle.yw_tree.specs.declared.NetState.{NetState}
@@ -23,7 +23,7 @@ abbrev Level : Type 0
 Level = Node-F NetState Node Run
 
 pub emptied : (f : Forest) (j : Ident) (old w : Node) (made : Row) → made ≡ [] → IsForest f → is_identity j ≡ true → item_of f j ≡ Some old
-    → out-Node w ≡ record (out-Node old) { stage = Completed; made = made } → CompletesEmpty j f (placed f j w)
+    → out-Node w ≡ record (out-Node old) { stage = Completed; made = made } → CompletesEmpty j f (item_replaced f j w)
 unfolding after
 emptied f j old w made nothing boxed identity found is =
     let e : out-Node w ≡ record (out-Node old) { stage = Completed; made = [] } = is ∙ (λ i. record (out-Node old) { stage = Completed; made = nothing i }) in

@@ -1,4 +1,3 @@
-pub mod Maps
 pub mod Outer
 pub mod Results
 pub mod Zipped

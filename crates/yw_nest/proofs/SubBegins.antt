@@ -24,7 +24,7 @@ use Rattle.yw_tree.proofs.NetLaw.{item_own, site_open}
 use Rattle.yw_tree.proofs.Parents.{identity_long, parent_there}
 use Rattle.yw_tree.specs.Boxed.{AtNet, AtNode, AtRun, IsBoxedNode, head, ids, net_ids, run_ids}
 use Rattle.yw_tree.specs.Entries.{below_net, below_run, flat, item_site, net_entries, node_entries, nodes}
-use Rattle.yw_tree.specs.Forest.{IsForest, placed, sites_of}
+use Rattle.yw_tree.specs.Forest.{IsForest, item_replaced, sites_of}
 use Rattle.yw_tree.specs.declared.Forest.{Forest}
 use Rattle.yw_tree.specs.declared.NetState.{NetState, out-NetState}
 use Rattle.yw_tree.specs.declared.Node.{Node, Node-F, every_here-Node, out-Node, roll-Node, roll-out-Node}
@@ -66,7 +66,7 @@ module _ (f : Forest) (boxed : IsForest f) (spec : Spec) (j : Ident) (identity :
       stands (new_net (names (out-NetState child.place.outer).spec) child.number child.child (first_values (given_named (its_item names child.place.outer child.place.net child.place.item child.place.task)) child.child))
       (with_item (begun (out-Node child.place.item).who) at)
 
-  map_then : (names : ℕ → List ℕ) → sites_of names (placed f j w) ≡ update (sites_of names f) j (begins names)
+  map_then : (names : ℕ → List ℕ) → sites_of names (item_replaced f j w) ≡ update (sites_of names f) j (begins names)
   map_then names =
       item_own names f j old boxed within child.place.found w w_head w_boxed (begins names)
       (ap (λ (z : Level). below_net names z.net ++ below_run names z.run) is ∙ ap (λ z. z ++ below_run names (out-Node old).run) (none_below names net.value child.begins.empty) ∙ ap (λ z. below_net names z ++ below_run names (out-Node old).run) (sym none))
@@ -87,7 +87,7 @@ module _ (f : Forest) (boxed : IsForest f) (spec : Spec) (j : Ident) (identity :
       ∙ ap (λ o. where_some (option_and_then (λ k. option_map (λ (z : Net). (k, z)) (slice_get spec.nets k)) o) s begin) child.of_task
       ∙ ap (λ o. where_some (option_map (λ (z : Net). (child.number, z)) o) s begin) child.of_spec
 
-  pub sub_started : StartsSub spec j f (placed f j w)
+  pub sub_started : StartsSub spec j f (item_replaced f j w)
   unfolding after
   sub_started = record {
     leads = λ names s said sites of. after_then names s sites of ∙ ap (λ m. with_sites s (update m j (begins names))) sites ∙ ap (with_sites s) (sym (map_then names));

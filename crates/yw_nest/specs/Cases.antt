@@ -1,19 +1,16 @@
 -- Cases that begin and that end.
-use Rattle.std.specs.Prelude.{◌≡◌, ℕ, ◌+◌, List, None, Some, length, nat_lt, replicate, slice_set, true}
+use Rattle.std.specs.Prelude.{◌≡◌, ℕ, ◌+◌, List, None, Some, length, replicate, slice_set, true}
 use Rattle.yw_base.specs.Identity.{is_number}
 use Rattle.yw_spec.specs.declared.spec.Net.{Net}
 use Rattle.yw_spec.specs.declared.spec.Spec.{Spec}
-use Rattle.yw_state.specs.After.{due_where, with_next}
-use Rattle.yw_state.specs.Judged.{rules_at}
+use Rattle.yw_state.specs.After.{case_checks, with_next}
 use Rattle.yw_state.specs.Map.{insert}
-use Rattle.yw_state.specs.State.{State, no_checks, spec_called}
+use Rattle.yw_state.specs.State.{State, spec_called}
 use Rattle.yw_state.specs.Values.{Row}
 use Rattle.yw_state.specs.declared.event.Event.TheVariants as events
 use Rattle.yw_state.specs.declared.part.Checks.{Checks}
 use Rattle.yw_state.specs.declared.part.Way.{Way}
 use Rattle.yw_state.specs.declared.part.Way.TheVariants.{Cancelled, Finished}
-use Rattle.yw_state.specs.declared.tree.TreeKind.TheVariants.{Pre}
-use Rattle.yw_state.specs.declared.tree.TreePlace.{TreePlace}
 use Rattle.yw_nest.specs.Does.{Does, NeedsNothing}
 use Rattle.yw_tree.specs.Cases.{case_at}
 use Rattle.yw_tree.specs.declared.Forest.{Forest}
@@ -25,24 +22,16 @@ use Rattle.yw_within.specs.Within.{IsWithin}
 abbrev pub first_tokens : Net → List ℕ
 first_tokens net = slice_set (replicate (length net.places) 0) net.input 1
 
--- the tree of a specification that its cases are judged by before they begin
-abbrev pub tree_before : List ℕ → TreePlace
-tree_before name = record { spec = name; net = None; task = None; kind = Pre }
-
--- what a case is to be judged by as it begins: that tree, if it has a rule
-abbrev pub first_checks : State → List ℕ → Checks
-first_checks s name = due_where (nat_lt 0 (length (rules_at s (tree_before name)))) Pre no_checks
-
 -- A case of the specification may come under the number: no case has it.
 pub record CaseMayBegin (f : Forest) (spec : Spec) (n : ℕ) : Type 0 where
   pub within : IsWithin spec
   pub number : is_number n ≡ true
   pub fresh : case_at n f.cases ≡ None
 
--- The specification is the one that is loaded under its name, and what is due is what its tree says.
+-- The specification is the one that is loaded under its name, and what is due is what its trees say.
 pub record BeginsAs (spec : Spec) (number : ℕ) (due : Checks) (names : ℕ → List ℕ) (s : State) : Type 0 where
   pub loaded : spec_called s (names number) ≡ Some spec
-  pub checks : due ≡ first_checks s (names number)
+  pub checks : due ≡ case_checks s (names number)
 
 -- case n of the specification begins with these values, and n is drawn
 abbrev pub Launches : Spec → ℕ → ℕ → Row → Checks → Forest → Forest → Type 0

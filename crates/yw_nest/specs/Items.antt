@@ -8,9 +8,9 @@ use Rattle.yw_spec.specs.declared.spec.Spec.{Spec}
 use Rattle.yw_spec.specs.declared.task.Task.{Task}
 use Rattle.yw_state.specs.ByName.{first_values, param_value}
 use Rattle.yw_state.specs.Identity.{Ident, parent}
-use Rattle.yw_state.specs.Judged.{has_rule}
+use Rattle.yw_state.specs.Judged.{has_rules, task_place}
 use Rattle.yw_state.specs.Nets.{child_net}
-use Rattle.yw_state.specs.State.{NetPart, State, net_part, spec_called}
+use Rattle.yw_state.specs.State.{ItemAt, NetPart, State, item_at, net_part, spec_called}
 use Rattle.yw_state.specs.Values.{Row}
 use Rattle.yw_state.specs.declared.event.Event.TheVariants as events
 use Rattle.yw_state.specs.declared.part.Checks.{Checks}
@@ -86,7 +86,7 @@ pub record MadeByChild (f : Forest) (spec : Spec) (j : Ident) (made : Row) : Typ
 pub record EndsAs (spec : Spec) (j : Ident) (due : Checks) (s : State) : Type 0 where
   pub outer : IsNetOf s (parent j) spec
   pub inner : IsNetOf s j spec
-  pub checks : due.post ≡ has_rule s j Post
+  pub checks : (x : ItemAt) → item_at s j ≡ Some x → due.post ≡ has_rules s (task_place x.of_task Post)
 
 abbrev pub CompletesSub : Spec → Ident → Checks → Forest → Forest → Type 0
 CompletesSub spec j due = Does (λ names. events.CompleteSub j) (λ names s. EndsAs spec j due s) all_else

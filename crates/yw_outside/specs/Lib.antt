@@ -3,6 +3,7 @@ pub mod Image
 pub mod Moments
 pub mod Since
 pub mod Tells
+pub mod Pieces
 pub mod Log
 pub mod LogLaws
 pub mod Fills

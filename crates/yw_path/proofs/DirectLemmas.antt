@@ -12,7 +12,7 @@ use Rattle.yw_path.proofs.FirstLemmas.{contains-nil, first_cases, first_has, fir
 use Rattle.yw_path.specs.Bits.{Adds, AddsOne, Has, words_for}
 use Rattle.yw_path.specs.Direct.{AreDirect, AreInto, Feeds, IsDirectRow, PushesEach}
 use Rattle.yw_path.specs.Rows.{AreRows, Leads}
-use Rattle.yw_spec.specs.Net.{after, before}
+use Rattle.yw_spec.specs.Net.{places_after, places_before}
 use Rattle.yw_spec.specs.declared.spec.Net.{Net}
 use Rattle.yw_spec.specs.declared.task.Task.{Task}
 
@@ -66,10 +66,10 @@ pushes_join P Q R t a b c from_p from_q parts p q = record {
 -- ---- for each place the tasks that lead to it
 
 -- the places behind the task with this number
-pub after_at : (net : Net) (t : ℕ) (task : Task) → slice_get net.tasks t ≡ Some task → after net t ≡ task.after
+pub after_at : (net : Net) (t : ℕ) (task : Task) → slice_get net.tasks t ≡ Some task → places_after net t ≡ task.after
 after_at net t task e = ap {B = List ℕ} (λ o. option_map_or (λ (x : Task). x.after) o []) e
 
-pub before_at : (net : Net) (t : ℕ) (task : Task) → slice_get net.tasks t ≡ Some task → before net t ≡ task.before
+pub before_at : (net : Net) (t : ℕ) (task : Task) → slice_get net.tasks t ≡ Some task → places_before net t ≡ task.before
 before_at net t task e = ap {B = List ℕ} (λ o. option_map_or (λ (x : Task). x.before) o []) e
 
 pub no_list : (n c : ℕ) → let none : List ℕ = [] in get_or (replicate n none) c [] ≡ none
@@ -87,16 +87,16 @@ into_none net into e = record {
   all = λ c u lt. absurd (omega (arith, lt));
 }
 
-pub into_more : (net : Net) (t : ℕ) (into new : List (List ℕ)) → AreInto net t into → PushesEach (Contains (after net t)) t into new → AreInto net (t + 1) new
+pub into_more : (net : Net) (t : ℕ) (into new : List (List ℕ)) → AreInto net t into → PushesEach (Contains (places_after net t)) t into new → AreInto net (t + 1) new
 into_more net t into new are pushes = record {
   len = pushes.len ∙ are.len;
   only = λ c u h. elim (pushes.only c u h) [
     | inl was ↦ let before_t = are.only c u was in (omega (arith, before_t.0), before_t.1)
-    | inr (is, leads) ↦ (omega (arith, is), let P : ℕ → Type 0 = λ v. Contains (after net v) c in subst P (sym is) leads)
+    | inr (is, leads) ↦ (omega (arith, is), let P : ℕ → Type 0 = λ v. Contains (places_after net v) c in subst P (sym is) leads)
   ];
   all = λ c u lt leads. elim (cases_eq u t) [
     | inl is ↦
-        let P : ℕ → Type 0 = λ v. Contains (after net v) c in
+        let P : ℕ → Type 0 = λ v. Contains (places_after net v) c in
         let Q : ℕ → Type 0 = λ v. Contains (get_or new c []) v in
         subst Q (sym is) (pushes.all c (subst P is leads))
     | inr other ↦ pushes.keeps c u (are.all c u (omega (arith, lt, other)) leads)
@@ -165,42 +165,42 @@ push_more places i t old into item list lt at_lt so_far read pushed =
 -- The first n rows are those of tasks.
 pub record DirectBelow (net : Net) (n : ℕ) (into rows : List (List ℕ)) : Type 0 where
   pub len : length rows ≡ n
-  pub each : (t : ℕ) → t < n → IsDirectRow (length net.tasks) t (Contains (before net t)) into (get_or rows t [])
+  pub each : (t : ℕ) → t < n → IsDirectRow (length net.tasks) t (Contains (places_before net t)) into (get_or rows t [])
 
 pub direct_begins : (net : Net) (into rows : List (List ℕ)) → rows ≡ [] → DirectBelow net 0 into rows
 direct_begins net into rows e = record { len = ap length e; each = λ t lt. absurd (omega (arith, lt)) }
 
-pub direct_goes_on : (net : Net) (n : ℕ) (into rows new : List (List ℕ)) (row : List ℕ) → DirectBelow net n into rows → IsDirectRow (length net.tasks) n (Contains (before net n)) into row → new ≡ rows ++ row ∷ [] → DirectBelow net (n + 1) into new
+pub direct_goes_on : (net : Net) (n : ℕ) (into rows new : List (List ℕ)) (row : List ℕ) → DirectBelow net n into rows → IsDirectRow (length net.tasks) n (Contains (places_before net n)) into row → new ≡ rows ++ row ∷ [] → DirectBelow net (n + 1) into new
 direct_goes_on net n into rows new row so_far is e = record {
   len = ap length e ∙ length_push rows row ∙ ap (λ k. k + 1) so_far.len;
   each = λ t lt. elim (cases_eq t n) [
     | inl same ↦
-        let P : ℕ → Type 0 = λ k. IsDirectRow (length net.tasks) k (Contains (before net k)) into (get_or new k []) in
-        let Q : List ℕ → Type 0 = λ r. IsDirectRow (length net.tasks) n (Contains (before net n)) into r in
+        let P : ℕ → Type 0 = λ k. IsDirectRow (length net.tasks) k (Contains (places_before net k)) into (get_or new k []) in
+        let Q : List ℕ → Type 0 = λ r. IsDirectRow (length net.tasks) n (Contains (places_before net n)) into r in
         subst P (sym same) (subst Q (sym (ap (λ rs. get_or rs n []) e ∙ get_or_push rows row [] n so_far.len)) is)
     | inr other ↦
         let le : t < n = omega (arith, lt, other) in
-        let Q : List ℕ → Type 0 = λ r. IsDirectRow (length net.tasks) t (Contains (before net t)) into r in
+        let Q : List ℕ → Type 0 = λ r. IsDirectRow (length net.tasks) t (Contains (places_before net t)) into r in
         subst Q (sym (ap (λ rs. get_or rs t []) e ∙ get_or_append_left rows (row ∷ []) [] t (omega (arith, le, so_far.len)))) (so_far.each t le)
   ];
 }
 
 -- only tasks of the net have flows
-pub task_behind : (net : Net) (t c : ℕ) → Contains (before net t) c → t < length net.tasks
+pub task_behind : (net : Net) (t c : ℕ) → Contains (places_before net t) c → t < length net.tasks
 task_behind net t c h = elim (cases_lt t (length net.tasks)) [
   | inl lt ↦ lt
   | inr past ↦
       let P : List ℕ → Type 0 = λ cs. Contains cs c in
-      let e : before net t ≡ [] = ap {B = List ℕ} (λ o. option_map_or (λ (x : Task). x.before) o []) (slice_get_past net.tasks t past) in
+      let e : places_before net t ≡ [] = ap {B = List ℕ} (λ o. option_map_or (λ (x : Task). x.before) o []) (slice_get_past net.tasks t past) in
       absurd (contains-nil c (subst P e h))
 ]
 
-pub task_ahead : (net : Net) (t c : ℕ) → Contains (after net t) c → t < length net.tasks
+pub task_ahead : (net : Net) (t c : ℕ) → Contains (places_after net t) c → t < length net.tasks
 task_ahead net t c h = elim (cases_lt t (length net.tasks)) [
   | inl lt ↦ lt
   | inr past ↦
       let P : List ℕ → Type 0 = λ cs. Contains cs c in
-      let e : after net t ≡ [] = ap {B = List ℕ} (λ o. option_map_or (λ (x : Task). x.after) o []) (slice_get_past net.tasks t past) in
+      let e : places_after net t ≡ [] = ap {B = List ℕ} (λ o. option_map_or (λ (x : Task). x.after) o []) (slice_get_past net.tasks t past) in
       absurd (contains-nil c (subst P e h))
 ]
 

@@ -5,7 +5,7 @@ use Rattle.yw_path.specs.Direct.{AreDirect, Feeds}
 use Rattle.yw_path.specs.Rows.{Leads}
 use Rattle.yw_reach.proofs.Walks.{path_trans, walk-same, walk_split}
 use Rattle.yw_reach.specs.Walks.{PathAlong, WalkAlong}
-use Rattle.yw_spec.specs.Net.{HasFlow, Node, Path, after, at_place, at_task, before}
+use Rattle.yw_spec.specs.Net.{HasFlow, Node, Path, places_after, at_place, at_task, places_before}
 use Rattle.yw_spec.specs.declared.spec.Net.{Net}
 
 -- ---- between tasks
@@ -37,7 +37,7 @@ module _ (net : Net) (rows : List (List ℕ)) (direct : AreDirect net rows) wher
   from_node zero u t (at_place c) w f = cc
   from_node (suc zero) u t (at_place c) w f =
       let P : Node → Type 0 = λ x. HasFlow net x (at_place c) in
-      let out : Contains (after net u) c = subst P (sym w.1) w.2 in
+      let out : Contains (places_after net u) c = subst P (sym w.1) w.2 in
       step_on u u t (0, refl) (c, out, f)
   from_node (suc (suc n)) u t (at_place c) w f =
       elim w.0 as (λ x. WalkAlong (HasFlow net) (at_task u) x (suc n) → HasFlow net x (at_place c) → PathAlong (Leads rows) u t) [
@@ -52,40 +52,40 @@ module _ (net : Net) (rows : List (List ℕ)) (direct : AreDirect net rows) wher
 -- ---- to places
 
 -- a path from a task to a place goes on from a task to it
-pub last_task : (net : Net) (u c : ℕ) → Path net (at_task u) (at_place c) → (t : ℕ) × Path net (at_task u) (at_task t) × Contains (after net t) c
+pub last_task : (net : Net) (u c : ℕ) → Path net (at_task u) (at_place c) → (t : ℕ) × Path net (at_task u) (at_task t) × Contains (places_after net t) c
 last_task net u c (zero, w) = cc
 last_task net u c (suc n, w) =
-    elim w.0 as (λ x. WalkAlong (HasFlow net) (at_task u) x n → HasFlow net x (at_place c) → (t : ℕ) × Path net (at_task u) (at_task t) × Contains (after net t) c) [
+    elim w.0 as (λ x. WalkAlong (HasFlow net) (at_task u) x n → HasFlow net x (at_place c) → (t : ℕ) × Path net (at_task u) (at_task t) × Contains (places_after net t) c) [
       | at_place d ↦ λ walk g. absurd g
       | at_task t ↦ λ walk g. (t, (n, walk), g)
     ] w.1 w.2
 
-pub to_place : (net : Net) (u t c : ℕ) → Path net (at_task u) (at_task t) → Contains (after net t) c → Path net (at_task u) (at_place c)
+pub to_place : (net : Net) (u t c : ℕ) → Path net (at_task u) (at_task t) → Contains (places_after net t) c → Path net (at_task u) (at_place c)
 to_place net u t c p out = (suc p.0, (at_task t, p.1, out))
 
-pub from_place : (net : Net) (d u c : ℕ) → Contains (before net u) d → Path net (at_task u) (at_place c) → Path net (at_place d) (at_place c)
+pub from_place : (net : Net) (d u c : ℕ) → Contains (places_before net u) d → Path net (at_task u) (at_place c) → Path net (at_place d) (at_place c)
 from_place net d u c into p = path_trans (HasFlow net) (at_place d) (at_task u) (at_place c) (1, (at_place d, refl, into)) p
 
 -- a path from a place to another goes on to a task behind it
-pub first_task : (net : Net) (d c : ℕ) → Path net (at_place d) (at_place c) → (d ≡ c) ⊎ ((u : ℕ) × Contains (before net u) d × Path net (at_task u) (at_place c))
+pub first_task : (net : Net) (d c : ℕ) → Path net (at_place d) (at_place c) → (d ≡ c) ⊎ ((u : ℕ) × Contains (places_before net u) d × Path net (at_task u) (at_place c))
 first_task net d c (zero, w) = inl (let is : at_place d ≡ at_place c = w in cc)
 first_task net d c (suc n, w) =
     let s = walk_split (HasFlow net) (at_place d) (at_place c) 1 n (walk-same (HasFlow net) (at_place d) (at_place c) (suc n) (1 + n) (omega arith) w) in
     let P : Node → Type 0 = λ x. HasFlow net x s.0 in
     let out : HasFlow net (at_place d) s.0 = subst P (sym s.1.1) s.1.2 in
-    elim s.0 as (λ x. HasFlow net (at_place d) x → WalkAlong (HasFlow net) x (at_place c) n → (d ≡ c) ⊎ ((u : ℕ) × Contains (before net u) d × Path net (at_task u) (at_place c))) [
+    elim s.0 as (λ x. HasFlow net (at_place d) x → WalkAlong (HasFlow net) x (at_place c) n → (d ≡ c) ⊎ ((u : ℕ) × Contains (places_before net u) d × Path net (at_task u) (at_place c))) [
       | at_place e ↦ λ f rest. absurd f
       | at_task u ↦ λ f rest. inr (u, f, (n, rest))
     ] out s.2
 
 -- a path from a task to a place begins with a flow from the task
-pub first_flow : (net : Net) (u c : ℕ) → Path net (at_task u) (at_place c) → (d : ℕ) × Contains (after net u) d
+pub first_flow : (net : Net) (u c : ℕ) → Path net (at_task u) (at_place c) → (d : ℕ) × Contains (places_after net u) d
 first_flow net u c (zero, w) = cc
 first_flow net u c (suc n, w) =
     let s = walk_split (HasFlow net) (at_task u) (at_place c) 1 n (walk-same (HasFlow net) (at_task u) (at_place c) (suc n) (1 + n) (omega arith) w) in
     let P : Node → Type 0 = λ x. HasFlow net x s.0 in
     let out : HasFlow net (at_task u) s.0 = subst P (sym s.1.1) s.1.2 in
-    elim s.0 as (λ x. HasFlow net (at_task u) x → (d : ℕ) × Contains (after net u) d) [
+    elim s.0 as (λ x. HasFlow net (at_task u) x → (d : ℕ) × Contains (places_after net u) d) [
       | at_place e ↦ λ f. (e, f)
       | at_task v ↦ λ f. absurd f
     ] out

@@ -19,7 +19,7 @@ use Rattle.yw_path.specs.Rows.{IsClosure, Leads}
 use Rattle.yw_path.specs.Upstream.{IsUpstreamOf, is_source, row_of}
 use Rattle.yw_path.specs.Waiting.{MayStillCome, holds_token}
 use Rattle.yw_path.specs.declared.upstream.Upstream.{Upstream}
-use Rattle.yw_spec.specs.Net.{Node, Path, after, at_place, at_task, before}
+use Rattle.yw_spec.specs.Net.{Node, Path, places_after, at_place, at_task, places_before}
 use Rattle.yw_spec.specs.declared.spec.Net.{Net}
 use Rattle.yw_spec.specs.declared.task.Task.{Task}
 
@@ -38,7 +38,7 @@ module _ (net : Net) (its : HasItsPlaces net) (into direct closed : List (List �
   no_row c past = ap (λ o. unwrap_or (option_and_then (slice_get up.rows.items) o) []) (slice_get_past up.row_numbers.items c (omega (arith, past, have.len)))
 
   -- what is in the row of a place leads to a task that leads to the place
-  upstream : (u c : ℕ) → Has (row_of up c) u → (t : ℕ) × Contains (after net t) c × Leads closed u t
+  upstream : (u c : ℕ) → Has (row_of up c) u → (t : ℕ) × Contains (places_after net t) c × Leads closed u t
   upstream u c h = elim (cases_lt c (length into)) [
     | inl lt ↦
         let P : List ℕ → Type 0 = λ row. Has row u in
@@ -73,7 +73,7 @@ places_at [] u = refl
 places_at (t ∷ ts) zero = refl
 places_at (t ∷ ts) (suc u) = places_at ts u
 
-input_places : (net : Net) (up : Upstream) → IsUpstreamOf net up → (u : ℕ) → get_or up.inputs.items u [] ≡ before net u
+input_places : (net : Net) (up : Upstream) → IsUpstreamOf net up → (u : ℕ) → get_or up.inputs.items u [] ≡ places_before net u
 input_places net up is u = ap (λ ls. get_or ls u []) is.inputs ∙ places_at net.tasks u
 
 module _ (net : Net) (up : Upstream) (is : IsUpstreamOf net up) (marks : List ℕ) (actives : List Bool) (c : ℕ) where
@@ -94,7 +94,7 @@ module _ (net : Net) (up : Upstream) (is : IsUpstreamOf net up) (marks : List �
         }
   ]
 
-  marked_input : (d u : ℕ) → Contains (before net u) d → is_marked marks d ≡ true → list_any (is_marked marks) (get_or up.inputs.items u []) ≡ true
+  marked_input : (d u : ℕ) → Contains (places_before net u) d → is_marked marks d ≡ true → list_any (is_marked marks) (get_or up.inputs.items u []) ≡ true
   marked_input d u into marked =
       let P : List ℕ → Type 0 = λ cs. Contains cs d in
       let there = subst P (sym (input_places net up is u)) into in

@@ -6,7 +6,7 @@ use Rattle.std.specs.Option.{option_map_or}
 use Rattle.std.proofs.lemmas.Bool.{and_parts, ltb-true}
 use Rattle.yw_path.proofs.FirstLemmas.{contains-nil}
 use Rattle.yw_path.specs.Direct.{HasItsPlaces, are_below, fits}
-use Rattle.yw_spec.specs.Net.{after, before}
+use Rattle.yw_spec.specs.Net.{places_after, places_before}
 use Rattle.yw_spec.specs.declared.spec.Net.{Net}
 use Rattle.yw_spec.specs.declared.task.Task.{Task}
 

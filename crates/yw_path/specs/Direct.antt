@@ -3,18 +3,18 @@ use Rattle.std.specs.Prelude.{◌≡◌, ℕ, ◌<◌, ◌&&◌, ◌⊎◌, Bool
 use Rattle.std.specs.List.{list_all}
 use Rattle.yw_path.specs.Bits.{Has, words_for}
 use Rattle.yw_path.specs.Rows.{AreRows, Leads}
-use Rattle.yw_spec.specs.Net.{after, before}
+use Rattle.yw_spec.specs.Net.{places_after, places_before}
 use Rattle.yw_spec.specs.declared.spec.Net.{Net}
 use Rattle.yw_spec.specs.declared.task.Task.{Task}
 
 -- the flows from tasks and to tasks go to and from places of the net
 pub record HasItsPlaces (net : Net) : Type 0 where
-  pub before : (t c : ℕ) → Contains (before net t) c → c < length net.places
-  pub after : (t c : ℕ) → Contains (after net t) c → c < length net.places
+  pub before : (t c : ℕ) → Contains (places_before net t) c → c < length net.places
+  pub after : (t c : ℕ) → Contains (places_after net t) c → c < length net.places
 
 -- a task leads to a place from which a flow leads to another task
 abbrev pub Feeds : Net → ℕ → ℕ → Type 0
-Feeds net u t = (c : ℕ) × Contains (after net u) c × Contains (before net t) c
+Feeds net u t = (c : ℕ) × Contains (places_after net u) c × Contains (places_before net t) c
 
 -- For each place a list of tasks is kept. Task t was added to those of places of which P holds, and nothing else has changed.
 pub record PushesEach (P : ℕ → Type 0) (t : ℕ) (old new : List (List ℕ)) : Type 0 where
@@ -26,8 +26,8 @@ pub record PushesEach (P : ℕ → Type 0) (t : ℕ) (old new : List (List ℕ))
 -- For each place there is a list of the tasks below `count` that lead to it.
 pub record AreInto (net : Net) (count : ℕ) (into : List (List ℕ)) : Type 0 where
   pub len : length into ≡ length net.places
-  pub only : (c u : ℕ) → Contains (get_or into c []) u → (u < count) × Contains (after net u) c
-  pub all : (c u : ℕ) → u < count → Contains (after net u) c → Contains (get_or into c []) u
+  pub only : (c u : ℕ) → Contains (get_or into c []) u → (u < count) × Contains (places_after net u) c
+  pub all : (c u : ℕ) → u < count → Contains (places_after net u) c → Contains (get_or into c []) u
 
 -- Each task leads to itself, and to those that it feeds.
 pub record AreDirect (net : Net) (rows : List (List ℕ)) : Type 0 where

@@ -2,7 +2,7 @@
 ghost use Rattle.std.specs.Prelude.{◌≡◌, ◌<◌, ◌/◌, ℕ, [], All, Contains, IfOk, OnOk, get_or, length, map, replicate};
 ghost use Rattle.yw_path.specs.Bits.{Has, words_for};
 ghost use Rattle.yw_path.specs.Direct.{AreDirect, AreInto, Feeds, HasItsPlaces, IsDirectRow, PushesEach};
-ghost use Rattle.yw_spec.specs.Net.{before};
+ghost use Rattle.yw_spec.specs.Net.{places_before};
 ghost use Rattle.yw_spec.specs.declared.task.Task.{Task};
 
 use crate::bits::BitRow;

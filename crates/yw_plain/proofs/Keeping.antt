@@ -2,7 +2,7 @@
 use Rattle.std.specs.Prelude.{◌≡◌, true, false, List, None, refl}
 use Rattle.std.proofs.Common.{◌∙◌, ap}
 use Rattle.yw_plain.proofs.Walk.{Holds, Keeps, Puts, event-holds}
-use Rattle.yw_plain.proofs.Words.{no_rule}
+use Rattle.yw_plain.proofs.Words.{no_rule, none_at_case, none_at_item}
 use Rattle.yw_plain.specs.Plain.{IsPlain, is_plain_event}
 use Rattle.yw_state.specs.After
 use Rattle.yw_state.specs.Events.{after}
@@ -30,17 +30,17 @@ Plain = Holds NoRules PlainSite
 keeps : Keeps NoRules PlainSite
 keeps =
     record {
-      due = λ s j kind x none is.
-          record { run = is.run; suspended = is.suspended; due = ap (λ b. After.due_where b kind x.due) (no_rule s none j kind) ∙ is.due };
+      due = λ s p j x none is.
+          record { run = is.run; suspended = is.suspended; due = ap (λ b. After.due_where b p.kind x.due) (no_rule s none p) ∙ is.due };
       net = λ f spec net j x is. record { run = is.run; suspended = is.suspended; due = is.due };
       gone = λ j x is. record { run = is.run; suspended = is.suspended; due = is.due };
       completed = λ out j x is. record { run = is.run; suspended = is.suspended; due = is.due };
-      comes = λ j k given. record { run = refl; suspended = refl; due = refl };
+      comes = λ s x none j given. record { run = refl; suspended = refl; due = none_at_item s none x };
     }
 
 puts : (s : State) (e : Event) → Puts NoRules PlainSite s e
 puts s (events.Load name text) = λ l none. none
-puts s (events.Launch n spec vals) = λ net. record { run = refl; suspended = refl; due = refl }
+puts s (events.Launch n name vals) = λ spec net none. record { run = refl; suspended = refl; due = none_at_case s none name }
 puts s (events.Start j who) = λ x at is. record { run = is.run; suspended = is.suspended; due = is.due }
 puts s (events.StartSub j) = λ i n x found at is. record { run = is.run; suspended = is.suspended; due = is.due }
 puts s e = tt

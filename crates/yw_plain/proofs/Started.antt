@@ -101,7 +101,7 @@ module _ (s : State) where
   keeps : Keeps Known GoesOn
   keeps =
       record {
-        due = λ t j kind x known is. record { net = is.net; item = is.item };
+        due = λ t p j x known is. record { net = is.net; item = is.item };
         net = λ f spec net j x is.
             record {
               net = λ n m e at.
@@ -116,7 +116,7 @@ module _ (s : State) where
               net = is.net;
               item = λ p e runs. let (old, was, now) = map_some (completed out) x.item p e in never (subst (λ (q : ItemPart). is_executing q.stage ≡ true) (sym now) runs);
             };
-        comes = λ j k given.
+        comes = λ t x known j given.
             record {
               net = λ n m e at. nowhere e;
               item = λ p e runs. never (subst (λ (q : ItemPart). is_executing q.stage ≡ true) (sym (some_same _ p e)) runs);
@@ -155,7 +155,7 @@ module _ (s : State) where
     puts (events.Load name text) nothing ok = never ok
     puts (events.Load name text) (a_test test) ok = never ok
     puts (events.Launch n name vals) said ok =
-        λ net.
+        λ spec net known.
         record {
           net = λ k m e at. nothing_there n m (and_left _ _ (and_left _ _ ok)) at;
           item = λ p e runs. nowhere e;

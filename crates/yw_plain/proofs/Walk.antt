@@ -1,6 +1,6 @@
 -- What is so of each site that stands stays so behind an event of neither a rule tree nor an exlet, where it is so of what the event puts
 -- there. Beside it goes what is so of specifications and rules.
-use Rattle.std.specs.Prelude.{◌≡◌, ◌+◌, ℕ, Bool, true, false, List, [], ◌∷◌, fold, length, Option, Some, None, refl, unwrap_or, if◌then◌else◌}
+use Rattle.std.specs.Prelude.{◌≡◌, ℕ, Bool, true, false, List, [], ◌∷◌, fold, length, Option, Some, None, refl, unwrap_or, if◌then◌else◌}
 use Rattle.std.specs.List.{range_with_len, zip}
 use Rattle.std.specs.Ordering.{eq_by_cmp}
 use Rattle.std.proofs.Common.{sym, ◌∙◌, ap, subst, inl, inr}
@@ -8,18 +8,16 @@ use Rattle.yw_base.specs.declared.value.Value.{Value}
 use Rattle.yw_spec.specs.declared.spec.Net.{Net}
 use Rattle.yw_spec.specs.declared.spec.Place.{Place}
 use Rattle.yw_spec.specs.declared.spec.Spec.{Spec}
-use Rattle.yw_spec.specs.declared.task.Task.{Task}
 use Rattle.yw_plain.specs.Plain.{is_plain_event}
 use Rattle.yw_state.proofs.MapLemmas.{by_name, get-update_other, get-update_same, insert_stands, retain_stands, tied, tied_self}
 use Rattle.yw_state.proofs.Tests.{by_test, map_some, never}
 use Rattle.yw_state.specs.After
-use Rattle.yw_state.specs.Allowed.{exit_values, place_numbers}
+use Rattle.yw_state.specs.Allowed.{place_numbers}
 use Rattle.yw_state.specs.ByName.{made_by_child}
 use Rattle.yw_state.specs.Events.{after}
 use Rattle.yw_state.specs.Identity.{Ident, case_ident, child}
-use Rattle.yw_state.specs.Judged.{has_rule}
+use Rattle.yw_state.specs.Judged.{case_place, has_rules, task_place}
 use Rattle.yw_state.specs.Map.{Map, get, insert, lexical, lexical_each, retain, update}
-use Rattle.yw_state.specs.Nets.{is_atomic}
 use Rattle.yw_state.specs.Passing.{entry_values, given_values}
 use Rattle.yw_state.specs.RuleTree.{TreeRule}
 use Rattle.yw_state.specs.State.{State, Site, Sites, ItemAt, NetAt, NetPart, TaskAt, bare, drop, drop_all, item_at, items_of, net_at, spec_called, task_at, top_called, without_net}
@@ -31,8 +29,8 @@ use Rattle.yw_state.specs.declared.event.Event.TheVariants as events
 use Rattle.yw_state.specs.declared.loaded.Loaded.{Loaded}
 use Rattle.yw_state.specs.declared.part.Way.{Way}
 use Rattle.yw_state.specs.declared.part.Way.TheVariants.{Cancelled, Finished}
-use Rattle.yw_state.specs.declared.tree.TreeKind.{TreeKind}
-use Rattle.yw_state.specs.declared.tree.TreeKind.TheVariants.{Post, Pre, Select}
+use Rattle.yw_state.specs.declared.tree.TreeKind.TheVariants.{Post}
+use Rattle.yw_state.specs.declared.tree.TreePlace.{TreePlace}
 
 -- of specifications and rules, and of a site at its identity
 module _ (R : Map lexical Loaded → Map lexical_each (List TreeRule) → Type 0) (P : Ident → Site → Type 0) where
@@ -91,20 +89,21 @@ module _ (R : Map lexical Loaded → Map lexical_each (List TreeRule) → Type 0
   -- ---- what is changed, and items that come
 
   -- It stays so where a check becomes due, where a net gets other values or tokens or goes, and where an item is completed; and it is so of an
-  -- item that comes.
+  -- item that comes with its checks.
   pub record Keeps : Type 0 where
-    pub due : (s : State) (j : Ident) (kind : TreeKind) (x : Site)
-        → R s.specs s.rules → P j x → P j (record x { due = After.due_where (has_rule s j kind) kind x.due })
+    pub due : (s : State) (p : TreePlace) (j : Ident) (x : Site)
+        → R s.specs s.rules → P j x → P j (record x { due = After.due_where (has_rules s p) p.kind x.due })
     pub net : (f : NetPart → NetPart)
         → ((n : NetPart) → (f n).spec ≡ n.spec) → ((n : NetPart) → (f n).net ≡ n.net) → (j : Ident) (x : Site) → P j x → P j (After.with_net f x)
     pub gone : (j : Ident) (x : Site) → P j x → P j (without_net x)
     pub completed : (out : Row) (j : Ident) (x : Site) → P j x → P j (After.with_item (After.completed out) x)
-    pub comes : (j : Ident) (k : ℕ) (given : Row) → P j (After.new_item k given)
+    pub comes : (s : State) (x : TaskAt) → R s.specs s.rules → (j : Ident) (given : Row) → P j (After.new_item x.number given (After.item_checks s x))
 
   -- So is what an event puts that loads a specification, begins a case or an item, or begins a child net.
   abbrev pub Puts : State → Event → Type 0
   Puts s (events.Load name text) = (l : Loaded) → R s.specs s.rules → R (insert s.specs name l) s.rules
-  Puts s (events.Launch n spec vals) = (net : NetPart) → P (case_ident n) (After.stands net After.empty_site)
+  Puts s (events.Launch n name vals) =
+      (spec : Spec) (net : Net) → R s.specs s.rules → P (case_ident n) (After.new_case name spec net vals (After.case_checks s name))
   Puts s (events.Start j who) = (x : Site) → Stands s j x → P j x → P j (After.with_item (After.begun (Some who)) x)
   Puts s (events.StartSub j) =
       (i : ItemAt) (n : NetPart) (x : Site)
@@ -112,35 +111,27 @@ module _ (R : Map lexical Loaded → Map lexical_each (List TreeRule) → Type 0
   Puts s e = Unit {0}
 
   module _ (keeps : Keeps) where
-    make_due-holds : (s : State) (j : Ident) (kind : TreeKind) → Holds s → Holds (After.make_due s j kind)
-    make_due-holds s j kind holds = change-holds s j _ holds (λ x at. keeps.due s j kind x holds.0 (holds.1 j x at))
-
-    make_select_due-holds : (s : State) (j : Ident) (t : Task) → Holds s → Holds (After.make_select_due s j t)
-    make_select_due-holds s j t holds = if-holds (is_atomic t) _ s (make_due-holds s j Select holds) holds
+    make_due-holds : (s : State) (j : Ident) (p : TreePlace) → Holds s → Holds (After.make_due s j p)
+    make_due-holds s j p holds = change-holds s j _ holds (λ x at. keeps.due s p j x holds.0 (holds.1 j x at))
 
     bare-holds : (s : State) (j : Ident) → Holds s → Holds (After.with_sites s (bare s.sites j))
     bare-holds s j holds =
         let left : Each (retain s.sites _) = retain-each s.sites _ holds.1 in
         (holds.0, update-each (retain s.sites _) j without_net left (λ x at. keeps.gone j x (left j x at)))
 
-    add_item-holds : (x : TaskAt) (i : Ident) (s : State) (e : ℕ × Row) → Holds s → Holds (After.add_item x i s e)
-    add_item-holds x i s e holds =
-        let j : Ident = child i e.0 in
-        let came : State = After.put s j (After.new_item x.number e.1) in
-        let there : Holds came = (holds.0, insert-each s.sites j _ holds.1 (keeps.comes j x.number e.1)) in
-        make_select_due-holds (After.make_due came j Pre) j x.task (make_due-holds came j Pre there)
-
     add_items-holds : (x : TaskAt) (i : Ident) (first : ℕ) (rows : List Row) (s : State) → Holds s → Holds (After.add_items x i first rows s)
     add_items-holds x i first rows s holds =
-        fold-holds (After.add_item x i) (add_item-holds x i) (zip (range_with_len first (length rows)) rows) s holds
+        fold-holds (After.add_item x i (After.item_checks s x))
+        (λ t e there. (there.0, insert-each t.sites (child i e.0) _ there.1 (keeps.comes s x holds.0 (child i e.0) e.1)))
+        (zip (range_with_len first (length rows)) rows) s holds
 
     without_items-holds : (i : Ident) (s : State) (k : ℕ) → Holds s → Holds (After.without_items i s k)
     without_items-holds i s k holds = (holds.0, drop_all-each (After.idents (items_of s i k)) s.sites holds.1)
 
-    complete-holds : (s : State) (j : Ident) (out : Row) → Holds s → Holds (After.complete s j out)
-    complete-holds s j out holds =
-        make_due-holds (After.change s j (After.with_item (After.completed out))) j Post
-        (change-holds s j _ holds (λ x at. keeps.completed out j x (holds.1 j x at)))
+    complete-holds : (s : State) (j : Ident) (out : Row) (x : ItemAt) → Holds s → Holds (After.complete s j out x)
+    complete-holds s j out x holds =
+        make_due-holds (After.change s j (After.with_item (After.completed out))) j (task_place x.of_task Post)
+        (change-holds s j _ holds (λ y at. keeps.completed out j y (holds.1 j y at)))
 
     -- values and tokens change
     net-holds : (s : State) (i : Ident) (f : NetPart → NetPart)
@@ -160,10 +151,7 @@ module _ (R : Map lexical Loaded → Map lexical_each (List TreeRule) → Type 0
     launch-holds : (s : State) (n : ℕ) (name : List ℕ) (vals : Row)
         → Holds s → Puts s (events.Launch n name vals) → Holds (After.launch s n name vals)
     launch-holds s n name vals holds puts =
-        where_spec-holds s name _ holds (λ spec net.
-        let own : NetPart = After.new_net name spec.top net vals in
-        make_due-holds (After.with_next (After.put s (case_ident n) (After.stands own After.empty_site)) (n + 1)) (case_ident n) Pre
-        (holds.0, insert-each s.sites (case_ident n) _ holds.1 (puts own)))
+        where_spec-holds s name _ holds (λ spec net. (holds.0, insert-each s.sites (case_ident n) _ holds.1 (puts spec net holds.0)))
 
     enter-holds : (s : State) (i : Ident) (places : List Place) (first : ℕ) (x : TaskAt) → Holds s → Holds (After.enter s i places first x)
     enter-holds s i places first x holds =
@@ -182,20 +170,21 @@ module _ (R : Map lexical Loaded → Map lexical_each (List TreeRule) → Type 0
 
     end_net-holds : (s : State) (j : Ident) (made : NetAt → ItemAt → Row) (x : ItemAt) → Holds s → Holds (After.end_net s j made x)
     end_net-holds s j made x holds =
-        where_some-holds (net_at s j) s _ holds (λ n found. complete-holds (After.with_sites s (bare s.sites j)) j (made n x) (bare-holds s j holds))
+        where_some-holds (net_at s j) s _ holds (λ n found. complete-holds (After.with_sites s (bare s.sites j)) j (made n x) x (bare-holds s j holds))
 
     exit-holds : (s : State) (i : Ident) (places : List Place) (x : TaskAt) → Holds s → Holds (After.exit s i places x)
     exit-holds s i places x holds =
         let cs : List ℕ = unwrap_or (place_numbers x.within.net places) [] in
-        let gone : State = After.without_items i s x.number in
-        let assigned : State = After.set_values gone i (exit_values s i x) in
+        let assigned : State = After.values_assigned s i x in
         let wiped : State = After.wipe assigned i x.task.drop_places in
-        let emptied : State = fold (After.without_items i) wiped x.task.drop_tasks in
+        let emptied : State = After.region_emptied s i x in
         let marked : State = After.produce emptied i cs in
+        let post : TreePlace = case_place x.within.part.spec Post in
         let there : Holds marked =
         tokens-holds emptied i After.one_more cs (fold-holds (After.without_items i) (without_items-holds i) x.task.drop_tasks wiped
-        (tokens-holds assigned i After.no_more x.task.drop_places (net-holds gone i _ (λ n. refl) (λ n. refl) (without_items-holds i s x.number holds)))) in
-        if-holds _ (After.make_due marked i Post) marked (make_due-holds marked i Post there) there
+        (tokens-holds assigned i After.no_more x.task.drop_places
+        (net-holds (After.items_gone s i x) i _ (λ n. refl) (λ n. refl) (without_items-holds i s x.number holds)))) in
+        if-holds _ (After.make_due marked i post) marked (make_due-holds marked i post there) there
 
     end_case-holds : (s : State) (n : ℕ) (way : Way) → Holds s → Holds (After.end_case s n way)
     end_case-holds s n way holds = (holds.0, retain-each s.sites _ holds.1)
@@ -207,7 +196,7 @@ module _ (R : Map lexical Loaded → Map lexical_each (List TreeRule) → Type 0
     event-holds s (events.Launch n spec vals) said holds puts is = launch-holds s n spec vals holds puts
     event-holds s (events.Enter i t places first count) said holds puts is = where_some-holds (task_at s i t) s _ holds (λ x found. enter-holds s i places first x holds)
     event-holds s (events.Start j who) said holds puts is = change-holds s j _ holds (λ x at. puts x at (holds.1 j x at))
-    event-holds s (events.Complete j out) said holds puts is = complete-holds s j out holds
+    event-holds s (events.Complete j out) said holds puts is = where_some-holds (item_at s j) s _ holds (λ x found. complete-holds s j out x holds)
     event-holds s (events.Exit i t places) said holds puts is = where_some-holds (task_at s i t) s _ holds (λ x found. exit-holds s i places x holds)
     event-holds s (events.Add i t value n) said holds puts is = where_some-holds (task_at s i t) s _ holds (λ x found. add-holds s i value n x holds)
     event-holds s (events.Finish n) said holds puts is = end_case-holds s n Finished holds

@@ -1,24 +1,23 @@
 -- What the words of a plain state say.
-use Rattle.std.specs.Prelude.{◌≡◌, ◌==◌, ◌&&◌, ◌||◌, ℕ, Bool, true, false, not, List, [], length, Option, Some, None, is_some, nat_lt, option_map, option_and_then, unwrap_or, refl, if◌then◌else◌}
+use Rattle.std.specs.Prelude.{◌≡◌, ◌==◌, ◌&&◌, ◌||◌, ℕ, Bool, true, false, not, List, [], length, Option, Some, None, is_some, nat_lt, option_map, option_and_then, unwrap_or, refl}
 use Rattle.std.proofs.Common.{sym, ◌∙◌, ap}
 use Rattle.yw_base.specs.Identity.{under}
 use Rattle.yw_plain.specs.Plain.{IsPlain, PlainWords}
 use Rattle.yw_state.proofs.Entries.{find-entry, passing}
 use Rattle.yw_state.proofs.MapLemmas.{by_name}
 use Rattle.yw_state.proofs.Tests.{by_option, by_test, never}
-use Rattle.yw_state.specs.Identity.{Ident, case_number, is_case_ident, is_child, strictly_under}
-use Rattle.yw_state.specs.Judged.{Question, case_place, has_rule, is_manual, item_row, place_key, rules_at, task_place}
+use Rattle.yw_state.specs.After.{case_checks, item_checks}
+use Rattle.yw_state.specs.Identity.{Ident, case_number, is_child, strictly_under}
+use Rattle.yw_state.specs.Judged.{case_place, has_rules, is_manual, place_key, rules_at, task_place}
 use Rattle.yw_state.specs.Map.{empty, entries, get}
 use Rattle.yw_state.specs.Nets.{is_atomic}
 use Rattle.yw_state.specs.Options.{is_some_and}
 use Rattle.yw_state.specs.RuleTree.{TreeRule}
-use Rattle.yw_state.specs.State.{State, Site, ItemAt, ItemPart, NetPart, RunPart, TaskAt, due_at, is_suspended, item_at, net_part, no_checks, run_part, some_site}
-use Rattle.yw_state.specs.Values.{Row}
+use Rattle.yw_state.specs.State.{State, Site, ItemPart, RunPart, TaskAt, due_at, is_suspended, no_checks, run_part, some_site}
 use Rattle.yw_state.specs.Well.{Stands}
 use Rattle.yw_state.specs.Words.{any_due, busy, clear, done, held, is_at_work, is_completed, shielded, urgent}
 use Rattle.yw_state.specs.declared.part.Checks.{Checks}
-use Rattle.yw_state.specs.declared.tree.TreeKind.{TreeKind}
-use Rattle.yw_state.specs.declared.tree.TreeKind.TheVariants.{Select}
+use Rattle.yw_state.specs.declared.tree.TreeKind.TheVariants.{Pre, Select}
 use Rattle.yw_state.specs.declared.tree.TreePlace.{TreePlace}
 
 -- ---- tests
@@ -33,31 +32,21 @@ and_true false = refl
 
 -- ---- no tree has a rule
 
-abbrev has_some : Option Question → Bool
-has_some o = is_some_and o (λ q. nat_lt 0 (length q.rules))
-
-either_none : (b : Bool) (o q : Option Question) → has_some o ≡ false → has_some q ≡ false → has_some (if b then o else q) ≡ false
-either_none true o q there here = there
-either_none false o q there here = here
-
 module _ (s : State) (none : s.rules ≡ empty) where
   pub no_rules : (p : TreePlace) → rules_at s p ≡ []
   no_rules p = ap (λ m. unwrap_or (get m (place_key p)) []) none
 
-  asked_none : {A : Type 0} (place : A → TreePlace) (row : A → Row) (o : Option A)
-      → has_some (option_map (λ a. record { rules = rules_at s (place a); row = row a }) o) ≡ false
-  asked_none place row None = refl
-  asked_none place row (Some a) = ap (λ (rs : List TreeRule). nat_lt 0 (length rs)) (no_rules (place a))
+  pub no_rule : (p : TreePlace) → has_rules s p ≡ false
+  no_rule p = ap (λ (rs : List TreeRule). nat_lt 0 (length rs)) (no_rules p)
 
-  pub no_rule : (j : Ident) (kind : TreeKind) → has_rule s j kind ≡ false
-  no_rule j kind =
-      let of_case : NetPart → TreePlace = λ n. case_place n kind in
-      let of_item : ItemAt → TreePlace = λ x. task_place x.of_task kind in
-      either_none (is_case_ident j)
-      (option_map (λ n. record { rules = rules_at s (of_case n); row = n.vals }) (net_part s j))
-      (option_map (λ x. record { rules = rules_at s (of_item x); row = item_row x }) (item_at s j))
-      (asked_none of_case (λ n. n.vals) (net_part s j))
-      (asked_none of_item item_row (item_at s j))
+  pub none_at_case : (name : List ℕ) → case_checks s name ≡ no_checks
+  none_at_case name = ap (λ b. record no_checks { pre = b }) (no_rule (case_place name Pre))
+
+  pub none_at_item : (x : TaskAt) → item_checks s x ≡ no_checks
+  none_at_item x =
+      ap (λ b. record no_checks { pre = b; select = is_atomic x.task && has_rules s (task_place x Select) }) (no_rule (task_place x Pre))
+      ∙ ap (λ b. record no_checks { select = is_atomic x.task && b }) (no_rule (task_place x Select))
+      ∙ ap (λ b. record no_checks { select = b }) (and_false (is_atomic x.task))
 
 -- ---- what stands
 
@@ -127,4 +116,6 @@ module _ (s : State) (plain : IsPlain s) where
         rules = no_rules s plain.rules;
         manual = by_person;
         rule = no_rule s plain.rules;
+        case_due = none_at_case s plain.rules;
+        item_due = none_at_item s plain.rules;
       }

@@ -1,8 +1,9 @@
 -- States without rules, runs, suspensions and checks: each that is reached until rule trees and exlets are built. A field of `IsPlain` goes when
 -- what it forbids is built. Our own.
-use Rattle.std.specs.Prelude.{◌≡◌, ℕ, Bool, true, false, [], None}
+use Rattle.std.specs.Prelude.{◌≡◌, ℕ, Bool, true, false, List, [], None}
+use Rattle.yw_state.specs.After.{case_checks, item_checks}
 use Rattle.yw_state.specs.Identity.{Ident}
-use Rattle.yw_state.specs.Judged.{has_rule, is_manual, rules_at}
+use Rattle.yw_state.specs.Judged.{has_rules, is_manual, rules_at}
 use Rattle.yw_state.specs.Map.{empty}
 use Rattle.yw_state.specs.Nets.{is_atomic}
 use Rattle.yw_state.specs.State.{State, Site, ItemPart, TaskAt, due_at, is_suspended, no_checks, run_part}
@@ -10,7 +11,6 @@ use Rattle.yw_state.specs.Well.{Stands}
 use Rattle.yw_state.specs.Words.{busy, clear, done, held, is_completed, shielded, urgent}
 use Rattle.yw_state.specs.declared.event.Event.{Event}
 use Rattle.yw_state.specs.declared.event.Event.TheVariants as events
-use Rattle.yw_state.specs.declared.tree.TreeKind.{TreeKind}
 use Rattle.yw_state.specs.declared.tree.TreePlace.{TreePlace}
 
 -- No tree has a rule, and at no identity that stands is a run, a suspension or a check that is due.
@@ -20,7 +20,7 @@ pub record IsPlain (s : State) : Type 0 where
   pub suspended : (j : Ident) (x : Site) → Stands s j x → x.suspended ≡ false
   pub due : (j : Ident) (x : Site) → Stands s j x → x.due ≡ no_checks
 
--- What the words of `yw_state` say then: nothing holds work back, no tree has a rule, and persons do each atomic task.
+-- What the words of `yw_state` say then: nothing holds work back, no tree has a rule, persons do each atomic task, and what comes has no checks.
 pub record PlainWords (s : State) : Type 0 where
   pub busy : (j : Ident) → busy s j ≡ false
   pub shielded : (j i : Ident) → shielded s j i ≡ false
@@ -33,7 +33,9 @@ pub record PlainWords (s : State) : Type 0 where
   pub done : (j : Ident) (x : ItemPart) → done s j x ≡ is_completed x.stage
   pub rules : (p : TreePlace) → rules_at s p ≡ []
   pub manual : (x : TaskAt) → is_manual s x ≡ is_atomic x.task
-  pub rule : (j : Ident) (kind : TreeKind) → has_rule s j kind ≡ false
+  pub rule : (p : TreePlace) → has_rules s p ≡ false
+  pub case_due : (name : List ℕ) → case_checks s name ≡ no_checks
+  pub item_due : (x : TaskAt) → item_checks s x ≡ no_checks
 
 -- the event is of neither a rule tree nor an exlet
 abbrev pub is_plain_event : Event → Bool

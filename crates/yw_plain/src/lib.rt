@@ -19,7 +19,7 @@ pub fn opening_is_plain()
 {}
 
 /// In a plain state nothing is busy, shielded, held, urgent or suspended, no run stands and no check is due, so each identity is clear and a completed item
-/// is done. No tree has a rule, so persons do each atomic task.
+/// is done. No tree has a rule, so persons do each atomic task, and a case or an item that comes has no checks.
 pub fn plain_words()
     ensures { (s : State) → IsPlain s → PlainWords s }
 {}

@@ -13,7 +13,7 @@ use Rattle.yw_read.specs.declared.raw.RawNet.{RawNet}
 use Rattle.yw_read.specs.declared.raw.RawSpec.{RawSpec}
 use Rattle.yw_read.specs.Inits.{IsInit, HasInit, HasInits}
 use Rattle.yw_read.specs.declared.raw.ReadFault.{ReadFault}
-use Rattle.yw_read.specs.Keys.{◌>>=◌, Gives, held, required, value_or, optional, element, elements, below, place, tables_in, tables_held, optional_tables, required_tables, unless, unknown_key}
+use Rattle.yw_read.specs.Keys.{◌>>=◌, Gives, at_key, required, value_or, optional, element, elements, below, place, tables_in, tables_held, optional_tables, required_tables, unless, unknown_key}
 use Rattle.yw_read.specs.Kinds.{any_value, flows_of, if_small, list_of, one_of, small_value, sort_words, texts_of, usage_words}
 use Rattle.yw_read.specs.Tables.{var_keys, var_table, task_table, net_keys, net_table, spec_keys, spec_table}
 use Rattle.yw_base.specs.declared.usage.Usage.TheVariants as usages
@@ -61,7 +61,7 @@ held_kind : {A : Type 0} (P : A → Type 0) (key : List ℕ) (o : Option A) → 
 held_kind P key None h = tt
 held_kind P key (Some found) h = h
 
-optional_kind : {A : Type 0} (kind : Data → Option A) (P : A → Type 0) (key : List ℕ) (at : Option Data) → ((d : Data) → IfSome (kind d) P) → IfOk (held (λ d. option_map Some (kind d)) (Ok None) key at) (λ x. IfSome x P)
+optional_kind : {A : Type 0} (kind : Data → Option A) (P : A → Type 0) (key : List ℕ) (at : Option Data) → ((d : Data) → IfSome (kind d) P) → IfOk (at_key (λ d. option_map Some (kind d)) (Ok None) key at) (λ x. IfSome x P)
 optional_kind kind P key None h = tt
 optional_kind kind P key (Some d) h = held_kind P key (kind d) (h d)
 

@@ -16,17 +16,17 @@ abbrev pub ◌>>=◌ : {A B : Type 0} → Result A (List ℕ) → (A → Result 
 (Err path) >>= f = Err path
 
 -- what stands at a key, if it is of the kind; `missing` where nothing stands there
-abbrev pub held : {A : Type 0} → (Data → Option A) → Result A (List ℕ) → List ℕ → Option Data → Result A (List ℕ)
-held kind missing key None = missing
-held kind missing key (Some d) = ok_or (kind d) key
+abbrev pub at_key : {A : Type 0} → (Data → Option A) → Result A (List ℕ) → List ℕ → Option Data → Result A (List ℕ)
+at_key kind missing key None = missing
+at_key kind missing key (Some d) = ok_or (kind d) key
 
 -- a key that has to be there
 abbrev pub required : {A : Type 0} → (Data → Option A) → List ℕ → Members → Result A (List ℕ)
-required kind key t = held kind (Err key) key (get_member key t)
+required kind key t = at_key kind (Err key) key (get_member key t)
 
 -- a key that stands for `x` where it is missing
 abbrev pub value_or : {A : Type 0} → (Data → Option A) → A → List ℕ → Members → Result A (List ℕ)
-value_or kind x key t = held kind (Ok x) key (get_member key t)
+value_or kind x key t = at_key kind (Ok x) key (get_member key t)
 
 -- a key that may be missing
 abbrev pub optional : {A : Type 0} → (Data → Option A) → List ℕ → Members → Result (Option A) (List ℕ)

@@ -1,21 +1,13 @@
 // The kinds of values that keys hold.
 ghost use Rattle.std.specs.Prelude.{◌≡◌, IfOk, Option};
-ghost use Rattle.std.specs.List.{list_all};
 ghost use Rattle.toml.specs.Data.{Data, as_bool, as_integer, as_str};
 ghost use Rattle.toml.specs.View.{items_view, view};
-ghost use Rattle.yw_base.specs.Values.{is_short, is_small};
 ghost use Rattle.yw_read.specs.Kinds.{any_value, each_of, flow_between, flow_in, flow_of, gate_words, kind_words, list_of, one_of, small_value, sort_words, usage_words};
 
 use crate::raw::{RawFlow, RawKind};
 use std::alloc::{AllocError, Global};
 use toml::Value as TomlValue;
 use yw_base::{Gate, IntList, Items, Sort, Text, TextList, Usage, Value};
-
-/// The most bytes of a text that a variable begins with.
-const MOST_TEXT_BYTES: usize = 4096;
-
-/// The most values of a list that a variable begins with.
-const MOST_ELEMENTS: usize = 1000;
 
 /// What a key may hold: values of one kind.
 pub trait FromValue: Sized + Drop {
@@ -223,27 +215,6 @@ fn any_value(alloc: Global, sort: Sort, value: &TomlValue) -> Result<Option<Valu
     }
 }
 
-fn are_short(texts: &[Text]) -> bool
-    ensures { result ≡ list_all is_short texts.now }
-{
-    texts
-        .iter()
-        .all(|text| text.as_str().len() <= MOST_TEXT_BYTES)
-}
-
-/// A text has at most 4,096 bytes, a list at most 1,000 values, and each text in it at most 4,096 bytes.
-fn is_small(value: &Value) -> bool
-    ensures { result ≡ is_small value.now }
-{
-    match value {
-        Value::Bool(_) => true,
-        Value::Int(_) => true,
-        Value::Text(text) => text.as_str().len() <= MOST_TEXT_BYTES,
-        Value::Ints(ints) => ints.len() <= MOST_ELEMENTS,
-        Value::Texts(texts) => texts.len() <= MOST_ELEMENTS && are_short(texts.as_slice()),
-    }
-}
-
 /// The value of a sort that a value says, or `None` where it isn't of the sort or is past the limits. An `Err`
 /// says that no memory was left.
 pub fn small_value(
@@ -256,7 +227,7 @@ pub fn small_value(
     match any_value(alloc, sort, value)? {
         None => Ok(None),
         Some(value) => {
-            if is_small(&value) {
+            if value.is_small() {
                 Ok(Some(value))
             } else {
                 Ok(None)

@@ -57,7 +57,7 @@ enter_a_unbroken = refused.enter (begun seq_row 3) (codes "ann") (1 ∷ []) (cod
 
 enter_a_asked : Then seq_row 3 (λ s. IsAsked no_reader s (commands.Enter (codes "ann") (1 ∷ []) (codes "a")) (events.Enter (1 ∷ []) (codes "a") (Named (codes "i") ∷ []) 2 1))
 unfolding allows after checks IsAsked
-enter_a_asked = (Named (codes "i") ∷ [], 1, refl)
+enter_a_asked = (Named (codes "i") ∷ [], refl)
 
 enter_a_allowed : Then seq_row 3 (λ s. Allowed s (events.Enter (1 ∷ []) (codes "a") (Named (codes "i") ∷ []) 2 1) nothing)
 unfolding allows after checks IsAsked
@@ -150,7 +150,7 @@ enter_b_unbroken = refused.enter (begun seq_row 6) (codes "ann") (1 ∷ []) (cod
 
 enter_b_asked : Then seq_row 6 (λ s. IsAsked no_reader s (commands.Enter (codes "ann") (1 ∷ []) (codes "b")) (events.Enter (1 ∷ []) (codes "b") (Between (codes "a") (codes "b") ∷ []) 3 1))
 unfolding allows after checks IsAsked
-enter_b_asked = (Between (codes "a") (codes "b") ∷ [], 1, refl)
+enter_b_asked = (Between (codes "a") (codes "b") ∷ [], refl)
 
 enter_b_allowed : Then seq_row 6 (λ s. Allowed s (events.Enter (1 ∷ []) (codes "b") (Between (codes "a") (codes "b") ∷ []) 3 1) nothing)
 unfolding allows after checks IsAsked

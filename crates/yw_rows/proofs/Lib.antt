@@ -7,3 +7,4 @@ pub mod RefusedRows
 pub mod Answered
 pub mod AnsweredRows
 pub mod Works
+pub mod Showing

@@ -6,7 +6,7 @@ use Rattle.yw_rows.specs.Play.{Then, begun}
 use Rattle.yw_rows.specs.Choices.{join_both, or_split_net, or_split_row}
 use Rattle.yw_rows.specs.OrJoin.{or_join_net, or_row, join_late, join_early}
 use Rattle.yw_rows.specs.Waiting.{WaitsThen, WaitsNotThen, AllowedThen, ForbiddenThen}
-use Rattle.yw_spec.specs.Net.{after, at_place, at_task}
+use Rattle.yw_spec.specs.Net.{places_after, at_place, at_task}
 use Rattle.yw_state.specs.Allowed.{allows}
 use Rattle.yw_state.specs.Events as events
 use Rattle.yw_spec.specs.declared.spec.Place.TheVariants.{Named}
@@ -27,12 +27,12 @@ waits =
     }
 
 -- To d2 (6) lead q (2), c2 (3), s (0) and the input (0): no other task leads to one of these places.
-before_places : (t c : ℕ) → Contains (after or_join_net t) c → is_among (6 ∷ 3 ∷ 0 ∷ []) c ≡ true → is_among (2 ∷ 0 ∷ []) t ≡ true
+before_places : (t c : ℕ) → Contains (places_after or_join_net t) c → is_among (6 ∷ 3 ∷ 0 ∷ []) c ≡ true → is_among (2 ∷ 0 ∷ []) t ≡ true
 before_places zero c h e = refl
-before_places (suc zero) c h e = elsewhere (6 ∷ 3 ∷ 0 ∷ []) (2 ∷ 0 ∷ []) (after or_join_net 1) 1 c refl h e
+before_places (suc zero) c h e = elsewhere (6 ∷ 3 ∷ 0 ∷ []) (2 ∷ 0 ∷ []) (places_after or_join_net 1) 1 c refl h e
 before_places (suc (suc zero)) c h e = refl
-before_places (suc (suc (suc zero))) c h e = elsewhere (6 ∷ 3 ∷ 0 ∷ []) (2 ∷ 0 ∷ []) (after or_join_net 3) 3 c refl h e
-before_places (suc (suc (suc (suc zero)))) c h e = elsewhere (6 ∷ 3 ∷ 0 ∷ []) (2 ∷ 0 ∷ []) (after or_join_net 4) 4 c refl h e
+before_places (suc (suc (suc zero))) c h e = elsewhere (6 ∷ 3 ∷ 0 ∷ []) (2 ∷ 0 ∷ []) (places_after or_join_net 3) 3 c refl h e
+before_places (suc (suc (suc (suc zero)))) c h e = elsewhere (6 ∷ 3 ∷ 0 ∷ []) (2 ∷ 0 ∷ []) (places_after or_join_net 4) 4 c refl h e
 before_places (suc (suc (suc (suc (suc t))))) c h e = elsewhere (6 ∷ 3 ∷ 0 ∷ []) (2 ∷ 0 ∷ []) [] (suc (suc (suc (suc (suc t))))) c refl h e
 
 closed : AreClosed or_join_net (6 ∷ 3 ∷ 0 ∷ []) (2 ∷ 0 ∷ [])
@@ -71,12 +71,12 @@ waits_for_second =
     }
 
 -- To d3 (7) lead r (3), c3 (4), s (0) and the input (0).
-before_third : (t c : ℕ) → Contains (after or_split_net t) c → is_among (7 ∷ 4 ∷ 0 ∷ []) c ≡ true → is_among (3 ∷ 0 ∷ []) t ≡ true
+before_third : (t c : ℕ) → Contains (places_after or_split_net t) c → is_among (7 ∷ 4 ∷ 0 ∷ []) c ≡ true → is_among (3 ∷ 0 ∷ []) t ≡ true
 before_third zero c h e = refl
-before_third (suc zero) c h e = elsewhere (7 ∷ 4 ∷ 0 ∷ []) (3 ∷ 0 ∷ []) (after or_split_net 1) 1 c refl h e
-before_third (suc (suc zero)) c h e = elsewhere (7 ∷ 4 ∷ 0 ∷ []) (3 ∷ 0 ∷ []) (after or_split_net 2) 2 c refl h e
+before_third (suc zero) c h e = elsewhere (7 ∷ 4 ∷ 0 ∷ []) (3 ∷ 0 ∷ []) (places_after or_split_net 1) 1 c refl h e
+before_third (suc (suc zero)) c h e = elsewhere (7 ∷ 4 ∷ 0 ∷ []) (3 ∷ 0 ∷ []) (places_after or_split_net 2) 2 c refl h e
 before_third (suc (suc (suc zero))) c h e = refl
-before_third (suc (suc (suc (suc zero)))) c h e = elsewhere (7 ∷ 4 ∷ 0 ∷ []) (3 ∷ 0 ∷ []) (after or_split_net 4) 4 c refl h e
+before_third (suc (suc (suc (suc zero)))) c h e = elsewhere (7 ∷ 4 ∷ 0 ∷ []) (3 ∷ 0 ∷ []) (places_after or_split_net 4) 4 c refl h e
 before_third (suc (suc (suc (suc (suc t))))) c h e = elsewhere (7 ∷ 4 ∷ 0 ∷ []) (3 ∷ 0 ∷ []) [] (suc (suc (suc (suc (suc t))))) c refl h e
 
 waits_for_none : WaitsNotThen or_split_row 12 (1 ∷ []) (codes "j")

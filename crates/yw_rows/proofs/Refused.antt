@@ -8,7 +8,7 @@ use Rattle.yw_rows.proofs.Waiting.{inside_some}
 use Rattle.yw_rows.specs.Play.{OfSome, computed, no_reader}
 use Rattle.yw_spec.specs.declared.spec.Place.{Place}
 use Rattle.yw_state.specs.Allowed.{Allowed, allows}
-use Rattle.yw_state.specs.Automatic.{IsQuiet}
+use Rattle.yw_state.specs.Automatic.{Comes}
 use Rattle.yw_state.specs.Broken.{Check, First, checks, fact, fact_at, fault, placed, placeless, test, test_at}
 use Rattle.yw_state.specs.Identity.{Ident, case_number}
 use Rattle.yw_state.specs.Joins.{Waits}
@@ -16,6 +16,7 @@ use Rattle.yw_base.specs.Gates.{is_or}
 use Rattle.yw_state.specs.Options.{is_some_and}
 use Rattle.yw_state.specs.State.{State, TaskAt, task_at}
 use Rattle.yw_state.specs.Texts.{nothing}
+use Rattle.yw_state.specs.declared.event.Event.{Event}
 use Rattle.yw_state.specs.declared.event.Event.TheVariants as events
 use Rattle.yw_state.specs.declared.command.Command.TheVariants as commands
 use Rattle.yw_state.specs.declared.command.Given.{Given}
@@ -41,8 +42,8 @@ whole (fact Broken r ∷ cs) found none f = inr (none.0, whole cs found none.1 f
 whole (fact_at IsAt r ∷ cs) found none f = inr (none.0, whole cs found none.1 f)
 whole (fault Has ∷ cs) found none f = inr (none.0, whole cs found none.1 f)
 
-not_moving : (s : State) → IsStill s → (j : Ident) → (IsQuiet s (case_number j) → ⊥) → ⊥
-not_moving s still j moving = moving (rests s still (case_number j))
+not_moving : (s : State) → IsStill s → (j : Ident) → ((e : Event) × Comes s (case_number j) e) → ⊥
+not_moving s still j moving = rests s still (case_number j) moving.0 moving.1
 
 pub start : (o : Option State) (who : List ℕ) (j : Ident) (found : Option Refusal) → OfSome o IsStill
     → OfSome o (λ s. First (computed (checks no_reader s (commands.Start who j))) found) → OfSome o (λ s. First (checks no_reader s (commands.Start who j)) found)

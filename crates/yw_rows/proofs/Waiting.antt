@@ -7,7 +7,7 @@ use Rattle.std.proofs.lemmas.Bool.Decides.{nat_tests}
 use Rattle.std.proofs.lemmas.List.Sums.{AllPass-from_list_all}
 use Rattle.std.proofs.lemmas.Map.Views.{Contains-from_any}
 use Rattle.yw_rows.specs.Play.{OfSome}
-use Rattle.yw_spec.specs.Net.{Node, at_place, at_task, HasFlow, after, before}
+use Rattle.yw_spec.specs.Net.{Node, at_place, at_task, HasFlow, places_after, places_before}
 use Rattle.yw_reach.specs.Walks.{WalkAlong}
 use Rattle.yw_spec.specs.declared.spec.Net.{Net}
 use Rattle.yw_spec.specs.declared.spec.Place.{Place}
@@ -37,8 +37,8 @@ is_of places tasks (at_task t) = is_among tasks t
 
 -- From no other node a flow leads to these places and tasks.
 pub record AreClosed (net : Net) (places tasks : List ℕ) : Type 0 where
-  pub before_tasks : list_all (λ t. list_all (is_among places) (before net t)) tasks ≡ true
-  pub before_places : (t c : ℕ) → Contains (after net t) c → is_among places c ≡ true → is_among tasks t ≡ true
+  pub before_tasks : list_all (λ t. list_all (is_among places) (places_before net t)) tasks ≡ true
+  pub before_places : (t c : ℕ) → Contains (places_after net t) c → is_among places c ≡ true → is_among tasks t ≡ true
 
 not_both : (b : Bool) → not b ≡ true → IsTrue b → ⊥
 not_both true e h = cc
@@ -52,7 +52,7 @@ elsewhere places tasks ns t c none h e = absurd (not_both (is_among places c) (o
 one_back : (net : Net) (places tasks : List ℕ) → AreClosed net places tasks → (a b : Node) → HasFlow net a b → is_of places tasks b ≡ true
     → is_of places tasks a ≡ true
 one_back net places tasks closed (at_place c) (at_task t) flow e =
-    of_all (is_among places) (before net t) c (of_among (λ u. list_all (is_among places) (before net u)) tasks t closed.before_tasks e) flow
+    of_all (is_among places) (places_before net t) c (of_among (λ u. list_all (is_among places) (places_before net u)) tasks t closed.before_tasks e) flow
 one_back net places tasks closed (at_task t) (at_place c) flow e = closed.before_places t c flow e
 one_back net places tasks closed (at_place c) (at_place d) flow e = absurd flow
 one_back net places tasks closed (at_task t) (at_task u) flow e = absurd flow

@@ -1,3 +1,4 @@
+pub mod Shown
 pub mod Play
 pub mod Written
 pub mod Seq

@@ -1,7 +1,8 @@
 -- Events in turn from the first state of all, and what is then to be seen. Each row is a list of entries, one for each command.
-use Rattle.std.specs.Prelude.{ℕ, Bool, true, false, List, [], ◌∷◌, flat_map, take, Option, Some, None, is_some, option_map, option_and_then}
+use Rattle.std.specs.Prelude.{ℕ, Bool, true, false, List, [], ◌∷◌, flat_map, take, Option, Some, None, is_some, option_map, option_and_then, if◌then◌else◌}
 use Rattle.yw_state.specs.Allowed.{allows}
-use Rattle.yw_state.specs.Answers.{ended_way, shown}
+use Rattle.yw_rows.specs.Shown.{shown}
+use Rattle.yw_state.specs.Answers.{ended_way, rises, token_before}
 use Rattle.yw_state.specs.Automatic.{is_automatic}
 use Rattle.yw_state.specs.Broken.{Breaks, Check, First, test, fact, test_at, fact_at, fault, checks}
 use Rattle.yw_state.specs.Events.{after}
@@ -40,9 +41,13 @@ begun row k = play opening (flat_map (λ entry. entry) (take k row))
 abbrev pub are_allowed : List Entry → ℕ → Bool
 are_allowed row k = is_some (begun row k)
 
+-- what is shown of a case, if its tokens are in order
+abbrev in_order : Shown → Option Shown
+in_order x = if rises token_before x.tokens then Some x else None
+
 -- all that stands in case n then
 abbrev pub shown_at : List Entry → ℕ → ℕ → Option Shown
-shown_at row k n = option_map (λ s. shown s n) (begun row k)
+shown_at row k n = option_and_then (λ s. in_order (shown s n)) (begun row k)
 
 -- how case n has ended then
 abbrev pub ended_at : List Entry → ℕ → ℕ → Option Way

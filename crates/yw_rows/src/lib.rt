@@ -15,6 +15,7 @@ pub mod loan;
 pub mod nets;
 pub mod refusals;
 pub mod removal;
+pub mod told;
 pub mod trees;
 pub mod turns;
 pub mod values;

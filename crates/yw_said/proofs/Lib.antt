@@ -5,6 +5,5 @@ pub mod OnceTask
 pub mod OnceSpec
 pub mod SomeLists
 pub mod SomePlaces
-pub mod SomeFacts
 pub mod SomeParts
 pub mod SomeSpec

@@ -6,7 +6,7 @@ use Rattle.std.specs.Option.{option_map}
 use Rattle.std.specs.Str.{bytes_eq}
 use Rattle.std.proofs.lemmas.List.Elements.{All-filter, filter_passes}
 use Rattle.std.proofs.lemmas.Option.{slice_get-get_or, slice_get-map}
-use Rattle.yw_accept.specs.Nodes.{is_among}
+use Rattle.yw_accept.specs.Nodes.{is_name_among}
 use Rattle.yw_accept.proofs.Among.{among_contains}
 use Rattle.yw_accept.proofs.Lists.{list_any_of_map}
 
@@ -27,7 +27,7 @@ pub number_of : {A : Type 0} (xs : List A) (x : A) → Contains xs x → (k : �
 number_of xs x (k, lt, e) = (k, slice_get-get_or xs k x lt ∙ ap Some e)
 
 -- a name that is among those of a list is its element's of some number
-pub number_called : {A : Type 0} (name : A → List ℕ) (xs : List A) (text : List ℕ) → is_among (map name xs) text ≡ true → (k : ℕ) × (option_map name (slice_get xs k) ≡ Some text)
+pub number_called : {A : Type 0} (name : A → List ℕ) (xs : List A) (text : List ℕ) → is_name_among (map name xs) text ≡ true → (k : ℕ) × (option_map name (slice_get xs k) ≡ Some text)
 number_called name xs text h = let at = number_of (map name xs) text (among_contains (map name xs) text h) in (at.0, sym (slice_get-map name xs at.0) ∙ at.1)
 
 -- an element whose name is asked for has its number

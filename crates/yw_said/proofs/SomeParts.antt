@@ -30,13 +30,13 @@ use Rattle.yw_accept.specs.Built.{MayMean, IsBranch, IsParam, IsAssign, IsVarCal
 use Rattle.yw_accept.specs.Facts.{NetLeads}
 use Rattle.yw_accept.specs.Graph.{may_be_child}
 use Rattle.yw_accept.specs.Names.{may_lead}
-use Rattle.yw_accept.specs.Nodes.{is_among, leads_to}
+use Rattle.yw_accept.specs.Nodes.{is_name_among, leads_to}
+use Rattle.yw_accept.specs.Ready.{TaskIsReady}
 use Rattle.yw_accept.specs.Scopes.{Spells, names_var, vars_scope, set_scope}
 use Rattle.yw_accept.specs.Tasks.{least, greatest, enough, bounds_fit, item_fits, in_names, has_no_bounds}
 use Rattle.yw_accept.proofs.TaskFacts.{flow_to, to_outputs}
 use Rattle.yw_said.proofs.SomeLists.{number_called, number_named}
 use Rattle.yw_said.proofs.SomePlaces.{flow_place}
-use Rattle.yw_said.proofs.SomeFacts.{TaskCanBeBuilt}
 
 -- ---- expressions
 
@@ -51,7 +51,7 @@ may_mean scope Wanted (Some text) h = let found = tree_of scope Wanted text (h 0
 -- ---- branches
 
 pub record BranchFits (net : RawNet) (task : RawTask) (branch : RawBranch) : Type 0 where
-  pub flow : is_among (leads_to net task.name) branch.to ≡ true
+  pub flow : is_name_among (leads_to net task.name) branch.to ≡ true
   pub when : (e : Option Tree) × MayMean (vars_scope net) branch.when e
 
 pub some_branch : (net : RawNet) (task : RawTask) → NetLeads net → (said : RawBranch) → BranchFits net task said → (branch : Branch) × IsBranch net task said branch
@@ -107,7 +107,7 @@ bounds_are task h =
       threshold = natural 1 (enough task) four.1;
     }
 
-item_named : (task : RawTask) (item : Option (List ℕ)) → option_map_or (is_among (in_names task)) item false ≡ true → (name : List ℕ) × (item ≡ Some name) × (is_among (in_names task) name ≡ true)
+item_named : (task : RawTask) (item : Option (List ℕ)) → option_map_or (is_name_among (in_names task)) item false ≡ true → (name : List ℕ) × (item ≡ Some name) × (is_name_among (in_names task) name ≡ true)
 item_named task None h = absurd (true≢false (sym h))
 item_named task (Some name) h = (name, refl, h)
 
@@ -158,7 +158,7 @@ some_kind raw raw_kinds.Sub (Some name) h =
 
 -- ---- the parts of a task
 
-module _ (raw : RawSpec) (net : RawNet) (task : RawTask) (fits : TaskCanBeBuilt raw net task) where
+module _ (raw : RawSpec) (net : RawNet) (task : RawTask) (fits : TaskIsReady raw net task) where
   pub branches_fit : All (BranchFits net task) task.branch
   branches_fit i d lt = record {
     flow = to_outputs task.split (leads_to net task.name) task.branch fits.split i d lt;

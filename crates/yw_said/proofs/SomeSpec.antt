@@ -19,11 +19,12 @@ use Rattle.yw_accept.specs.Built.{var_of, out_of, places_of, MayMean, IsPlaceOf,
 use Rattle.yw_accept.specs.Facts.{NetLeads}
 use Rattle.yw_accept.specs.Names.{may_be_emptied}
 use Rattle.yw_accept.specs.Nodes.{is_task}
+use Rattle.yw_accept.specs.Ready.{TaskIsReady, NetIsReady, IsReady}
 use Rattle.yw_accept.specs.Scopes.{vars_scope}
 use Rattle.yw_accept.specs.Verdict.{IsVerdict}
+use Rattle.yw_accept.proofs.ReadyLemmas.{is_ready}
 use Rattle.yw_said.proofs.SomeLists.{made_of_all, kept, number_called}
 use Rattle.yw_said.proofs.SomePlaces.{flow_place, emptied_place}
-use Rattle.yw_said.proofs.SomeFacts.{TaskCanBeBuilt, NetCanBeBuilt, CanBeBuilt, can_be_built}
 use Rattle.yw_said.proofs.SomeParts.{BranchFits, AssignFits, some_branch, some_param, some_assign, some_items, some_kind, branches_fit, ins_mean, assigns_fit, each_means}
 
 -- ---- numbers of places and tasks
@@ -50,7 +51,7 @@ module _ (net : RawNet) (removed : List (List ℕ)) (fit : All (λ text. may_be_
 
 -- ---- the whole, from below
 
-some_task : (raw : RawSpec) (net : RawNet) → NetLeads net → (said : RawTask) → TaskCanBeBuilt raw net said → (task : Task) × IsTask raw net said task
+some_task : (raw : RawSpec) (net : RawNet) → NetLeads net → (said : RawTask) → TaskIsReady raw net said → (task : Task) × IsTask raw net said task
 some_task raw net leads said fits =
     let removed : All (λ text. may_be_emptied net text ≡ true) said.remove = AllPass-from_list_all (may_be_emptied net) said.remove fits.removals in
     let kind = some_kind raw said.kind said.net fits.child in
@@ -96,19 +97,19 @@ some_task raw net leads said fits =
       },
     )
 
-some_net : (raw : RawSpec) (said : RawNet) → NetCanBeBuilt raw said → (net : Net) × IsNet raw said net
+some_net : (raw : RawSpec) (said : RawNet) → NetIsReady raw said → (net : Net) × IsNet raw said net
 some_net raw said fits =
-    let tasks = made_of_all (TaskCanBeBuilt raw said) (IsTask raw said) (some_task raw said fits.leads) said.task fits.tasks in (
+    let tasks = made_of_all (TaskIsReady raw said) (IsTask raw said) (some_task raw said fits.leads) said.task fits.tasks in (
       record { name = said.name; input = 0; output = 1; places = places_of said; tasks = tasks.0; vars = map var_of said.vars },
       record { name = refl; input = refl; output = refl; places = refl; tasks = tasks.1; vars = refl },
     )
 
-some_spec : (raw : RawSpec) → CanBeBuilt raw → (spec : Spec) × IsSpec raw spec
+some_spec : (raw : RawSpec) → IsReady raw → (spec : Spec) × IsSpec raw spec
 some_spec raw fits =
-    let top = number_called (λ (n : RawNet). n.name) raw.net raw.top fits.top in
-    let nets = made_of_all (NetCanBeBuilt raw) (IsNet raw) (some_net raw) raw.net fits.nets in
+    let top = number_called (λ (n : RawNet). n.name) raw.net raw.top fits.named.top in
+    let nets = made_of_all (NetIsReady raw) (IsNet raw) (some_net raw) raw.net fits.nets in
     (record { name = raw.name; top = top.0; nets = nets.0 }, record { name = refl; top = top.1; nets = nets.1 })
 
 -- an accepted document says a specification
 pub says_some : (raw : RawSpec) → IsVerdict raw None → (spec : Spec) × IsSpec raw spec
-says_some raw h = some_spec raw (can_be_built raw h)
+says_some raw h = some_spec raw (is_ready raw h)

@@ -2,7 +2,7 @@
 use Rattle.std.proofs.Common.{◌≡◌, ℕ, List, [], ◌∷◌, Option, None, Some, Result, Ok, Err, refl, sym, subst}
 use Rattle.yw_journal.specs.Records.{IsFramed}
 use Rattle.yw_lines.specs.Meaning.{meaning}
-use Rattle.yw_lines.specs.Replies.{done, refused}
+use Rattle.yw_lines.specs.Replies.{done_line, refused_line}
 use Rattle.yw_model.specs.Run.{Answers, Entry, Step, built_words, MeaningAnswers}
 use Rattle.yw_model.specs.Texts.{reader}
 use Rattle.yw_state.specs.Broken.{Breaks, placeless}
@@ -25,13 +25,13 @@ pub accepted : (s t : State) (n : ℕ) (c : Command) (entry : Entry) (plan : Pla
     → IsPlanFor s n c plan buffer t
 accepted s t n c entry (Refuse reply) buffer legal plans = absurd plans
 accepted s t n c entry (Accept reply) buffer legal plans = record {
-  step = record { taken = entry ∷ []; reply = done n entry.events entry.quiet };
+  step = record { taken = entry ∷ []; reply = done_line n entry.events entry.quiet };
   answers = (None, legal.unbroken, record { entry = entry; legal = legal; one = refl; told = refl });
   does = record { entry = entry; taken = refl; has = plans.0; told = sym plans.1 };
 }
 
 abbrev refusal_step : ℕ → Refusal → Step
-refusal_step n refusal = record { taken = []; reply = refused n refusal }
+refusal_step n refusal = record { taken = []; reply = refused_line n refusal }
 
 refuses_does : (n : ℕ) (refusal : Refusal) (plan : Plan) (buffer : List ℕ) → Refuses n refusal plan → Does plan buffer (refusal_step n refusal)
 refuses_does n refusal (Refuse reply) buffer plans = (refl, sym plans)
@@ -52,8 +52,8 @@ unfolding Answers
 of_meaning s n line m step t means a = subst (λ (x : Result Asked Rule). MeaningAnswers x s n step t) (sym means) a
 
 -- a line that asks nothing is refused
-refused_line : (s : State) (n : ℕ) (line : List ℕ) (rule : Rule) (plan : Plan) (buffer : List ℕ) → meaning built_words line ≡ Err rule → Refuses n (placeless rule) plan → IsPlan s n line plan buffer s
-refused_line s n line rule plan buffer means plans = record {
+rule_line : (s : State) (n : ℕ) (line : List ℕ) (rule : Rule) (plan : Plan) (buffer : List ℕ) → meaning built_words line ≡ Err rule → Refuses n (placeless rule) plan → IsPlan s n line plan buffer s
+rule_line s n line rule plan buffer means plans = record {
   step = refusal_step n (placeless rule);
   answers = of_meaning s n line (Err rule) (refusal_step n (placeless rule)) s means (record { nothing = refl; told = refl; same = refl });
   does = refuses_does n (placeless rule) plan buffer plans;
@@ -62,7 +62,7 @@ refused_line s n line rule plan buffer means plans = record {
 -- by the rule of its fault
 pub fault_line : (s : State) (n : ℕ) (line : List ℕ) (broken : Option Rule) (plan : Plan) (buffer : List ℕ) → ((rule : Rule) → broken ≡ Some rule → meaning built_words line ≡ Err rule)
     → RefusesBy n broken plan → IsPlan s n line plan buffer s
-fault_line s n line (Some r) plan buffer means plans = refused_line s n line r plan buffer (means r refl) plans
+fault_line s n line (Some r) plan buffer means plans = rule_line s n line r plan buffer (means r refl) plans
 fault_line s n line None plan buffer means plans = absurd plans
 
 -- so is one that asks to be told something

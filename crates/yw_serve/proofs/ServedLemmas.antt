@@ -8,9 +8,9 @@ use Rattle.yw_state.specs.State.{State}
 use Rattle.yw_serve.specs.Damage.{IsDamagedNow}
 use Rattle.yw_serve.specs.Ends.{EndsAs, EndsShort}
 use Rattle.yw_serve.specs.Notices.{damage_line, full_line}
-use Rattle.yw_serve.specs.Opening.{IsOpened, OpensBy, opened_state}
-use Rattle.yw_serve.specs.Session.{state_of}
-use Rattle.yw_serve.specs.declared.opening.Opened.{Opened}
+use Rattle.yw_serve.specs.Opening.{IsOpened, OpensBy}
+use Rattle.yw_serve.specs.Session.{server_state, state_of}
+use Rattle.yw_serve.specs.declared.server.Server.{Server}
 use Rattle.yw_serve.specs.declared.run.Ending.{Ending}
 use Rattle.yw_serve.specs.declared.session.Session.{Session}
 use Rattle.yw_serve.specs.Served.{RunEnds, RunsFrom, OpeningEnds, IsTold}
@@ -77,12 +77,12 @@ damage_ends g r f place old mid new damaged same settled opening told =
 
 -- The files were opened, and the lines answered over them.
 pub runs_from : {D : Type 0} (g : Ghosts D)
-    (opened : Opened) (limit full_at piece : ℕ) (bytes : List ℕ) (left : Option (List ℕ)) (status : Status) (old mid new : D) → (o : IsOpened opened (g.state old) (g.state mid))
-    → IsSettled (g.state mid) (g.may_leave mid) → OpensBy g old mid → opened.journal.limit ≡ full_at
-    → RunEnds g status o.now (opened_state opened) opened.journal.limit limit bytes left piece mid new
+    (server : Server) (limit full_at piece : ℕ) (bytes : List ℕ) (left : Option (List ℕ)) (status : Status) (old mid new : D) → (o : IsOpened server (g.state old) (g.state mid))
+    → IsSettled (g.state mid) (g.may_leave mid) → OpensBy g old mid → server.journal.limit ≡ full_at
+    → RunEnds g status o.now (server_state server) server.journal.limit limit bytes left piece mid new
     → RunsFrom g (λ c s start. RunEnds g status c s full_at limit bytes left piece start new) old
-runs_from g opened limit full_at piece bytes left status old mid new o settled opening limited ends = record {
-  s = opened_state opened;
+runs_from g server limit full_at piece bytes left status old mid new o settled opening limited ends = record {
+  s = server_state server;
   before = o.before;
   held = o.held;
   c = o.now;
@@ -93,7 +93,7 @@ runs_from g opened limit full_at piece bytes left status old mid new o settled o
   b = o.other;
   said = o.said;
   opening = opening;
-  ends = subst (λ (n : ℕ). RunEnds g status o.now (opened_state opened) n limit bytes left piece mid new) limited ends;
+  ends = subst (λ (n : ℕ). RunEnds g status o.now (server_state server) n limit bytes left piece mid new) limited ends;
 }
 
 -- of the statuses of an opening, those whose cause isn't there don't come

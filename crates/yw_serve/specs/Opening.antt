@@ -1,5 +1,5 @@
 -- What the opening of the files finds and leaves.
-use Rattle.std.specs.Prelude.{◌≡◌, ◌≢◌, ◌⊎◌, ℕ, ◌+◌, ◌≤◌, List, [], ◌∷◌, ◌++◌, length, take, drop, Bool, true, false, Option, None, MatchOption, Result, Ok, Err, IfErr, IsTrue, MatchResult}
+use Rattle.std.specs.Prelude.{◌≡◌, ◌≢◌, ◌⊎◌, ℕ, ◌+◌, ◌≤◌, ◌<◌, ◌^◌, List, [], ◌∷◌, ◌++◌, length, take, drop, Bool, true, false, Option, None, MatchOption, Result, Ok, Err, IfErr, IsTrue, MatchResult}
 use Rattle.std.specs.Bool.{MatchBool}
 use Rattle.std.specs.Int.{w32, from_be_bytes}
 use Rattle.yw_outside.specs.Causes.{Rose}
@@ -12,7 +12,6 @@ use Rattle.yw_journal.specs.Files as files
 use Rattle.yw_journal.specs.Files.{Content, IsCut, HasNoMeaning, LeadsTo, NoneIsLive, is_live, snapshot_size_of}
 use Rattle.yw_journal.specs.Journal.{IsCurrent, made}
 use Rattle.yw_journal.specs.Records.{AreOpen, IsNoRecord}
-use Rattle.yw_engine.specs.Held as held
 use Rattle.yw_model.specs.Texts.{reader}
 use Rattle.yw_state.specs.Events.{Leads, LeadAll}
 use Rattle.yw_state.specs.State.{State, opening}
@@ -21,13 +20,12 @@ use Rattle.yw_serve.specs.Damage.{EntryLeads, HoldNow, IsDamagedNow, heads_damag
 use Rattle.yw_serve.specs.declared.header.Head.{Head}
 use Rattle.yw_serve.specs.declared.opening.OpenFault.{OpenFault}
 use Rattle.yw_serve.specs.declared.opening.OpenFault.TheVariants.{Disk, Damaged, Memory}
-use Rattle.yw_serve.specs.declared.opening.Opened.{Opened}
 use Rattle.yw_serve.specs.declared.opening_entries.GateByte.{GateByte}
 use Rattle.yw_serve.specs.declared.opening_entries.GateByte.TheVariants.{Closed, Open, Cut}
+use Rattle.yw_serve.specs.declared.opening_entries.Tail.{Tail}
+use Rattle.yw_serve.specs.declared.server.Server.{Server}
+use Rattle.yw_serve.specs.Session.{server_state}
 use Rattle.yw_outside.specs.declared.desk.Desk.{Ghosts}
-
-abbrev pub opened_state : Opened → State
-opened_state opened = held.state_of opened.engine
 
 -- Only reads and syncs came between two states of a desk: it holds what it held, and a crash leaves nothing new.
 pub record OnlyLooked {D : Type 0} (g : Ghosts D) (old new : D) : Type 0 where
@@ -54,7 +52,7 @@ OnDamage result P = (f : File) (place : ℕ) → result ≡ Err (Damaged f place
 
 -- how the count of the files' faults stands after an opening: it rose under Disk, and is what it was else
 abbrev pub OpenFaults : {D T : Type 0} → Ghosts D → Result T OpenFault → D → D → Type 0
-OpenFaults g (Ok opened) old new = g.disk_faults new ≡ g.disk_faults old
+OpenFaults g (Ok server) old new = g.disk_faults new ≡ g.disk_faults old
 OpenFaults g (Err Disk) old new = Rose (g.disk_faults old) (g.disk_faults new)
 OpenFaults g (Err (Damaged f place)) old new = g.disk_faults new ≡ g.disk_faults old
 OpenFaults g (Err Memory) old new = g.disk_faults new ≡ g.disk_faults old
@@ -64,6 +62,10 @@ pub record IsHeadOf (file : List ℕ) (head : Head) : Type 0 where
   pub live : is_live file ≡ true
   pub size : head.len ≡ length file
   pub bytes : head.bytes ≡ take 30 file
+
+-- the file has a head, and no more bytes than an offset can say
+abbrev pub IsSized : Head → Type 0
+IsSized head = (30 ≤ head.len) × (head.len < 2 ^ 63)
 
 abbrev pub IsHeadRead : List ℕ → Option Head → Type 0
 IsHeadRead file head = MatchOption head (is_live file ≡ false) (IsHeadOf file)
@@ -121,10 +123,25 @@ pub record IsReached (file : List ℕ) (at : ℕ) (records : List (List ℕ)) (s
   pub place : length (take 29 file ++ opened) ≡ at
   pub state : LeadsTo meaning opening records s
 
+-- From a gate at which these records were reached: it is closed, or a record more leads to this state at the next.
+abbrev pub ReachesNext : List ℕ → ℕ → List (List ℕ) → State → Option ℕ → Type 0
+ReachesNext file at records t next =
+    MatchOption next (IsClosedHere (drop at file)) (λ after. (bytes : List ℕ) × IsReached file after (records ++ bytes ∷ []) t)
+
+-- The records end at this gate, which is closed. They are as many as it says, and lead to this state.
+abbrev pub EndsAt : List ℕ → State → Tail → Type 0
+EndsAt file t tail =
+    IsClosedHere (drop tail.gate file) × ((records : List (List ℕ)) × IsReached file tail.gate records t × (length records ≡ tail.records))
+
 -- After a sound header of file A this is the first damage.
 pub record IsDamagedAt (file : List ℕ) (f : File) (place : ℕ) : Type 0 where
   pub which : f ≡ A
   pub here : IsCut meaning file place ⊎ HasNoMeaning meaning file place
+
+-- the first damage of file A where these records and this state were reached at this gate of it
+abbrev pub IsDamagedFrom : {D : Type 0} → Ghosts D → D → ℕ → List (List ℕ) → State → File → ℕ → Type 0
+IsDamagedFrom g desk at records s f place =
+    IsTrue (g.tells desk) → IsReached (g.state desk).a at records s → IsDamagedAt (g.state desk).a f place
 
 -- what file A has when it is begun: generation 1, number 0 and no record
 abbrev pub begun : Content
@@ -163,32 +180,32 @@ abbrev pub GoesOnOrBegins : Content → Content → Image → Image → Type 0
 GoesOnOrBegins before now i j = ((now ≡ before) × (j.a ≡ i.a)) ⊎ ((before ≡ files.opening) × (now ≡ begun))
 
 -- The files held this state and hold it, the journal stands for them, and nothing else has changed.
-pub record IsOpened (opened : Opened) (i j : Image) : Type 0 where
+pub record IsOpened (server : Server) (i j : Image) : Type 0 where
   pub before : Content
-  pub held : HoldNow before (opened_state opened) i
+  pub held : HoldNow before (server_state server) i
   pub now : Content
-  pub holds : HoldNow now (opened_state opened) j
-  pub current : IsCurrent opened.journal now j
+  pub holds : HoldNow now (server_state server) j
+  pub current : IsCurrent server.journal now j
   pub content : GoesOnOrBegins before now i j
   pub other : j.b ≡ i.b
   pub said : j.said ≡ i.said
 
 -- This state is opened, or else no damage is named.
-abbrev pub AnswersState : State → Result Opened OpenFault → Type 0
-AnswersState s result = MatchResult result (λ opened. opened_state opened ≡ s) (λ fault. (f : File) (place : ℕ) → fault ≢ Damaged f place)
+abbrev pub AnswersState : State → Result Server OpenFault → Type 0
+AnswersState s result = MatchResult result (λ server. server_state server ≡ s) (λ fault. (f : File) (place : ℕ) → fault ≢ Damaged f place)
 
 -- No state is opened, and a damage that is named is this one.
-abbrev pub AnswersDamage : File → ℕ → Result Opened OpenFault → Type 0
-AnswersDamage f place result = MatchResult result (λ opened. ⊥) (λ fault. (g : File) (other : ℕ) → fault ≡ Damaged g other → (g ≡ f) × (other ≡ place))
+abbrev pub AnswersDamage : File → ℕ → Result Server OpenFault → Type 0
+AnswersDamage f place result = MatchResult result (λ server. ⊥) (λ fault. (g : File) (other : ℕ) → fault ≡ Damaged g other → (g ≡ f) × (other ≡ place))
 
 -- what is opened is so of what the desk holds, where it tells that
-abbrev pub IsOpenedAt : {D : Type 0} → Ghosts D → Opened → D → D → Type 0
-IsOpenedAt g opened old new = IsTrue (g.tells old) → IsOpened opened (g.state old) (g.state new)
+abbrev pub IsOpenedAt : {D : Type 0} → Ghosts D → Server → D → D → Type 0
+IsOpenedAt g server old new = IsTrue (g.tells old) → IsOpened server (g.state old) (g.state new)
 
 -- a state that the files hold is the one that is opened
-abbrev pub HeldIsAnswered : Image → Result Opened OpenFault → Type 0
+abbrev pub HeldIsAnswered : Image → Result Server OpenFault → Type 0
 HeldIsAnswered i result = (c : Content) (s : State) → HoldNow c s i → AnswersState s result
 
 -- a damage of the files is the one that is named
-abbrev pub DamageIsAnswered : Image → Result Opened OpenFault → Type 0
+abbrev pub DamageIsAnswered : Image → Result Server OpenFault → Type 0
 DamageIsAnswered i result = (f : File) (place : ℕ) → IsDamagedNow i f place → AnswersDamage f place result

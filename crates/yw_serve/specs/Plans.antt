@@ -1,17 +1,21 @@
 -- What is to be done for a line. What is to be appended stands in a buffer beside the plan, as it is framed.
 use Rattle.std.specs.Prelude.{◌≡◌, ℕ, List, [], ◌∷◌, Option, Some, None}
 use Rattle.yw_codec.specs.Entries.{IsEntry, framed}
+use Rattle.yw_journal.specs.Files.{Content}
 use Rattle.yw_journal.specs.Records.{IsFramed}
-use Rattle.yw_lines.specs.Replies.{done, refused}
+use Rattle.yw_journal.specs.declared.journal.Journal.{Journal}
+use Rattle.yw_lines.specs.Replies.{done_line, refused_line}
 use Rattle.yw_state.specs.Broken.{placeless}
 use Rattle.yw_model.specs.Run.{Entry, Step, Answers, CommandAnswers}
 use Rattle.yw_state.specs.declared.command.Command.{Command}
 use Rattle.yw_state.specs.State.{State}
 use Rattle.yw_state.specs.declared.rule.Refusal.{Refusal}
 use Rattle.yw_state.specs.declared.rule.Rule.{Rule}
+use Rattle.yw_serve.specs.Desks.{ForContent}
 use Rattle.yw_serve.specs.Session.{bytes_of}
 use Rattle.yw_serve.specs.declared.plan.Plan.{Plan}
 use Rattle.yw_serve.specs.declared.plan.Plan.TheVariants.{Refuse, Accept}
+use Rattle.yw_outside.specs.declared.desk.Desk.{Ghosts}
 
 -- The buffer has this entry, framed, which can be written.
 pub record HasEntry (entry : Entry) (buffer : List ℕ) : Type 0 where
@@ -31,13 +35,13 @@ abbrev pub Does : Plan → List ℕ → Step → Type 0
 Does (Refuse reply) buffer step = (step.taken ≡ []) × (step.reply ≡ reply)
 Does (Accept reply) buffer step = TakesEntry buffer reply step
 
--- it is so of each step that the plan does
-abbrev pub ForStep : Plan → List ℕ → (Step → Type 0) → Type 0
-ForStep plan buffer P = (step : Step) → Does plan buffer step → P step
+-- where the desk tells, for each content that the journal may stand for and each step that the plan does
+abbrev pub ForPlan : {D : Type 0} → Ghosts D → Journal → D → Plan → List ℕ → (Content → Step → Type 0) → Type 0
+ForPlan g journal desk plan buffer P = ForContent g journal desk (λ c. (step : Step) → Does plan buffer step → P c step)
 
 -- the plan refuses so
 abbrev pub Refuses : ℕ → Refusal → Plan → Type 0
-Refuses n refusal (Refuse reply) = reply ≡ refused n refusal
+Refuses n refusal (Refuse reply) = reply ≡ refused_line n refusal
 Refuses n refusal (Accept reply) = ⊥
 
 -- the plan refuses by this rule, which has no place; there is one
@@ -47,7 +51,7 @@ RefusesBy n None plan = ⊥
 
 -- the plan takes the entry that the buffer has, and says its events and whether all is quiet after them
 abbrev pub Accepts : ℕ → Entry → List ℕ → Plan → Type 0
-Accepts n entry buffer (Accept reply) = HasEntry entry buffer × (reply ≡ done n entry.events entry.quiet)
+Accepts n entry buffer (Accept reply) = HasEntry entry buffer × (reply ≡ done_line n entry.events entry.quiet)
 Accepts n entry buffer (Refuse reply) = ⊥
 
 -- what is to be appended is a record's frame and a closed gate

@@ -1,6 +1,5 @@
 -- How far the reading of an input has come.
-use Rattle.std.specs.Io.KnownBytes.{Consumes, IsAtEnd, Keeps}
-use Rattle.std.specs.Prelude.{◌≡◌, ◌+◌, ℕ, List, length, take, Option, Result, MatchResult}
+use Rattle.std.specs.Prelude.{◌≡◌, ◌+◌, ◌<◌, ◌≤◌, ℕ, List, length, take, Option}
 use Rattle.yw_journal.specs.Files.{Content}
 use Rattle.yw_lines.specs.Lines.{whole_lines}
 use Rattle.yw_model.specs.Run.{Step, Run}
@@ -10,10 +9,11 @@ use Rattle.yw_serve.specs.Session.{state_of, IsAtByte, AreDone}
 use Rattle.yw_serve.specs.Ends.{Takes}
 use Rattle.yw_outside.specs.declared.desk.Desk.{Ghosts}
 
--- So many bytes are taken, which the piece begins with, and none only at the end; or, where the read failed, none is taken.
-abbrev pub ReadsPiece : {E : Type 0} → Option (List ℕ) → Option (List ℕ) → List ℕ → Result ℕ E → Type 0
-ReadsPiece before left piece result =
-    MatchResult result (λ n. Consumes before left (take n piece) × (n ≡ 0 → IsAtEnd left)) (λ fault. Keeps before left)
+-- More bytes are taken, at most one past the limit, and the number of the next line is at most that of the next byte.
+pub record IsFurther (limit before now number : ℕ) : Type 0 where
+  pub more : before < now
+  pub within : now ≤ limit + 1
+  pub counted : number ≤ now + 1
 
 -- The lines that ended within these bytes are answered, and what they have of the next is kept.
 pub record HasAnswered {D : Type 0} (g : Ghosts D)

@@ -1,10 +1,9 @@
 // The answer to each line when it has ended.
-ghost use Rattle.std.specs.Prelude.{◌≡◌, ◌+◌, ◌<◌, ◌≤◌, ◌^◌, ◌∷◌, ◌++◌, [], length, IfErr, OnOk, IsTrue};
-ghost use Rattle.yw_lines.specs.Lines.{newline, HasNoNewline, whole_lines, all_lines};
+ghost use Rattle.std.specs.Prelude.{◌≡◌, ◌+◌, ◌<◌, ◌≤◌, ◌^◌, ◌∷◌, ◌++◌, [], length, IfErr, OnOk};
+ghost use Rattle.yw_lines.specs.Lines.{newline, HasNoNewline};
 ghost use Rattle.yw_serve.specs.Kept.{kept_of};
-ghost use Rattle.yw_serve.specs.Desks.{ForTaken, KeepsJournal, Stands};
+ghost use Rattle.yw_serve.specs.Desks.{KeepsJournal, Stands, StopsInPiece, StopsInRest, TakesPiece, TakesRest};
 ghost use Rattle.yw_serve.specs.Faults.{CallFaults};
-ghost use Rattle.yw_serve.specs.Session.{AnswersOn, GoesOn, StopsWithin, state_of};
 
 use crate::pieces::{keep, split_line};
 use crate::server::Stop;
@@ -15,7 +14,8 @@ use yw_outside::Desk;
 /// Takes bytes that end no line.
 fn take_part(session: &mut Session, part: &[u8]) -> Result<(), Stop>
     requires { HasNoNewline part.now }
-    ensures ok { OnOk result (session.new.line.items ≡ kept_of (session.old.line.items ++ part.now)) }
+    ensures ok { OnOk result
+        (session.new.line.items ≡ kept_of (session.old.line.items ++ part.now)) }
     ensures server { session.new.server ≡ session.old.server }
     ensures number { session.new.number ≡ session.old.number }
     ensures memory { IfErr result (λ stop. stop ≡ Stop.Memory) }
@@ -32,13 +32,14 @@ fn take_line<D: Desk>(session: &mut Session, desk: &mut D, part: &[u8]) -> Resul
     requires part { HasNoNewline part.now }
     requires stands { Stands D.Desk session.old.server.journal desk.old }
 
-    ensures ok { OnOk result (ForTaken D.Desk session.old desk.old (λ c taken.
-        GoesOn D.Desk c session.old session.new taken (part.now ++ newline ∷ []) desk.old desk.new)) }
-    ensures err { IfErr result (λ stop. ForTaken D.Desk session.old desk.old (λ c taken.
-        StopsWithin D.Desk c stop session.old (whole_lines taken) (whole_lines (taken ++ (part.now ++ newline ∷ []))) desk.old desk.new)) }
+    ensures ok { OnOk result (TakesPiece D.Desk session.old session.new
+        (part.now ++ newline ∷ []) desk.old desk.new) }
+    ensures err { IfErr result (λ stop. StopsInPiece D.Desk stop session.old
+        (part.now ++ newline ∷ []) desk.old desk.new) }
     ensures number { session.new.number ≤ session.old.number + 1 }
     ensures stands { OnOk result (Stands D.Desk session.new.server.journal desk.new) }
-    ensures keeps { KeepsJournal D.Desk session.old.server.journal session.new.server.journal desk.old desk.new }
+    ensures keeps { KeepsJournal D.Desk session.old.server.journal session.new.server.journal
+        desk.old desk.new }
     ensures faults { CallFaults D.Desk result desk.old desk.new }
 {
     take_part(session, part)?;
@@ -53,13 +54,14 @@ pub fn feed<D: Desk>(session: &mut Session, desk: &mut D, piece: &[u8]) -> Resul
     requires number { session.old.number + length piece.now < 2 ^ 64 }
     requires stands { Stands D.Desk session.old.server.journal desk.old }
 
-    ensures ok { OnOk result (ForTaken D.Desk session.old desk.old (λ c taken.
-        GoesOn D.Desk c session.old session.new taken piece.now desk.old desk.new)) }
-    ensures err { IfErr result (λ stop. ForTaken D.Desk session.old desk.old (λ c taken.
-        StopsWithin D.Desk c stop session.old (whole_lines taken) (whole_lines (taken ++ piece.now)) desk.old desk.new)) }
+    ensures ok { OnOk result
+        (TakesPiece D.Desk session.old session.new piece.now desk.old desk.new) }
+    ensures err { IfErr result (λ stop.
+        StopsInPiece D.Desk stop session.old piece.now desk.old desk.new) }
     ensures number { session.new.number ≤ session.old.number + length piece.now }
     ensures stands { OnOk result (Stands D.Desk session.new.server.journal desk.new) }
-    ensures keeps { KeepsJournal D.Desk session.old.server.journal session.new.server.journal desk.old desk.new }
+    ensures keeps { KeepsJournal D.Desk session.old.server.journal session.new.server.journal
+        desk.old desk.new }
     ensures faults { CallFaults D.Desk result desk.old desk.new }
 {
     let mut rest = piece;
@@ -74,12 +76,11 @@ pub fn feed<D: Desk>(session: &mut Session, desk: &mut D, piece: &[u8]) -> Resul
 pub fn finish<D: Desk>(session: &mut Session, desk: &mut D) -> Result<(), Stop>
     requires { Stands D.Desk session.old.server.journal desk.old }
 
-    ensures ok { OnOk result (ForTaken D.Desk session.old desk.old (λ c taken.
-        AnswersOn D.Desk c session.old (whole_lines taken) (all_lines taken) (state_of session.new) session.new.server.journal desk.old desk.new)) }
-    ensures err { IfErr result (λ stop. ForTaken D.Desk session.old desk.old (λ c taken.
-        StopsWithin D.Desk c stop session.old (whole_lines taken) (all_lines taken) desk.old desk.new)) }
+    ensures ok { OnOk result (TakesRest D.Desk session.old session.new desk.old desk.new) }
+    ensures err { IfErr result (λ stop. StopsInRest D.Desk stop session.old desk.old desk.new) }
     ensures stands { OnOk result (Stands D.Desk session.new.server.journal desk.new) }
-    ensures keeps { KeepsJournal D.Desk session.old.server.journal session.new.server.journal desk.old desk.new }
+    ensures keeps { KeepsJournal D.Desk session.old.server.journal session.new.server.journal
+        desk.old desk.new }
     ensures faults { CallFaults D.Desk result desk.old desk.new }
 {
     if session.line.is_empty() {

@@ -28,12 +28,14 @@ fn status_of(verdict: Verdict) -> Status
 pub fn serve_check<S: Source, D: Desk>(alloc: Global, source: &mut S, desk: &mut D) -> Status
     ensures checks { IsTrue (D.tells desk.old) → (bytes : List ℕ) → S.left source.old ≡ Some bytes
         → Checks D.Desk result bytes (S.left source.new) desk.old desk.new }
-    ensures judges { (bytes : List ℕ) (finding : Finding) → S.left source.old ≡ Some bytes → IsFound bytes finding
-        → Judges finding result }
+    ensures judges { (bytes : List ℕ) (finding : Finding) → S.left source.old ≡ Some bytes
+        → IsFound bytes finding → Judges finding result }
     ensures files { KeepsFiles D.Desk desk.old desk.new }
     ensures told { IsOfCheck result }
-    ensures faults { StatusFaults D.Desk result (S.faults source.old) (S.faults source.new) desk.old desk.new }
-    ensures complete { ¬ (Rose (S.faults source.old) (S.faults source.new)) → ¬ (Rose (D.say_faults desk.old) (D.say_faults desk.new))
+    ensures faults { StatusFaults D.Desk result (S.faults source.old) (S.faults source.new)
+        desk.old desk.new }
+    ensures complete { ¬ (Rose (S.faults source.old) (S.faults source.new))
+        → ¬ (Rose (D.say_faults desk.old) (D.say_faults desk.new))
         → (result ≡ Status.Ok) ⊎ (result ≡ Status.Findings) ⊎ (result ≡ Status.Memory) }
 {
     status_of(judge_input(alloc, source, desk))

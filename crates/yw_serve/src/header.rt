@@ -1,9 +1,9 @@
 // The head of a file: its header, as far as a snapshot's length, and the gate after an empty snapshot.
-ghost use Rattle.std.specs.Prelude.{◌≡◌, ◌≤◌, ◌<◌, ◌+◌, ◌^◌, IsTrue, IfOk, IfSome, None, Some, length, slice_index};
+ghost use Rattle.std.specs.Prelude.{◌≡◌, ◌≤◌, ◌+◌, IsTrue, IfOk, IfSome, None, Some, slice_index};
 ghost use Rattle.yw_journal.specs.Files.{count_of, greatest, header_damage, u64_at};
 ghost use Rattle.yw_outside.specs.Causes.{HasCause};
 ghost use Rattle.yw_outside.specs.Image.{file_in};
-ghost use Rattle.yw_serve.specs.Opening.{IsHeadRead, OnlyLooked};
+ghost use Rattle.yw_serve.specs.Opening.{IsHeadRead, IsSized, OnlyLooked};
 
 use yw_outside::{Desk, Failed, File};
 
@@ -21,8 +21,9 @@ pub struct Head {
 /// The head of a file, or `None` where the file isn't live: it has fewer than 30 bytes, or its first gate is
 /// closed.
 pub fn read_head<D: Desk>(desk: &mut D, f: File) -> Result<Option<Head>, Failed>
-    ensures head { IsTrue (D.tells desk.old) → IfOk result (IsHeadRead (file_in f (D.state desk.old))) }
-    ensures size { IfOk result (λ found. IfSome found (λ head. (30 ≤ head.len) × (head.len < 2 ^ 63))) }
+    ensures head { IsTrue (D.tells desk.old)
+        → IfOk result (IsHeadRead (file_in f (D.state desk.old))) }
+    ensures size { IfOk result (λ found. IfSome found IsSized) }
     ensures gate { IfOk result (λ found. IfSome found (λ head. slice_index head.bytes 0 ≡ 1)) }
     ensures looked { OnlyLooked D.Desk desk.old desk.new }
     ensures cause { HasCause (D.disk_faults desk.old) (D.disk_faults desk.new) result }

@@ -15,15 +15,18 @@ pub fn held_once()
 
 /// Files that hold a state have no damage.
 pub fn held_or_damaged()
-    ensures { (i : Image) (c : Content) (s : State) (f : File) (place : ℕ) → HoldNow c s i → ¬ (IsDamagedNow i f place) }
+    ensures { (i : Image) (c : Content) (s : State) (f : File) (place : ℕ)
+        → HoldNow c s i → ¬ (IsDamagedNow i f place) }
 {}
 
 /// The first damage of the files is one: one file, and one place in it.
 pub fn damaged_once()
-    ensures { (i : Image) (f g : File) (p q : ℕ) → IsDamagedNow i f p → IsDamagedNow i g q → (f ≡ g) × (p ≡ q) }
+    ensures { (i : Image) (f g : File) (p q : ℕ)
+        → IsDamagedNow i f p → IsDamagedNow i g q → (f ≡ g) × (p ≡ q) }
 {}
 
 /// No entry's bytes are a proper prefix of another's: of bytes that two entries begin, both are the same, with the same events.
 pub fn entry_once()
-    ensures { (a b : List Event) (p q x y : List ℕ) → IsEntry a p → IsEntry b q → p ++ x ≡ q ++ y → (a ≡ b) × (p ≡ q) × (x ≡ y) }
+    ensures { (a b : List Event) (p q x y : List ℕ)
+        → IsEntry a p → IsEntry b q → p ++ x ≡ q ++ y → (a ≡ b) × (p ≡ q) × (x ≡ y) }
 {}

@@ -19,4 +19,7 @@ mod window;
 mod words;
 
 pub use laws::{damaged_once, entry_once, held_once, held_or_damaged};
-pub use top::{INPUT_LIMIT, Status, serve};
+pub use opening::OpenFault;
+pub use run::INPUT_LIMIT;
+pub use server::{Server, Stop};
+pub use top::{Status, serve};

@@ -1,23 +1,24 @@
 // The opening of the files, before any line is read.
-ghost use Rattle.std.specs.Prelude.{◌≡◌, ◌≤◌, ◌<◌, ◌+◌, ◌^◌, ◌⊎◌, [], ℕ, IsTrue, IfOk, OnOk, IfSome, IsSome, if◌then◌else◌, Err, None, Some, length, slice_index};
+ghost use Rattle.std.specs.Prelude.{◌≡◌, ◌≤◌, ◌^◌, ◌⊎◌, ℕ, IsTrue, IfOk, OnOk, IfSome, IsSome, if◌then◌else◌, Err, None, Some, length, slice_index};
+ghost use Rattle.yw_journal.specs.Calls.{Leaves, NonePending};
 ghost use Rattle.yw_journal.specs.Files.{count_of, greatest};
 ghost use Rattle.yw_outside.specs.declared.image.Image.{Image};
-ghost use Rattle.yw_outside.specs.Causes.{HasCause, Rose};
+ghost use Rattle.yw_outside.specs.Causes.{HasCause};
 ghost use Rattle.yw_outside.specs.Moments.{IsSettled};
-ghost use Rattle.yw_outside.specs.Since.{LeavesOnly};
 ghost use Rattle.yw_serve.specs.Damage.{heads_damage, IsDamagedNow};
 ghost use Rattle.yw_serve.specs.Desks.{Stands, KeepsCounts};
-ghost use Rattle.yw_serve.specs.Opening.{DamageIsAnswered, FailsBy, HeldIsAnswered, IsChosen, IsHeadRead, IsOpenedAt, IsUnsynced, LeftAfterSyncs, OnDamage, OnlyLooked, OpenFaults, OpensBy};
+ghost use Rattle.yw_serve.specs.Opening.{DamageIsAnswered, FailsBy, HeldIsAnswered, IsChosen, IsHeadRead, IsOpenedAt, IsSized, IsUnsynced, LeftAfterSyncs, OnDamage, OnlyLooked, OpenFaults, OpensBy};
 
 use crate::header::{Head, header_fault, read_head, u64_in};
 use crate::opening_entries::read_entries;
+use crate::server::Server;
 use std::alloc::{AllocError, Global};
 use thiserror::Error;
 use yw_engine::Engine;
 use yw_journal::{AppendFault, Journal};
 use yw_outside::{Desk, Failed, File};
 
-/// Why the files weren't opened.
+/// Why a server isn't started.
 #[derive(Clone, Copy, Debug, Error, PartialEq, Eq)]
 pub enum OpenFault {
     /// A call of the desk's files failed.
@@ -53,13 +54,6 @@ impl From<AllocError> for OpenFault {
     }
 }
 
-/// What the files hold when they are opened: the journal that goes on, and the engine with their state.
-#[derive(Drop)]
-pub struct Opened {
-    pub journal: Journal,
-    pub engine: Engine,
-}
-
 /// Syncs both files, so that a crash leaves of them what a read gives.
 fn sync_both<D: Desk>(desk: &mut D) -> Result<(), Failed>
     ensures settled { OnOk result (IsSettled (D.state desk.new) (D.may_leave desk.new)) }
@@ -87,7 +81,8 @@ fn later_fault(has_snapshot: bool, b: &Option<Head>) -> Option<(File, u64)>
 /// The first damage of a live file A's header, then a live file B, then a snapshot in file A.
 fn heads_fault(a: &Option<Head>, b: &Option<Head>) -> Option<(File, u64)>
     requires { IfSome a.now (λ head. slice_index head.bytes 0 ≡ 1) }
-    ensures damage { (i : Image) → IsHeadRead i.a a.now → IsHeadRead i.b b.now → result ≡ heads_damage i }
+    ensures damage { (i : Image) → IsHeadRead i.a a.now → IsHeadRead i.b b.now
+        → result ≡ heads_damage i }
     ensures counted { result ≡ None → IfSome a.now (λ head. count_of head.bytes ≤ greatest) }
 {
     let Some(head) = a else {
@@ -102,7 +97,7 @@ fn heads_fault(a: &Option<Head>, b: &Option<Head>) -> Option<(File, u64)>
 /// Looks at the headers of both files. It answers the head of a live file A, or `None` where no file is live.
 fn choose<D: Desk>(desk: &mut D) -> Result<Option<Head>, OpenFault>
     ensures chosen { IsTrue (D.tells desk.old) → IfOk result (IsChosen (D.state desk.old)) }
-    ensures size { IfOk result (λ found. IfSome found (λ head. (30 ≤ head.len) × (head.len < 2 ^ 63))) }
+    ensures size { IfOk result (λ found. IfSome found IsSized) }
     ensures counted { IfOk result (λ found. IfSome found (λ head. count_of head.bytes ≤ greatest)) }
     ensures looked { OnlyLooked D.Desk desk.old desk.new }
     ensures none_failed { OnOk result (D.disk_faults desk.new ≡ D.disk_faults desk.old) }
@@ -124,18 +119,18 @@ fn resume<D: Desk>(
     piece: &mut [u8],
     desk: &mut D,
     head: &Head,
-) -> Result<Opened, OpenFault>
+) -> Result<Server, OpenFault>
     requires limit { limit ≤ 2 ^ 62 }
     requires room { 5 ≤ length piece.old }
-    requires size { (30 ≤ head.now.len) × (head.now.len < 2 ^ 63) }
+    requires size { IsSized head.now }
     requires counted { count_of head.now.bytes ≤ greatest }
     requires chosen { IsTrue (D.tells desk.old) → IsChosen (D.state desk.old) (Some head.now) }
-    requires settled { IsTrue (D.tells desk.old) → IsSettled (D.state desk.old) (D.may_leave desk.old) }
+    requires settled { NonePending D.Desk desk.old }
 
-    ensures opened { IfOk result (λ opened. IsOpenedAt D.Desk opened desk.old desk.new) }
-    ensures stands { IfOk result (λ opened. Stands D.Desk opened.journal desk.new) }
-    ensures limited { IfOk result (λ opened. opened.journal.limit ≡ limit) }
-    ensures file { IfOk result (λ opened. opened.journal.file ≡ File.A) }
+    ensures opened { IfOk result (λ server. IsOpenedAt D.Desk server desk.old desk.new) }
+    ensures stands { IfOk result (λ server. Stands D.Desk server.journal desk.new) }
+    ensures limited { IfOk result (λ server. server.journal.limit ≡ limit) }
+    ensures file { IfOk result (λ server. server.journal.file ≡ File.A) }
     ensures looked { OnlyLooked D.Desk desk.old desk.new }
     ensures none_failed { OnOk result (D.disk_faults desk.new ≡ D.disk_faults desk.old) }
     ensures fault { FailsBy D.Desk result (λ f place. IsTrue (D.tells desk.old)
@@ -150,80 +145,88 @@ fn resume<D: Desk>(
         limit,
         number: u64_in(&head.bytes, 13) + tail.records,
     };
-    Ok(Opened { journal, engine })
+    Ok(Server::new(alloc, engine, journal))
 }
 
 /// Makes file A, where no file is live.
-fn begin<D: Desk>(alloc: Global, limit: u64, desk: &mut D) -> Result<Opened, OpenFault>
+fn begin<D: Desk>(alloc: Global, limit: u64, desk: &mut D) -> Result<Server, OpenFault>
     requires some { 64 ≤ limit }
     requires limit { limit ≤ 2 ^ 62 }
     requires chosen { IsTrue (D.tells desk.old) → IsChosen (D.state desk.old) None }
-    requires settled { IsTrue (D.tells desk.old) → IsSettled (D.state desk.old) (D.may_leave desk.old) }
+    requires settled { NonePending D.Desk desk.old }
 
-    ensures opened { IfOk result (λ opened. IsOpenedAt D.Desk opened desk.old desk.new) }
-    ensures stands { IfOk result (λ opened. Stands D.Desk opened.journal desk.new) }
-    ensures limited { IfOk result (λ opened. opened.journal.limit ≡ limit) }
-    ensures file { IfOk result (λ opened. opened.journal.file ≡ File.A) }
-    ensures any_moment { IsTrue (D.tells desk.old) → LeavesOnly D.Desk desk.old desk.new (LeftAfterSyncs (D.state desk.old)) }
+    ensures opened { IfOk result (λ server. IsOpenedAt D.Desk server desk.old desk.new) }
+    ensures stands { IfOk result (λ server. Stands D.Desk server.journal desk.new) }
+    ensures limited { IfOk result (λ server. server.journal.limit ≡ limit) }
+    ensures file { IfOk result (λ server. server.journal.file ≡ File.A) }
+    ensures any_moment { Leaves D.Desk LeftAfterSyncs desk.old desk.new }
     ensures counts { KeepsCounts D.Desk desk.old desk.new }
     ensures say_faults { D.say_faults desk.new ≡ D.say_faults desk.old }
     ensures none_failed { OnOk result (D.disk_faults desk.new ≡ D.disk_faults desk.old) }
     ensures fault { FailsBy D.Desk result (λ f place. ⊥) desk.old desk.new }
 {
     match Journal::make(desk, File::A, 1, 0, &[0; 9], limit) {
-        Ok(journal) => Ok(Opened {
-            journal,
-            engine: Engine::new(alloc),
-        }),
+        Ok(journal) => {
+            let engine = Engine::new(alloc);
+            Ok(Server::new(alloc, engine, journal))
+        }
         Err(AppendFault::Disk) => Err(OpenFault::Disk),
         Err(AppendFault::Full(_)) => unreachable!(),
     }
 }
 
-/// Opens the files: syncs both, looks at their headers, makes file A where none is live, and else reads its
-/// entries one after another. `Damaged` names the first damage, and comes only where the synced files hold no
-/// state that is read, and there unless a call failed or no memory was left; not one byte is changed then. `Disk`
-/// comes only where a call of the files failed, and `Memory` where no memory was left. Up to the syncs a crash
-/// leaves what it might have left before. After them it leaves the files as they are; or, where no file is live,
-/// none that is, or file A begun with generation 1, number 0 and no record. The memory that it takes is that of the
-/// persons and specifications and of the longest entry. The entries are read through the piece.
-pub fn open<D: Desk>(
-    alloc: Global,
-    limit: u64,
-    piece: &mut [u8],
-    desk: &mut D,
-) -> Result<Opened, OpenFault>
-    requires some { 64 ≤ limit }
-    requires room { 5 ≤ length piece.old }
-    requires limit { limit ≤ 2 ^ 62 }
+impl Server {
+    /// Starts a server on the files of a desk: syncs both, looks at their headers, makes file A where none is live, and else
+    /// reads its entries one after another. Lines are then answered one by one. No file gets longer than the limit by an entry.
+    ///
+    /// `Damaged` names the first damage, and comes only where the synced files hold no state that is read, and there unless
+    /// a call failed or no memory was left; not one byte is changed then. `Disk` comes only where a call of the files failed,
+    /// and `Memory` where no memory was left. Up to the syncs a crash leaves what it might have left before. After them it
+    /// leaves the files as they are; or, where no file is live, none that is, or file A begun with generation 1, number 0 and
+    /// no record. The memory that it takes is that of the persons and specifications and of the longest entry. The entries
+    /// are read through the piece, so that one read serves as many as it has room for; what it had is lost.
+    pub fn start<D: Desk>(
+        alloc: Global,
+        limit: u64,
+        piece: &mut [u8],
+        desk: &mut D,
+    ) -> Result<Server, OpenFault>
+        requires some { 64 ≤ limit }
+        requires room { 5 ≤ length piece.old }
+        requires limit { limit ≤ 2 ^ 62 }
 
-    // At Ok the files held this state and hold it, and the journal stands for them.
-    ensures opened { IfOk result (λ opened. IsOpenedAt D.Desk opened desk.old desk.new) }
-    ensures stands { IfOk result (λ opened. Stands D.Desk opened.journal desk.new) }
-    ensures limited { IfOk result (λ opened. opened.journal.limit ≡ limit) }
-    ensures file { IfOk result (λ opened. opened.journal.file ≡ File.A) }
+        // At Ok the files held this state and hold it, and the journal stands for them.
+        ensures opened { IfOk result (λ server. IsOpenedAt D.Desk server desk.old desk.new) }
+        ensures stands { IfOk result (λ server. Stands D.Desk server.journal desk.new) }
+        ensures limited { IfOk result (λ server. server.journal.limit ≡ limit) }
+        ensures file { IfOk result (λ server. server.journal.file ≡ File.A) }
 
-    // A crash before the syncs leaves what it might have left at the start, and after them the files as they are, or the file being begun.
-    ensures any_moment { IsTrue (D.tells desk.old) → OpensBy D.Desk desk.old desk.new
-        ⊎ ((result ≡ Err OpenFault.Disk) × IsUnsynced D.Desk desk.old desk.new) }
-    ensures said { IsTrue (D.tells desk.old) → (D.state desk.new).said ≡ (D.state desk.old).said }
+        // A crash before the syncs leaves what it might have left at the start, and after them the files as they are, or the
+        // file being begun.
+        ensures any_moment { IsTrue (D.tells desk.old) → OpensBy D.Desk desk.old desk.new
+            ⊎ ((result ≡ Err OpenFault.Disk) × IsUnsynced D.Desk desk.old desk.new) }
+        ensures said { IsTrue (D.tells desk.old)
+            → (D.state desk.new).said ≡ (D.state desk.old).said }
 
-    ensures counts { KeepsCounts D.Desk desk.old desk.new }
-    ensures say_faults { D.say_faults desk.new ≡ D.say_faults desk.old }
+        ensures counts { KeepsCounts D.Desk desk.old desk.new }
+        ensures say_faults { D.say_faults desk.new ≡ D.say_faults desk.old }
 
-    // Each other answer has its cause.
-    ensures faults { OpenFaults D.Desk result desk.old desk.new }
-    ensures damaged { IsTrue (D.tells desk.old) → OnDamage result (IsDamagedNow (D.state desk.old)) }
-    ensures unchanged { OnDamage result (λ f place. D.state desk.new ≡ D.state desk.old) }
-    ensures settled { OnDamage result (λ f place. IsSettled (D.state desk.new) (D.may_leave desk.new)) }
+        // Each other answer has its cause.
+        ensures faults { OpenFaults D.Desk result desk.old desk.new }
+        ensures damaged { IsTrue (D.tells desk.old)
+            → OnDamage result (IsDamagedNow (D.state desk.old)) }
+        ensures unchanged { OnDamage result (λ f place. D.state desk.new ≡ D.state desk.old) }
+        ensures settled { OnDamage result (λ f place.
+            IsSettled (D.state desk.new) (D.may_leave desk.new)) }
 
-    // A state that is held is the one answered, and a damage is the one answered; they exclude each other.
-    ensures held { IsTrue (D.tells desk.old) → HeldIsAnswered (D.state desk.old) result }
-    ensures first { IsTrue (D.tells desk.old) → DamageIsAnswered (D.state desk.old) result }
-{
-    sync_both(desk)?;
-    match choose(desk)? {
-        Some(head) => resume(alloc, limit, piece, desk, &head),
-        None => begin(alloc, limit, desk),
+        // A state that is held is the one answered, and a damage is the one answered; they exclude each other.
+        ensures held { IsTrue (D.tells desk.old) → HeldIsAnswered (D.state desk.old) result }
+        ensures first { IsTrue (D.tells desk.old) → DamageIsAnswered (D.state desk.old) result }
+    {
+        sync_both(desk)?;
+        match choose(desk)? {
+            Some(head) => resume(alloc, limit, piece, desk, &head),
+            None => begin(alloc, limit, desk),
+        }
     }
 }

@@ -1,10 +1,10 @@
 // The entries of file A, one gate after another.
-ghost use Rattle.std.specs.Prelude.{◌≡◌, ◌≤◌, ◌<◌, ◌+◌, ◌^◌, ◌++◌, ◌∷◌, [], List, ℕ, IsTrue, IfOk, OnOk, IfErr, IfSome, MatchOption, Some, None, length, take, drop, true};
+ghost use Rattle.std.specs.Prelude.{◌≡◌, ◌≤◌, ◌<◌, ◌+◌, ◌^◌, [], List, ℕ, IsTrue, IfOk, OnOk, IfSome, Some, None, length, drop, true};
 ghost use Rattle.std.specs.List.{list_all};
 ghost use Rattle.yw_built.specs.Built.{is_built};
 ghost use Rattle.yw_engine.specs.Held as held;
 ghost use Rattle.yw_outside.specs.Causes.{HasCause};
-ghost use Rattle.yw_serve.specs.Opening.{AreApplied, EntryIsApplied, FailsBy, HasFaultCause, IsApplied, IsClosedHere, IsDamagedAt, IsReached, OnlyLooked, StandsHere, record_at};
+ghost use Rattle.yw_serve.specs.Opening.{AreApplied, EndsAt, EntryIsApplied, FailsBy, IsApplied, IsDamagedFrom, IsReached, OnlyLooked, ReachesNext, StandsHere, record_at};
 ghost use Rattle.yw_serve.specs.Window.{Shows};
 
 use crate::opening::OpenFault;
@@ -38,10 +38,12 @@ fn gate_at<D: Desk>(
     requires within { at ≤ len }
     requires fits { window.old.count ≤ length piece.old }
     requires shows { IsTrue (D.tells desk.old) → Shows (D.state desk.old).a piece.old window.old }
-    ensures stands { IsTrue (D.tells desk.old) → IfOk result (StandsHere (drop at (D.state desk.old).a)) }
+    ensures stands { IsTrue (D.tells desk.old)
+        → IfOk result (StandsHere (drop at (D.state desk.old).a)) }
     ensures within { (size : ℕ) → result ≡ Ok (GateByte.Open size) → at + 5 + size ≤ len }
     ensures fits { window.new.count ≤ length piece.new }
-    ensures shows { IsTrue (D.tells desk.old) → OnOk result (Shows (D.state desk.old).a piece.new window.new) }
+    ensures shows { IsTrue (D.tells desk.old)
+        → OnOk result (Shows (D.state desk.old).a piece.new window.new) }
     ensures looked { OnlyLooked D.Desk desk.old desk.new }
     ensures cause { HasCause (D.disk_faults desk.old) (D.disk_faults desk.new) result }
 {
@@ -65,7 +67,8 @@ fn short_gate_at<D: Desk>(desk: &mut D, len: u64, at: u64) -> Result<GateByte, F
     requires len { IsTrue (D.tells desk.old) → len ≡ length (D.state desk.old).a }
     requires within { at ≤ len }
     requires short { len < at + 5 }
-    ensures stands { IsTrue (D.tells desk.old) → IfOk result (StandsHere (drop at (D.state desk.old).a)) }
+    ensures stands { IsTrue (D.tells desk.old)
+        → IfOk result (StandsHere (drop at (D.state desk.old).a)) }
     ensures within { (size : ℕ) → result ≡ Ok (GateByte.Open size) → at + 5 + size ≤ len }
     ensures looked { OnlyLooked D.Desk desk.old desk.new }
     ensures cause { HasCause (D.disk_faults desk.old) (D.disk_faults desk.new) result }
@@ -86,7 +89,8 @@ fn short_gate_at<D: Desk>(desk: &mut D, len: u64, at: u64) -> Result<GateByte, F
 fn record_at<D: Desk>(alloc: Global, desk: &mut D, at: u64, size: u32) -> Result<Vec<u8>, OpenFault>
     requires within { IsTrue (D.tells desk.old) → at + 5 + size ≤ length (D.state desk.old).a }
     requires fits { at + 5 < 2 ^ 64 }
-    ensures bytes { IfOk result (λ bytes. IsTrue (D.tells desk.old) → bytes.items ≡ record_at (D.state desk.old).a at size) }
+    ensures bytes { IfOk result (λ bytes. IsTrue (D.tells desk.old)
+        → bytes.items ≡ record_at (D.state desk.old).a at size) }
     ensures looked { OnlyLooked D.Desk desk.old desk.new }
     ensures none_failed { OnOk result (D.disk_faults desk.new ≡ D.disk_faults desk.old) }
     ensures fault { FailsBy D.Desk result (λ f place. ⊥) desk.old desk.new }
@@ -99,7 +103,8 @@ fn record_at<D: Desk>(alloc: Global, desk: &mut D, at: u64, size: u32) -> Result
 /// Whether an event is allowed. The engine is then that after it. An `Err` says that no memory was left.
 fn apply_event(engine: &mut Engine, event: Event) -> Result<bool, AllocError>
     requires { is_built event ≡ true }
-    ensures { IfOk result (λ allowed. IsApplied (held.state_of engine.old) event allowed (held.state_of engine.new)) }
+    ensures { IfOk result (λ allowed.
+        IsApplied (held.state_of engine.old) event allowed (held.state_of engine.new)) }
 {
     match engine.apply(event) {
         Ok(()) => Ok(true),
@@ -112,7 +117,8 @@ fn apply_event(engine: &mut Engine, event: Event) -> Result<bool, AllocError>
 /// Whether each event is allowed in its turn. The engine is then that after all.
 fn apply_events(engine: &mut Engine, events: Vec<Event>) -> Result<bool, AllocError>
     requires { list_all is_built events.items ≡ true }
-    ensures { IfOk result (λ allowed. AreApplied (held.state_of engine.old) events.items allowed (held.state_of engine.new)) }
+    ensures { IfOk result (λ allowed.
+        AreApplied (held.state_of engine.old) events.items allowed (held.state_of engine.new)) }
 {
     for event in events {
         if !apply_event(engine, event)? {
@@ -124,7 +130,8 @@ fn apply_events(engine: &mut Engine, events: Vec<Event>) -> Result<bool, AllocEr
 
 /// Whether these are an entry's bytes, each event of which is allowed in its turn. The engine is then that after it.
 fn apply_entry(alloc: Global, engine: &mut Engine, bytes: &[u8]) -> Result<bool, AllocError>
-    ensures { IfOk result (λ allowed. EntryIsApplied (held.state_of engine.old) bytes.now allowed (held.state_of engine.new)) }
+    ensures { IfOk result (λ allowed.
+        EntryIsApplied (held.state_of engine.old) bytes.now allowed (held.state_of engine.new)) }
 {
     match read_entry(alloc, bytes) {
         Ok((events, size)) => {
@@ -157,9 +164,11 @@ fn apply_record<D: Desk>(
     requires fits { window.old.count ≤ length piece.old }
     requires shows { IsTrue (D.tells desk.old) → Shows (D.state desk.old).a piece.old window.old }
     ensures applied { IsTrue (D.tells desk.old) → IfOk result (λ allowed.
-        EntryIsApplied (held.state_of engine.old) (record_at (D.state desk.old).a at size) allowed (held.state_of engine.new)) }
+        EntryIsApplied (held.state_of engine.old) (record_at (D.state desk.old).a at size)
+        allowed (held.state_of engine.new)) }
     ensures fits { window.new.count ≤ length piece.new }
-    ensures shows { IsTrue (D.tells desk.old) → OnOk result (Shows (D.state desk.old).a piece.new window.new) }
+    ensures shows { IsTrue (D.tells desk.old)
+        → OnOk result (Shows (D.state desk.old).a piece.new window.new) }
     ensures looked { OnlyLooked D.Desk desk.old desk.new }
     ensures none_failed { OnOk result (D.disk_faults desk.new ≡ D.disk_faults desk.old) }
     ensures fault { FailsBy D.Desk result (λ f place. ⊥) desk.old desk.new }
@@ -191,18 +200,18 @@ fn next_entry<D: Desk>(
     requires within { at ≤ len }
     requires fits { window.old.count ≤ length piece.old }
     requires shows { IsTrue (D.tells desk.old) → Shows (D.state desk.old).a piece.old window.old }
-    ensures reached { IsTrue (D.tells desk.old) → (records : List (List ℕ)) → IsReached (D.state desk.old).a at records (held.state_of engine.old)
-        → IfOk result (λ next. MatchOption next (IsClosedHere (drop at (D.state desk.old).a))
-        (λ after. (bytes : List ℕ) × IsReached (D.state desk.old).a after (records ++ bytes ∷ []) (held.state_of engine.new))) }
+    ensures reached { IsTrue (D.tells desk.old) → (records : List (List ℕ))
+        → IsReached (D.state desk.old).a at records (held.state_of engine.old)
+        → IfOk result (ReachesNext (D.state desk.old).a at records (held.state_of engine.new)) }
     ensures same { result ≡ Ok None → engine.new ≡ engine.old }
     ensures progress { IfOk result (λ next. IfSome next (λ after. (at < after) × (after ≤ len))) }
     ensures fits { window.new.count ≤ length piece.new }
-    ensures shows { IsTrue (D.tells desk.old) → OnOk result (Shows (D.state desk.old).a piece.new window.new) }
+    ensures shows { IsTrue (D.tells desk.old)
+        → OnOk result (Shows (D.state desk.old).a piece.new window.new) }
     ensures looked { OnlyLooked D.Desk desk.old desk.new }
     ensures none_failed { OnOk result (D.disk_faults desk.new ≡ D.disk_faults desk.old) }
-    ensures fault { (records : List (List ℕ)) → IfErr result (HasFaultCause
-        (λ f place. IsTrue (D.tells desk.old) → IsReached (D.state desk.old).a at records (held.state_of engine.old) → IsDamagedAt (D.state desk.old).a f place)
-        (D.disk_faults desk.old) (D.disk_faults desk.new)) }
+    ensures fault { (records : List (List ℕ)) → FailsBy D.Desk result
+        (IsDamagedFrom D.Desk desk.old at records (held.state_of engine.old)) desk.old desk.new }
 {
     match gate_at(window, piece, desk, len, at)? {
         GateByte::Closed => Ok(None),
@@ -236,15 +245,15 @@ pub fn read_entries<D: Desk>(
     requires bound { len < 2 ^ 63 }
     requires room { 5 ≤ length piece.old }
     requires within { 29 ≤ len }
-    ensures reached { IsTrue (D.tells desk.old) → IsReached (D.state desk.old).a 29 [] (held.state_of engine.old)
-        → IfOk result (λ tail. IsClosedHere (drop tail.gate (D.state desk.old).a)
-        × ((records : List (List ℕ)) × IsReached (D.state desk.old).a tail.gate records (held.state_of engine.new) × (length records ≡ tail.records))) }
-    ensures bound { IfOk result (λ tail. (29 ≤ tail.gate) × (tail.gate ≤ len) × (tail.records ≤ tail.gate)) }
+    ensures reached { IsTrue (D.tells desk.old)
+        → IsReached (D.state desk.old).a 29 [] (held.state_of engine.old)
+        → IfOk result (EndsAt (D.state desk.old).a (held.state_of engine.new)) }
+    ensures bound { IfOk result (λ tail.
+        (29 ≤ tail.gate) × (tail.gate ≤ len) × (tail.records ≤ tail.gate)) }
     ensures looked { OnlyLooked D.Desk desk.old desk.new }
     ensures none_failed { OnOk result (D.disk_faults desk.new ≡ D.disk_faults desk.old) }
-    ensures fault { IfErr result (HasFaultCause
-        (λ f place. IsTrue (D.tells desk.old) → IsReached (D.state desk.old).a 29 [] (held.state_of engine.old) → IsDamagedAt (D.state desk.old).a f place)
-        (D.disk_faults desk.old) (D.disk_faults desk.new)) }
+    ensures fault { FailsBy D.Desk result
+        (IsDamagedFrom D.Desk desk.old 29 [] (held.state_of engine.old)) desk.old desk.new }
 {
     let mut window = Window { at: 0, count: 0 };
     let mut gate: u64 = 29;

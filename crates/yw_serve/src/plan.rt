@@ -63,7 +63,8 @@ fn accept(
     requires some { 1 ≤ length decided.now.events }
     requires few { length decided.now.events ≤ 4097 }
     requires writable { list_all is_writable decided.now.events ≡ true }
-    ensures { IfOk result (Accepts n (record { events = decided.now.events; quiet = decided.now.quiet }) buffer.new.items) }
+    ensures { IfOk result (Accepts n
+        (record { events = decided.now.events; quiet = decided.now.quiet }) buffer.new.items) }
 {
     let reply = reply_done(alloc, n, &decided.events, decided.quiet)?;
     write_entry_into(buffer, &decided.events)?;
@@ -79,7 +80,8 @@ fn plan_command(
     command: Command,
 ) -> Result<Plan, AllocError>
     requires { CanBeAsked command }
-    ensures { IfOk result (λ plan. IsPlanFor (state_of engine.old) n command plan buffer.new.items (state_of engine.new)) }
+    ensures { IfOk result (λ plan.
+        IsPlanFor (state_of engine.old) n command plan buffer.new.items (state_of engine.new)) }
 {
     match engine.decide(command) {
         Ok(decided) => accept(alloc, buffer, n, &decided),
@@ -108,7 +110,8 @@ pub fn plan_line(
     n: u64,
     line: &[u8],
 ) -> Result<Plan, AllocError>
-    ensures plan { IfOk result (λ plan. IsPlan (state_of engine.old) n line.now plan buffer.new.items (state_of engine.new)) }
+    ensures plan { IfOk result (λ plan.
+        IsPlan (state_of engine.old) n line.now plan buffer.new.items (state_of engine.new)) }
     ensures framed { IfOk result (CanBeAppended buffer.new.items) }
 {
     match read_command(alloc, line, &BUILT) {

@@ -1,6 +1,5 @@
 // The loop over the input.
-ghost use Rattle.std.specs.Prelude.{◌≡◌, ◌+◌, ◌<◌, ◌≤◌, ◌^◌, List, [], ℕ, take, length, Some, IfOk, IsTrue, MatchResult, MatchOption, IsNone, vec_len};
-ghost use Rattle.yw_outside.specs.Causes.{HasCause};
+ghost use Rattle.std.specs.Prelude.{◌≡◌, ◌+◌, ◌<◌, ◌≤◌, List, [], ℕ, length, Some, IsTrue, MatchOption, IsNone};
 ghost use Rattle.yw_journal.specs.Files.{Content};
 ghost use Rattle.yw_journal.specs.Journal.{IsCurrent};
 ghost use Rattle.yw_model.specs.Texts.{reader};
@@ -9,14 +8,13 @@ ghost use Rattle.yw_state.specs.Well.{IsWell};
 ghost use Rattle.yw_serve.specs.Desks.{KeepsCounts, KeepsJournal, Stands};
 ghost use Rattle.yw_serve.specs.Ends.{EndsAs};
 ghost use Rattle.yw_serve.specs.Faults.{EndingFaults, TurnFaults};
-ghost use Rattle.yw_serve.specs.Reading.{HasRead, ReadsPiece};
+ghost use Rattle.yw_serve.specs.Reading.{HasRead, IsFurther};
 ghost use Rattle.yw_serve.specs.Session.{state_of};
 
 use crate::answer::{feed, finish};
 use crate::server::Stop;
 use crate::session::Session;
-use std::alloc::{AllocError, Global};
-use yw_outside::{Desk, Failed, Source};
+use yw_outside::{Desk, Failed, Source, read_piece};
 
 /// How the answering of an input ends.
 #[derive(Clone, Copy, Debug, PartialEq, Eq)]
@@ -31,27 +29,8 @@ pub enum Ending {
     Stopped(Stop),
 }
 
-const PIECE: usize = 65536;
-
-/// The next bytes, at most so many.
-fn read_piece<S: Source>(source: &mut S, piece: &mut [u8], most: usize) -> Result<usize, Failed>
-    requires some { 0 < most }
-    requires room { 0 < length piece.old }
-    ensures count { IfOk result (λ n. (n ≤ most) × (n ≤ length piece.new)) }
-    ensures bytes { ReadsPiece (S.left source.old) (S.left source.new) piece.new result }
-    ensures piece { IfOk result (λ n. S.piece source.new ≡ n) }
-    ensures cause { HasCause (S.faults source.old) (S.faults source.new) result }
-{
-    let room = most.min(piece.len());
-    source.read(&mut piece[..room])
-}
-
-/// Room for a piece of the input, 65,536 bytes. An `Err` says that no memory was left.
-pub fn new_piece(alloc: Global) -> Result<Vec<u8>, AllocError>
-    ensures { IfOk result (λ piece. vec_len piece ≡ 65536) }
-{
-    vec![in alloc; 0u8; PIECE]
-}
+/// The most bytes of an input.
+pub const INPUT_LIMIT: usize = 4_294_967_296;
 
 /// Reads once and answers the lines that end in the piece. It answers an ending where that was the last turn.
 fn turn<S: Source, D: Desk>(
@@ -62,20 +41,25 @@ fn turn<S: Source, D: Desk>(
     source: &mut S,
     desk: &mut D,
 ) -> Option<Ending>
-    requires limit { limit ≤ 4294967296 }
+    requires limit { limit ≤ INPUT_LIMIT }
     requires within { taken.old ≤ limit }
     requires room { 0 < length piece.old }
     requires number { session.old.number ≤ taken.old + 1 }
     requires stands { Stands D.Desk session.old.server.journal desk.old }
 
-    ensures ends { IsTrue (D.tells desk.old) → (c : Content) (s : State) (bytes : List ℕ) (start : D) → IsWell reader s
+    ensures ends { IsTrue (D.tells desk.old)
+        → (c : Content) (s : State) (bytes : List ℕ) (start : D) → IsWell reader s
         → HasRead D.Desk c s session.old limit taken.old bytes (S.left source.old) start desk.old
-        → MatchOption result (HasRead D.Desk c s session.new limit taken.new bytes (S.left source.new) start desk.new)
-        (λ ending. EndsAs D.Desk ending c s session.old.server.journal.limit limit bytes (S.left source.new) (S.piece source.new) start desk.new) }
-    ensures progress { IsNone result → (taken.old < taken.new) × (taken.new ≤ limit + 1) × (session.new.number ≤ taken.new + 1) }
+        → MatchOption result
+        (HasRead D.Desk c s session.new limit taken.new bytes (S.left source.new) start desk.new)
+        (λ ending. EndsAs D.Desk ending c s session.old.server.journal.limit limit bytes
+        (S.left source.new) (S.piece source.new) start desk.new) }
+    ensures progress { IsNone result → IsFurther limit taken.old taken.new session.new.number }
     ensures stands { IsNone result → (Stands D.Desk session.new.server.journal desk.new) }
-    ensures keeps { KeepsJournal D.Desk session.old.server.journal session.new.server.journal desk.old desk.new }
-    ensures faults { TurnFaults D.Desk result (S.faults source.old) (S.faults source.new) desk.old desk.new }
+    ensures keeps { KeepsJournal D.Desk session.old.server.journal session.new.server.journal
+        desk.old desk.new }
+    ensures faults { TurnFaults D.Desk result (S.faults source.old) (S.faults source.new)
+        desk.old desk.new }
 {
     let count = match read_piece(source, piece, limit - *taken + 1) {
         Ok(count) => count,
@@ -103,17 +87,21 @@ pub fn run<S: Source, D: Desk>(
     source: &mut S,
     desk: &mut D,
 ) -> Ending
-    requires limit { limit ≤ 4294967296 }
+    requires limit { limit ≤ INPUT_LIMIT }
     requires room { 0 < length piece.old }
     requires number { session.old.number ≡ 1 }
     requires line { session.old.line.items ≡ [] }
     requires stands { Stands D.Desk session.old.server.journal desk.old }
 
-    ensures ends { IsTrue (D.tells desk.old) → (c : Content) (bytes : List ℕ) → IsWell reader (state_of session.old)
-        → IsCurrent session.old.server.journal c (D.state desk.old) → S.left source.old ≡ Some bytes
-        → EndsAs D.Desk result c (state_of session.old) session.old.server.journal.limit limit bytes (S.left source.new) (S.piece source.new) desk.old desk.new }
+    ensures ends { IsTrue (D.tells desk.old) → (c : Content) (bytes : List ℕ)
+        → IsWell reader (state_of session.old)
+        → IsCurrent session.old.server.journal c (D.state desk.old)
+        → S.left source.old ≡ Some bytes
+        → EndsAs D.Desk result c (state_of session.old) session.old.server.journal.limit limit bytes
+        (S.left source.new) (S.piece source.new) desk.old desk.new }
     ensures counts { KeepsCounts D.Desk desk.old desk.new }
-    ensures faults { EndingFaults D.Desk result (S.faults source.old) (S.faults source.new) desk.old desk.new }
+    ensures faults { EndingFaults D.Desk result (S.faults source.old) (S.faults source.new)
+        desk.old desk.new }
 {
     let mut taken: usize = 0;
     while taken <= limit {

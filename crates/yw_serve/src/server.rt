@@ -6,7 +6,7 @@ ghost use Rattle.yw_outside.specs.Since.{LeavesOnly};
 ghost use Rattle.yw_engine.specs.Held as held;
 ghost use Rattle.yw_serve.specs.Desks.{ForContent, KeepsCounts, KeepsJournal, Stands, StaysSettled};
 ghost use Rattle.yw_serve.specs.Faults.{CallFaults};
-ghost use Rattle.yw_serve.specs.Plans.{CanBeAppended, ForStep};
+ghost use Rattle.yw_serve.specs.Plans.{CanBeAppended, ForPlan};
 ghost use Rattle.yw_serve.specs.Session.{AreDone, CutsLine, EndsLine, OfSteps, Why, server_state};
 
 use crate::plan::{Plan, plan_line};
@@ -28,7 +28,8 @@ pub enum Stop {
     Full(u64),
 }
 
-/// The state, and where it is kept.
+/// A server over the files of a desk: the state, and where it is kept. `Server::start` makes one, and `Server::line` answers a
+/// line. Its parts are read in clauses; who changes them is told nothing of the files any more.
 #[derive(Drop)]
 pub struct Server {
     pub alloc: Global,
@@ -42,14 +43,18 @@ pub struct Server {
 
 /// Says a text. At `Write` a prefix of it may have been said.
 pub fn tell<D: Desk>(desk: &mut D, text: &[u8]) -> Result<(), Stop>
-    ensures said { OnOk result (IsTrue (D.tells desk.old) → (D.state desk.new).said ≡ (D.state desk.old).said ++ text.now) }
+    ensures said { OnOk result (IsTrue (D.tells desk.old)
+        → (D.state desk.new).said ≡ (D.state desk.old).said ++ text.now) }
     ensures a { (D.state desk.new).a ≡ (D.state desk.old).a }
     ensures b { (D.state desk.new).b ≡ (D.state desk.old).b }
     ensures settled { StaysSettled D.Desk desk.old desk.new }
-    ensures any_moment { IsTrue (D.tells desk.old) → IsSettled (D.state desk.old) (D.may_leave desk.old)
+    ensures any_moment { IsTrue (D.tells desk.old)
+        → IsSettled (D.state desk.old) (D.may_leave desk.old)
         → LeavesOnly D.Desk desk.old desk.new (Speaks text.now (D.state desk.old)) }
-    ensures part { IsTrue (D.tells desk.old) → SaysPart (D.state desk.old).said text.now (D.state desk.new).said }
-    ensures passes { IsTrue (D.tells desk.old) → LeavesOnly D.Desk desk.old desk.new (After (Speaks text.now) (D.may_leave desk.old)) }
+    ensures part { IsTrue (D.tells desk.old)
+        → SaysPart (D.state desk.old).said text.now (D.state desk.new).said }
+    ensures passes { IsTrue (D.tells desk.old)
+        → LeavesOnly D.Desk desk.old desk.new (After (Speaks text.now) (D.may_leave desk.old)) }
     ensures counts { KeepsCounts D.Desk desk.old desk.new }
     ensures write { IfErr result (λ stop. stop ≡ Stop.Write) }
     ensures faults { CallFaults D.Desk result desk.old desk.new }
@@ -70,12 +75,13 @@ fn carry_out<D: Desk>(
     requires framed { CanBeAppended entry.now plan.now }
     requires stands { Stands D.Desk journal.old desk.old }
 
-    ensures ok { OnOk result (ForContent D.Desk journal.old desk.old (λ c. ForStep plan.now entry.now (λ step.
-        AreDone D.Desk c (step ∷ []) journal.new desk.old desk.new))) }
-    ensures moments { OnErr result (ForContent D.Desk journal.old desk.old (λ c. ForStep plan.now entry.now (λ step.
-        LeavesOnly D.Desk desk.old desk.new (OfSteps journal.old.file c (step ∷ []) (D.state desk.old))))) }
-    ensures why { IfErr result (λ stop. ForContent D.Desk journal.old desk.old (λ c. ForStep plan.now entry.now (λ step.
-        Why D.Desk c stop journal.old (step ∷ []) desk.old desk.new))) }
+    ensures ok { OnOk result (ForPlan D.Desk journal.old desk.old plan.now entry.now (λ c step.
+        AreDone D.Desk c (step ∷ []) journal.new desk.old desk.new)) }
+    ensures moments { OnErr result (ForPlan D.Desk journal.old desk.old plan.now entry.now
+        (λ c step. LeavesOnly D.Desk desk.old desk.new
+        (OfSteps journal.old.file c (step ∷ []) (D.state desk.old)))) }
+    ensures why { IfErr result (λ stop. ForPlan D.Desk journal.old desk.old plan.now entry.now
+        (λ c step. Why D.Desk c stop journal.old (step ∷ []) desk.old desk.new)) }
 
     ensures stands { OnOk result (Stands D.Desk journal.new desk.new) }
     ensures keeps { KeepsJournal D.Desk journal.old journal.new desk.old desk.new }
@@ -93,8 +99,8 @@ fn carry_out<D: Desk>(
 }
 
 impl Server {
-    /// A server with the state that the files hold. It takes no memory.
-    pub fn new(alloc: Global, engine: Engine, journal: Journal) -> Server
+    /// A server of these parts. It takes no memory.
+    pub(crate) fn new(alloc: Global, engine: Engine, journal: Journal) -> Server
         ensures state { server_state result ≡ held.state_of engine }
         ensures journal { result.journal ≡ journal }
     {
@@ -106,10 +112,13 @@ impl Server {
         }
     }
 
-    /// Answers the line with this number, of which one byte past the limit may stand for all that is too long. What it
-    /// does is on the disk before its reply is said. A refusal is a reply. An `Err` says where the server stopped: `Disk`
-    /// only where a call of the files failed, `Write` only where the say did, `Full` only where the file with the entry would
-    /// pass its limit, and `Memory` where no memory was left.
+    /// Answers one line, given without its newline, by one line said on the desk. The reply names the line by this number; lines
+    /// are numbered from 1 by who feeds them. Of a line that is longer than a line may be, one byte past the limit may stand for
+    /// all that is too long. What the line does is on the disk before its reply is said. A refusal is a reply.
+    ///
+    /// An `Err` says where the server stopped: `Disk` only where a call of the files failed, `Write` only where the say did,
+    /// `Full` only where the file with the entry would pass its limit, and `Memory` where no memory was left. The server isn't
+    /// used again then: `Server::start` opens the files anew.
     pub fn line<D: Desk>(&mut self, desk: &mut D, n: u64, line: &[u8]) -> Result<(), Stop>
         requires stands { Stands D.Desk self.old.journal desk.old }
 

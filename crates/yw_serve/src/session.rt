@@ -1,5 +1,6 @@
 // A session: lines come, and each is answered when it has ended.
 ghost use Rattle.std.specs.Prelude.{◌≡◌, ◌≤◌, [], vec_len};
+ghost use Rattle.yw_serve.specs.declared.pieces.TheConstants.{MOST_KEPT};
 
 use crate::server::Server;
 use std::alloc::Global;
@@ -13,7 +14,7 @@ pub struct Session {
     pub number: u64,
     /// What answers it.
     pub server: Server,
-    ghost bounded: { vec_len line ≤ 1048577 },
+    ghost bounded: { vec_len line ≤ MOST_KEPT },
 }
 
 impl Session {

@@ -2,7 +2,6 @@
 ghost use Rattle.std.specs.Prelude.{◌≡◌, ◌≢◌, ◌≤◌, ◌<◌, ◌^◌, ◌↔◌, ◌⊎◌, ℕ, List, length, true, Some, IsErr, IsTrue, MatchResult, string_bytes};
 ghost use Rattle.std.specs.declared.option.Option.{Option};
 ghost use Rattle.yw_serve.specs.Ends.{EndsAs, EndsShort};
-ghost use Rattle.yw_serve.specs.Opening.{opened_state};
 ghost use Rattle.yw_outside.specs.Causes.{Rose};
 ghost use Rattle.yw_journal.specs.Files.{Content};
 ghost use Rattle.yw_journal.specs.Journal.{IsCurrent};
@@ -16,6 +15,7 @@ ghost use Rattle.yw_serve.specs.Faults.{EndingFaults, NoneRose, NoticeFaults, St
 ghost use Rattle.yw_serve.specs.Headline.{HoldsPrefix, LeavesFromSyncs, Serves};
 ghost use Rattle.yw_serve.specs.Notices.{damage_line, full_line};
 ghost use Rattle.yw_serve.specs.Served.{Ended, IsOfRun, IsTold, IsUnfailed, RunEnds};
+ghost use Rattle.yw_serve.specs.Session.{server_state};
 ghost use Rattle.yw_serve.specs.Words.{IsCheck, IsRun, OnCheck, OnRun};
 ghost use Rattle.yw_serve.specs.Checked.{Checks, IsOfCheck, Judges};
 ghost use Rattle.yw_verdict.specs.declared.finding.Finding.{Finding};
@@ -24,14 +24,14 @@ ghost use Rattle.yw_verdict.specs.Found.{IsFound};
 
 use crate::check::serve_check;
 use crate::notice::{write_damage, write_full};
-use crate::opening::{OpenFault, Opened, open};
-use crate::run::{Ending, new_piece, run};
+use crate::opening::OpenFault;
+use crate::run::{Ending, INPUT_LIMIT, run};
 use crate::server::{Server, Stop, tell};
 use crate::session::Session;
 use crate::words::{file_limit, is_check};
 use std::alloc::{AllocError, Global};
 use yw_base::Bytes;
-use yw_outside::{Desk, File, Source};
+use yw_outside::{Desk, File, Source, new_piece};
 
 /// How the program ends. The program's exit status is the number, from 0.
 #[derive(Clone, Copy, Debug, PartialEq, Eq)]
@@ -58,9 +58,6 @@ pub enum Status {
     InputLimit,
 }
 
-/// The most bytes of an input.
-pub const INPUT_LIMIT: usize = 4_294_967_296;
-
 /// Says a line beside the replies, and answers this status where that could be done.
 fn tell_notice<D: Desk>(line: Result<Bytes, AllocError>, status: Status, desk: &mut D) -> Status
     ensures told { IsTrue (D.tells desk.old) → MatchResult line
@@ -81,7 +78,8 @@ fn tell_notice<D: Desk>(line: Result<Bytes, AllocError>, status: Status, desk: &
 
 /// Says that a file has no room.
 fn tell_full<D: Desk>(alloc: Global, length: u64, desk: &mut D) -> Status
-    ensures told { IsTrue (D.tells desk.old) → IsTold D.Desk result Status.Full (full_line length) desk.old desk.new }
+    ensures told { IsTrue (D.tells desk.old)
+        → IsTold D.Desk result Status.Full (full_line length) desk.old desk.new }
     ensures counts { KeepsCounts D.Desk desk.old desk.new }
     ensures faults { NoticeFaults D.Desk result Status.Full desk.old desk.new }
 {
@@ -90,7 +88,8 @@ fn tell_full<D: Desk>(alloc: Global, length: u64, desk: &mut D) -> Status
 
 /// Says that the files are damaged.
 fn tell_damage<D: Desk>(alloc: Global, file: File, place: u64, desk: &mut D) -> Status
-    ensures told { IsTrue (D.tells desk.old) → IsTold D.Desk result Status.Damaged (damage_line file place) desk.old desk.new }
+    ensures told { IsTrue (D.tells desk.old)
+        → IsTold D.Desk result Status.Damaged (damage_line file place) desk.old desk.new }
     ensures counts { KeepsCounts D.Desk desk.old desk.new }
     ensures faults { NoticeFaults D.Desk result Status.Damaged desk.old desk.new }
 {
@@ -99,12 +98,14 @@ fn tell_damage<D: Desk>(alloc: Global, file: File, place: u64, desk: &mut D) -> 
 
 /// The status of a run that stopped. Where a line had no room, it is said first.
 fn status_of_stop<D: Desk>(alloc: Global, stop: Stop, desk: &mut D) -> Status
-    ensures ends { IsTrue (D.tells desk.old) → (c : Content) (s : State) (full_at limit piece : ℕ) (bytes : List ℕ) (left : Option (List ℕ)) (start : D)
+    ensures ends { IsTrue (D.tells desk.old) → (c : Content) (s : State) (full_at limit piece : ℕ)
+        (bytes : List ℕ) (left : Option (List ℕ)) (start : D)
         → EndsShort D.Desk c s full_at limit stop bytes left piece start desk.old
         → RunEnds D.Desk result c s full_at limit bytes left piece start desk.new }
     ensures told { IsOfRun result }
     ensures counts { KeepsCounts D.Desk desk.old desk.new }
-    ensures faults { (before now : ℕ) (start : D) → now ≡ before → StopFaults D.Desk stop start desk.old
+    ensures faults { (before now : ℕ) (start : D) → now ≡ before
+        → StopFaults D.Desk stop start desk.old
         → StatusFaults D.Desk result before now start desk.new }
 {
     match stop {
@@ -117,12 +118,14 @@ fn status_of_stop<D: Desk>(alloc: Global, stop: Stop, desk: &mut D) -> Status
 
 /// The status of a run's ending.
 fn status_of<D: Desk>(alloc: Global, ending: Ending, desk: &mut D) -> Status
-    ensures ends { IsTrue (D.tells desk.old) → (c : Content) (s : State) (full_at limit piece : ℕ) (bytes : List ℕ) (left : Option (List ℕ)) (start : D)
+    ensures ends { IsTrue (D.tells desk.old) → (c : Content) (s : State) (full_at limit piece : ℕ)
+        (bytes : List ℕ) (left : Option (List ℕ)) (start : D)
         → EndsAs D.Desk ending c s full_at limit bytes left piece start desk.old
         → RunEnds D.Desk result c s full_at limit bytes left piece start desk.new }
     ensures told { IsOfRun result }
     ensures counts { KeepsCounts D.Desk desk.old desk.new }
-    ensures faults { (before now : ℕ) (start : D) → EndingFaults D.Desk ending before now start desk.old
+    ensures faults { (before now : ℕ) (start : D)
+        → EndingFaults D.Desk ending before now start desk.old
         → StatusFaults D.Desk result before now start desk.new }
 {
     match ending {
@@ -133,32 +136,34 @@ fn status_of<D: Desk>(alloc: Global, ending: Ending, desk: &mut D) -> Status
     }
 }
 
-/// Answers the lines of the input over files that were opened.
+/// Answers the lines of the input by a server that was started.
 fn serve_lines<S: Source, D: Desk>(
     alloc: Global,
-    opened: Opened,
+    server: Server,
     piece: &mut [u8],
     source: &mut S,
     desk: &mut D,
 ) -> Status
     requires room { 0 < length piece.old }
-    requires stands { Stands D.Desk opened.journal desk.old }
+    requires stands { Stands D.Desk server.journal desk.old }
 
-    ensures ends { IsTrue (D.tells desk.old) → (c : Content) (bytes : List ℕ) → IsWell reader (opened_state opened)
-        → IsCurrent opened.journal c (D.state desk.old) → S.left source.old ≡ Some bytes
-        → RunEnds D.Desk result c (opened_state opened) opened.journal.limit INPUT_LIMIT bytes (S.left source.new) (S.piece source.new) desk.old desk.new }
+    ensures ends { IsTrue (D.tells desk.old) → (c : Content) (bytes : List ℕ)
+        → IsWell reader (server_state server)
+        → IsCurrent server.journal c (D.state desk.old)
+        → S.left source.old ≡ Some bytes
+        → RunEnds D.Desk result c (server_state server) server.journal.limit INPUT_LIMIT bytes
+        (S.left source.new) (S.piece source.new) desk.old desk.new }
     ensures told { IsOfRun result }
     ensures counts { KeepsCounts D.Desk desk.old desk.new }
-    ensures faults { StatusFaults D.Desk result (S.faults source.old) (S.faults source.new) desk.old desk.new }
+    ensures faults { StatusFaults D.Desk result (S.faults source.old) (S.faults source.new)
+        desk.old desk.new }
 {
-    let Opened { journal, engine } = opened;
-    let server = Server::new(alloc, engine, journal);
     let mut session = Session::new(alloc, server);
     let ending = run(INPUT_LIMIT, &mut session, piece, source, desk);
     status_of(alloc, ending, desk)
 }
 
-/// Opens the files, and answers the lines of the input over them.
+/// Starts a server on the files, and answers the lines of the input by it.
 fn serve_files<S: Source, D: Desk>(
     alloc: Global,
     limit: u64,
@@ -173,13 +178,14 @@ fn serve_files<S: Source, D: Desk>(
         (source.new ≡ source.old) desk.old desk.new }
     ensures told { IsOfRun result }
     ensures counts { KeepsCounts D.Desk desk.old desk.new }
-    ensures faults { StatusFaults D.Desk result (S.faults source.old) (S.faults source.new) desk.old desk.new }
+    ensures faults { StatusFaults D.Desk result (S.faults source.old) (S.faults source.new)
+        desk.old desk.new }
 {
     let Ok(mut piece) = new_piece(alloc) else {
         return Status::Memory;
     };
-    match open(alloc, limit, &mut piece, desk) {
-        Ok(opened) => serve_lines(alloc, opened, &mut piece, source, desk),
+    match Server::start(alloc, limit, &mut piece, desk) {
+        Ok(server) => serve_lines(alloc, server, &mut piece, source, desk),
         Err(OpenFault::Disk) => Status::Disk,
         Err(OpenFault::Memory) => Status::Memory,
         Err(OpenFault::Damaged(file, place)) => tell_damage(alloc, file, place, desk),
@@ -229,7 +235,8 @@ pub fn serve<S: Source, D: Desk>(
 
     // Each answer has its cause, and no failed call is passed over: of reads, calls of the files and says none has failed but
     // that which is answered.
-    ensures faults { StatusFaults D.Desk result (S.faults source.old) (S.faults source.new) desk.old desk.new }
+    ensures faults { StatusFaults D.Desk result (S.faults source.old) (S.faults source.new)
+        desk.old desk.new }
     ensures of_run { (limit : ℕ) → IsRun words.now limit → IsOfRun result }
     ensures of_check { IsCheck words.now → IsOfCheck result }
     ensures usage { (result ≡ Status.Usage)
@@ -241,10 +248,12 @@ pub fn serve<S: Source, D: Desk>(
     // or no memory was left.
     ensures complete { OnRun (D.tells desk.old) words.now (S.left source.old) (λ limit bytes.
         (c : Content) (s : State) → HoldNow c s (D.state desk.old) → length bytes ≤ INPUT_LIMIT
-        → NoneRose D.Desk (S.faults source.old) (S.faults source.new) desk.old desk.new → IsUnfailed result) }
+        → NoneRose D.Desk (S.faults source.old) (S.faults source.new) desk.old desk.new
+        → IsUnfailed result) }
 
     // The desk tells as it did, so that the next run goes on from here, and no count of its faults has fallen.
-    ensures run_counts { (limit : ℕ) → IsRun words.now limit → KeepsCounts D.Desk desk.old desk.new }
+    ensures run_counts { (limit : ℕ) → IsRun words.now limit
+        → KeepsCounts D.Desk desk.old desk.new }
 
     // A text that is checked has the verdict that is said, and no other; also where the desk doesn't tell what was said.
     ensures checks { IsTrue (D.tells desk.old) → OnCheck words.now (S.left source.old) (λ bytes.

@@ -32,7 +32,8 @@ pub fn reach<D: Desk>(
     requires shows { IsTrue (D.tells desk.old) → Shows (D.state desk.old).a piece.old window.old }
     ensures covers { OnOk result (Covers window.new at count) }
     ensures fits { window.new.count ≤ length piece.new }
-    ensures shows { IsTrue (D.tells desk.old) → OnOk result (Shows (D.state desk.old).a piece.new window.new) }
+    ensures shows { IsTrue (D.tells desk.old)
+        → OnOk result (Shows (D.state desk.old).a piece.new window.new) }
     ensures looked { OnlyLooked D.Desk desk.old desk.new }
     ensures cause { HasCause (D.disk_faults desk.old) (D.disk_faults desk.new) result }
 {
@@ -51,7 +52,8 @@ pub fn reach<D: Desk>(
 pub fn part<'a>(window: &Window, piece: &'a [u8], at: u64, count: usize) -> &'a [u8]
     requires covers { Covers window.now at count }
     requires fits { window.now.count ≤ length piece.now }
-    ensures bytes { (file : List ℕ) → Shows file piece.now window.now → result.now ≡ take count (drop at file) }
+    ensures bytes { (file : List ℕ) → Shows file piece.now window.now
+        → result.now ≡ take count (drop at file) }
     ensures count { length result.now ≡ count }
 {
     let from = (at - window.at) as usize;

@@ -6,6 +6,7 @@ pub mod Parts
 pub mod Picked
 pub mod Prefix
 pub mod Swaps
+pub mod Twice
 pub mod Unique
 pub mod Gained
 pub mod HeldAlong

@@ -24,7 +24,7 @@ use Rattle.yw_state.specs.Nets.{child_net, is_among, is_empty, net_called, task_
 use Rattle.yw_state.specs.Passing.{elements_for}
 use Rattle.yw_state.specs.Texts.{Reader}
 use Rattle.yw_state.specs.Values.{Row}
-use Rattle.yw_state.specs.Well.{most_items, vals_fit}
+use Rattle.yw_state.specs.Well.{item_limit, vals_fit}
 
 -- each variable has a first value of its sort, within the limits
 abbrev pub begins_right : Net → Bool
@@ -82,7 +82,7 @@ pub record TaskIsSound (spec : Spec) (net : Net) (t : Task) : Type 0 where
   pub given : All (ParamIsSound net t) t.ins
   pub elements : (p : Param) (row : Row) (es : List (Option Value)) → element_param t ≡ Some p → vals_fit net.vars row ≡ true → elements_for t.many row ≡ Some es
       → All (λ o. IfSome o (λ v. may_hold p.sort v ≡ true)) es
-  pub few : most_items t.many ≤ most_elements
+  pub few : item_limit t.many ≤ most_elements
   pub gathers : is_some t.many ≡ true → list_all (λ (p : Param). is_single p.sort) t.outs ≡ true
   pub assigns : All (Assigns net t) t.set
   pub constants : HasSmallAssigns t

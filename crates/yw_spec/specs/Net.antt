@@ -23,17 +23,17 @@ pub data Node : Type 0 where
   at_task : (t : ℕ) → Node
 
 -- the places from which flows lead to a task
-abbrev pub before : Net → ℕ → List ℕ
-before net t = option_map_or (λ (task : Task). task.before) (slice_get net.tasks t) []
+abbrev pub places_before : Net → ℕ → List ℕ
+places_before net t = option_map_or (λ (task : Task). task.before) (slice_get net.tasks t) []
 
 -- the places to which flows lead from a task
-abbrev pub after : Net → ℕ → List ℕ
-after net t = option_map_or (λ (task : Task). task.after) (slice_get net.tasks t) []
+abbrev pub places_after : Net → ℕ → List ℕ
+places_after net t = option_map_or (λ (task : Task). task.after) (slice_get net.tasks t) []
 
 -- a flow goes from one node to the other
 abbrev pub HasFlow : Net → Node → Node → Type 0
-HasFlow net (at_place k) (at_task t) = Contains (before net t) k
-HasFlow net (at_task t) (at_place k) = Contains (after net t) k
+HasFlow net (at_place k) (at_task t) = Contains (places_before net t) k
+HasFlow net (at_task t) (at_place k) = Contains (places_after net t) k
 HasFlow net (at_place k) (at_place j) = ⊥
 HasFlow net (at_task t) (at_task u) = ⊥
 

@@ -2,12 +2,11 @@
 use Rattle.std.specs.Prelude.{◌≡◌, ℕ, Bool, true, false, List, [], ◌∷◌, Option, Some, None, option_and_then, option_map, refl, fold, map, if◌then◌else◌}
 use Rattle.std.specs.Ordering.{eq_by_cmp}
 use Rattle.std.proofs.Common.{sym, ◌∙◌, ap, subst}
-use Rattle.yw_spec.specs.declared.task.Task.{Task}
 use Rattle.yw_state.specs.After.{change, make_select_due, where_some, without_items}
 use Rattle.yw_state.specs.Exlets.{end_if_over}
 use Rattle.yw_state.specs.Identity.{Ident}
 use Rattle.yw_state.specs.Map.{get, lexical, retain, update}
-use Rattle.yw_state.specs.State.{Site, Sites, State, drop, drop_all, items_of}
+use Rattle.yw_state.specs.State.{Site, Sites, State, TaskAt, drop, drop_all, items_of}
 use Rattle.yw_state.proofs.MapLemmas.{by_name, by_option, by_test, get-update_other, get-update_same, never, nowhere, retain_stands, tied, tied_self, update_stands}
 
 -- the identities of the items of a task
@@ -48,8 +47,8 @@ module _ (k : Ident) where
   if-keeps true s t there here = there
   if-keeps false s t there here = here
 
-  pub make_select_due-keeps : (s : State) (j : Ident) (t : Task) → IsGone k s → IsGone k (make_select_due s j t)
-  make_select_due-keeps s j t none = if-keeps _ _ _ (change-keeps s j _ none) none
+  pub make_select_due-keeps : (s : State) (j : Ident) (x : TaskAt) → IsGone k s → IsGone k (make_select_due s j x)
+  make_select_due-keeps s j x none = if-keeps _ _ _ (change-keeps s j _ none) none
 
   pub end_if_over-keeps : (s : State) (r : Ident) → IsGone k s → IsGone k (end_if_over s r)
   end_if_over-keeps s r none = if-keeps _ _ _ (retain-keeps s.sites _ k none) none

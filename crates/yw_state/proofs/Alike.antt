@@ -8,7 +8,7 @@ use Rattle.yw_spec.specs.declared.spec.Spec.{Spec}
 use Rattle.yw_state.proofs.MapLemmas.{by_option, nowhere, never}
 use Rattle.yw_state.specs.Allowed.{are_roles}
 use Rattle.yw_state.specs.Identity.{Ident, is_case_ident, parent}
-use Rattle.yw_state.specs.Judged.{Question, has_rule, item_row, rules_at, task_place}
+use Rattle.yw_state.specs.Judged.{Question, case_place, has_rule, has_rules, item_values, rules_at, task_place}
 use Rattle.yw_state.specs.Map.{Map, lexical, lexical_each, get, has_key}
 use Rattle.yw_state.specs.NewRule.{are_fit, is_known, may_conclude}
 use Rattle.yw_state.specs.Options.{is_some_and}
@@ -16,7 +16,7 @@ use Rattle.yw_state.specs.RuleTree.{TreeRule}
 use Rattle.yw_state.specs.State.{State, Site, Sites, NetPart, ItemPart, ItemAt, NetAt, due_at, is_suspended, is_target, item_at, item_part, items_of, net_at, net_part, no_checks, run_part, spec_called, task_in}
 use Rattle.yw_state.specs.declared.loaded.Loaded.{Loaded}
 use Rattle.yw_state.specs.Texts.{Reader}
-use Rattle.yw_state.specs.Well.{NumbersFit, NetsStand, ParentsStand, MarksStand, ContentFits, IsWell, RulesFit, DepthFits, IsAtLevel, Stands, is_child_of, is_composite, is_top, most_items, wants_net}
+use Rattle.yw_state.specs.Well.{NumbersFit, NetsStand, ParentsStand, MarksStand, ContentFits, IsWell, RulesFit, DepthFits, IsAtLevel, Stands, is_child_of, is_composite, is_top, item_limit, wants_net}
 use Rattle.yw_state.specs.Well.IsAtLevel.{first, further}
 use Rattle.yw_state.specs.Words.{has_check, is_ready}
 use Rattle.yw_state.specs.declared.tree.Conclusion.{Conclusion}
@@ -50,13 +50,10 @@ all_weaker p q weaker (x ∷ xs) e =
 abbrev pub later : State → Map lexical Loaded → Map lexical (List (List ℕ)) → Map lexical_each (List TreeRule) → Sites → State
 later s specs persons rules sites = record s { specs = specs; persons = persons; rules = rules; sites = sites }
 
-abbrev has_some : State → TreePlace → Bool
-has_some s place = nat_lt 0 (length (rules_at s place))
-
 -- Each specification is known as before, and a tree that had a rule has one.
 pub record KnowsMore (s t : State) : Type 0 where
   pub specs : (name : List ℕ) (l : Loaded) → get s.specs name ≡ Some l → get t.specs name ≡ Some l
-  pub rules : (place : TreePlace) → has_some s place ≡ true → has_some t place ≡ true
+  pub rules : (place : TreePlace) → has_rules s place ≡ true → has_rules t place ≡ true
 
 -- The check may be due there: at a case or an item whose tree has a rule, and a choice of a worklet at an item that is ready.
 pub record MayBeDue (s : State) (j : Ident) (kind : TreeKind) : Type 0 where
@@ -72,7 +69,7 @@ may_be_due s marks j kind e =
       ready = λ select. marks.select j (subst (λ k. has_check (due_at s j) k ≡ true) select e);
     }
 
-nothing_due : (kind : TreeKind) → has_check no_checks kind ≡ false
+pub nothing_due : (kind : TreeKind) → has_check no_checks kind ≡ false
 nothing_due Pre = refl
 nothing_due Post = refl
 nothing_due Select = refl
@@ -119,11 +116,10 @@ abbrev asks_some : Question → Bool
 asks_some q = nat_lt 0 (length q.rules)
 
 abbrev pub case_asks : State → TreeKind → Option NetPart → Option Question
-case_asks s kind o =
-    option_map (λ (n : NetPart). record { rules = rules_at s (record { spec = n.spec; net = None; task = None; kind = kind }); row = n.vals }) o
+case_asks s kind o = option_map (λ (n : NetPart). record { rules = rules_at s (case_place n.spec kind); row = n.vals }) o
 
 abbrev pub item_asks : State → TreeKind → Option ItemAt → Option Question
-item_asks s kind o = option_map (λ (x : ItemAt). record { rules = rules_at s (task_place x.of_task kind); row = item_row x }) o
+item_asks s kind o = option_map (λ (x : ItemAt). record { rules = rules_at s (task_place x.of_task kind); row = item_values x }) o
 
 abbrev pub asked_of : Bool → State → Option NetPart → Option ItemAt → TreeKind → Bool
 asked_of of_case s n x kind = is_some_and (if of_case then case_asks s kind n else item_asks s kind x) asks_some
@@ -206,7 +202,7 @@ module _ (s : State) (specs : Map lexical Loaded) (persons : Map lexical (List (
 
       asked_kept : (of_case : Bool) (n : Option NetPart) (x : Option ItemAt) (kind : TreeKind) → asked_of of_case s n x kind ≡ true → asked_of of_case t n x kind ≡ true
       asked_kept true None x kind e = e
-      asked_kept true (Some n) x kind e = knows.rules (record { spec = n.spec; net = None; task = None; kind = kind }) e
+      asked_kept true (Some n) x kind e = knows.rules (case_place n.spec kind) e
       asked_kept false n None kind e = e
       asked_kept false n (Some x) kind e = knows.rules (task_place x.of_task kind) e
 
@@ -324,7 +320,7 @@ module _ (s : State) (specs : Map lexical Loaded) (persons : Map lexical (List (
             net = λ j n e. content.net j n (sym (net_at_same j) ∙ e);
             item = λ j x e. content.item j x (sym (item_at_same j) ∙ e);
             count = λ i n k task e f.
-                subst (λ count. count ≤ most_items task.many) (sym (alike.items i k)) (content.count i n k task (sym (net_at_same i) ∙ e) f);
+                subst (λ count. count ≤ item_limit task.many) (sym (alike.items i k)) (content.count i n k task (sym (net_at_same i) ∙ e) f);
             run_length = λ j r e. content.run_length j r (sym (alike.run j) ∙ e);
             run_fit = λ j r e. are_fit_kept _ r.rest (content.run_fit j r (sym (alike.run j) ∙ e));
             rules = λ key rs e. known_or_new (λ old. rules_fit_kept reader key rs (content.rules key rs old)) (right.rules key rs e);

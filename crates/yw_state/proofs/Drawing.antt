@@ -132,7 +132,7 @@ next-after s (events.Enter i t places first count) said ok =
     ap (λ k. first + k) (row_count (entry_values x.task x.within.part.vals) count (and_left _ _ (and_right _ _ (and_left _ _ e))))
     ∙ from_first first s.next count (and_left _ _ (and_right _ _ e)))
 next-after s (events.Start j who) said ok = none_drawn _ _ refl
-next-after s (events.Complete j out) said ok = none_drawn _ _ refl
+next-after s (events.Complete j out) said ok = none_drawn _ _ (where_some-next (item_at s j) s _ (λ x. refl))
 next-after s (events.Exit i t places) said ok = none_drawn _ _ (where_some-next (task_at s i t) s _ (exit-next s i places))
 next-after s (events.Add i t value n) said ok =
     where_and-next (task_at s i t) s (After.add s i value n) _ (n + 1) (and_right _ _ (and_left _ _ ok)) (λ x e.

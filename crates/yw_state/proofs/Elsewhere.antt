@@ -27,6 +27,7 @@ use Rattle.yw_state.specs.Values.{Row}
 use Rattle.yw_state.specs.Words.{is_completed}
 use Rattle.yw_state.specs.declared.event.Event.{Event}
 use Rattle.yw_state.specs.declared.event.Event.TheVariants as events
+use Rattle.yw_state.specs.declared.part.Checks.{Checks}
 use Rattle.yw_state.specs.declared.part.Way.{Way}
 use Rattle.yw_state.specs.declared.part.Way.TheVariants.{Finished, Cancelled, Removed}
 use Rattle.yw_state.specs.declared.tree.Primitive.{Primitive}
@@ -179,25 +180,24 @@ module _ (n : ℕ) where
     pub empty_region-else : (s : State) (i : Ident) (t : Task) → case_number i ≡ n → SameElsewhere n s (After.empty_region s i t)
     empty_region-else s i t here = step (change-else s i _ here) (fold-else (After.without_items i) (without_items-else i here) t.drop_tasks _)
 
-    pub make_select_due-else : (s : State) (j : Ident) (t : Task) → case_number j ≡ n → SameElsewhere n s (After.make_select_due s j t)
-    make_select_due-else s j t here = if-else (is_atomic t) s _ s (change-else s j _ here) (unchanged s)
+    pub make_select_due-else : (s : State) (j : Ident) (x : TaskAt) → case_number j ≡ n → SameElsewhere n s (After.make_select_due s j x)
+    make_select_due-else s j x here = if-else (is_atomic x.task) s _ s (change-else s j _ here) (unchanged s)
 
-    pub add_item-else : (x : TaskAt) (i : Ident) → case_number i ≡ n → (s : State) (e : ℕ × Row) → SameElsewhere n s (After.add_item x i s e)
-    add_item-else x i here s e =
-        let there = case-child i n e.0 some here in
-        step (step (put-else s (child i e.0) _ there) (change-else _ (child i e.0) _ there)) (make_select_due-else _ (child i e.0) x.task there)
+    pub add_item-else : (x : TaskAt) (i : Ident) (due : Checks) → case_number i ≡ n → (s : State) (e : ℕ × Row) → SameElsewhere n s (After.add_item x i due s e)
+    add_item-else x i due here s e = put-else s (child i e.0) _ (case-child i n e.0 some here)
 
     pub add_items-else : (x : TaskAt) (i : Ident) (first : ℕ) (rows : List Row) (s : State) → case_number i ≡ n → SameElsewhere n s (After.add_items x i first rows s)
-    add_items-else x i first rows s here = step (fold-else (After.add_item x i) (add_item-else x i here) (zip (range_with_len first (length rows)) rows) s) (with_next-else _ (first + length rows))
+    add_items-else x i first rows s here =
+        let due = After.item_checks s x in
+        step (fold-else (After.add_item x i due) (add_item-else x i due here) (zip (range_with_len first (length rows)) rows) s) (with_next-else _ (first + length rows))
 
     -- ---- rows
 
-    pub complete-else : (s : State) (j : Ident) (out : Row) → case_number j ≡ n → SameElsewhere n s (After.complete s j out)
-    complete-else s j out here = step (change-else s j _ here) (change-else _ j _ here)
+    pub complete-else : (s : State) (j : Ident) (out : Row) (x : ItemAt) → case_number j ≡ n → SameElsewhere n s (After.complete s j out x)
+    complete-else s j out x here = step (change-else s j _ here) (change-else _ j _ here)
 
     pub launch-else : (s : State) (name : List ℕ) (vals : Row) → SameElsewhere n s (After.launch s n name vals)
-    launch-else s name vals =
-        where_spec-else s name _ (λ spec net. step (step (put-else s (case_ident n) _ refl) (with_next-else _ (n + 1))) (change-else _ (case_ident n) _ refl))
+    launch-else s name vals = where_spec-else s name _ (λ spec net. step (put-else s (case_ident n) _ refl) (with_next-else _ (n + 1)))
 
     pub enter-else : (s : State) (i : Ident) (places : List Place) (first : ℕ) (x : TaskAt) → case_number i ≡ n → SameElsewhere n s (After.enter s i places first x)
     enter-else s i places first x here = step (change-else s i _ here) (add_items-else x i first _ _ here)
@@ -206,7 +206,7 @@ module _ (n : ℕ) where
     add-else s i value m x here = where_some-else (given_values x.task x.within.part.vals (Some value)) s _ (λ given. add_items-else x i m (given ∷ []) s here)
 
     pub end_net-else : (s : State) (j : Ident) (made : NetAt → ItemAt → Row) (x : ItemAt) → case_number j ≡ n → SameElsewhere n s (After.end_net s j made x)
-    end_net-else s j made x here = where_some-else (net_at s j) s _ (λ a. step (bare-else s j here) (complete-else _ j (made a x) here))
+    end_net-else s j made x here = where_some-else (net_at s j) s _ (λ a. step (bare-else s j here) (complete-else _ j (made a x) x here))
 
     pub start_sub-else : (s : State) (j : Ident) (x : ItemAt) → case_number j ≡ n → SameElsewhere n s (After.start_sub s j x)
     start_sub-else s j x here = where_some-else _ s _ (λ e. change-else s j _ here)
@@ -238,12 +238,12 @@ module _ (n : ℕ) where
     primitive-else s r j primitives.SuspendItem here there = change-else s j _ there
     primitive-else s r j primitives.ContinueItem here there = change-else s j _ there
     primitive-else s r j primitives.RestartItem here there =
-        where_some-else (item_at s j) s _ (λ x. step (cut_back-else s r j _ there) (make_select_due-else _ j x.of_task.task there))
+        where_some-else (item_at s j) s _ (λ x. step (cut_back-else s r j _ there) (make_select_due-else _ j x.of_task there))
     primitive-else s r j primitives.CompleteItem here there =
         where_some-else (item_at s j) s _ (λ x. if-else (is_completed x.part.stage) s s _ (unchanged s) (cut_back-else s r j _ there))
     primitive-else s r j primitives.RemoveItem here there = drop-else s j there
-    primitive-else s r j primitives.SuspendCase here there = change-else s (Exlets.case_of r) _ here
-    primitive-else s r j primitives.ContinueCase here there = change-else s (Exlets.case_of r) _ here
+    primitive-else s r j primitives.SuspendCase here there = change-else s (Exlets.case_above r) _ here
+    primitive-else s r j primitives.ContinueCase here there = change-else s (Exlets.case_above r) _ here
     primitive-else s r j primitives.RemoveCase here there = subst (λ m. SameElsewhere n s (After.end_case s m Removed)) (sym here) (end_case-else s Removed)
     primitive-else s r j (primitives.Compensate name) here there = compensate-else s r j name here
     primitive-else s r j (primitives.Unknown text) here there = unchanged s
@@ -268,7 +268,7 @@ module _ (n : ℕ) where
     elsewhere s (events.Launch m name vals) said placed is = subst (λ a. SameElsewhere n s (After.launch s a name vals)) (sym (some_same m n is)) (launch-else s name vals)
     elsewhere s (events.Enter i t places first count) said placed is = where_some-else (task_at s i t) s _ (λ x. enter-else s i places first x (some_same _ _ is))
     elsewhere s (events.Start j who) said placed is = change-else s j _ (some_same _ _ is)
-    elsewhere s (events.Complete j out) said placed is = complete-else s j out (some_same _ _ is)
+    elsewhere s (events.Complete j out) said placed is = where_some-else (item_at s j) s _ (λ x. complete-else s j out x (some_same _ _ is))
     elsewhere s (events.Exit i t places) said placed is = where_some-else (task_at s i t) s _ (λ x. exit-else s i places x (some_same _ _ is))
     elsewhere s (events.Add i t value m) said placed is = where_some-else (task_at s i t) s _ (λ x. add-else s i value m x (some_same _ _ is))
     elsewhere s (events.Finish m) said placed is = subst (λ a. SameElsewhere n s (After.end_case s a Finished)) (sym (some_same m n is)) (end_case-else s Finished)

@@ -3,11 +3,12 @@ use Rattle.std.specs.Prelude.{◌≡◌, ℕ, zero, suc, ◌+◌, ◌||◌, Bool
 use Rattle.std.proofs.Common.{sym, ◌∙◌, ap, subst}
 use Rattle.std.proofs.lemmas.Bool.{eqb-false, eqb-true}
 use Rattle.yw_spec.specs.declared.spec.Place.{Place}
-use Rattle.yw_state.specs.After.{change, empty_region, exit, make_due, produce, wipe, with_net, with_sites, without_items}
-use Rattle.yw_state.specs.Allowed.{exit_values, place_numbers}
+use Rattle.yw_state.specs.After.{exit, make_due, produce, region_emptied, values_assigned, wipe, with_net, with_sites, without_items}
+use Rattle.yw_state.specs.Allowed.{place_numbers}
 use Rattle.yw_state.specs.Events.{after}
 use Rattle.yw_state.specs.Gone.{exit_empties}
 use Rattle.yw_state.specs.Identity.{Ident}
+use Rattle.yw_state.specs.Judged.{case_place}
 use Rattle.yw_state.specs.Map.{get, retain}
 use Rattle.yw_state.specs.Nets.{is_among}
 use Rattle.yw_state.specs.Options.{is_some_and}
@@ -15,6 +16,7 @@ use Rattle.yw_state.specs.State.{NetPart, Site, State, TaskAt, drop, drop_all, t
 use Rattle.yw_state.specs.Texts.{Said}
 use Rattle.yw_state.specs.declared.event.Event.TheVariants as events
 use Rattle.yw_state.specs.declared.tree.TreeKind.TheVariants.{Post}
+use Rattle.yw_state.specs.declared.tree.TreePlace.{TreePlace}
 use Rattle.yw_state.proofs.Absent.{idents_of, part-kept}
 use Rattle.yw_state.proofs.MapLemmas.{by_name, by_test, get-retain_gone, get-retain_kept, get-update_same, never}
 use Rattle.yw_state.proofs.Parts.{first_of_both, found, is_not, second_of_both}
@@ -121,8 +123,8 @@ module _ (i : Ident) (c : ℕ) where
       let f : NetPart → NetPart = λ n. record n { tokens = fold one_on n.tokens cs } in
       ap (λ o. tokens_of (net_of o)) (get-update_same by_name s.sites i (with_net f)) ∙ site_same f (λ n. given-other cs n.tokens c without) (get s.sites i) ∙ empty
 
-  due-empty : (s : State) → IsEmpty s → IsEmpty (make_due s i Post)
-  due-empty s empty = ap tokens_of (part-kept (λ x. x.net) _ (λ x. refl) s.sites i i) ∙ empty
+  due-empty : (s : State) (p : TreePlace) → IsEmpty s → IsEmpty (make_due s i p)
+  due-empty s p empty = ap tokens_of (part-kept (λ x. x.net) _ (λ x. refl) s.sites i i) ∙ empty
 
   if-empty : (b : Bool) (s t : State) → IsEmpty s → IsEmpty t → IsEmpty (if b then s else t)
   if-empty true s t there here = there
@@ -130,12 +132,13 @@ module _ (i : Ident) (c : ℕ) where
 
   exit-empty : (s : State) (places : List Place) (x : TaskAt) (cs : List ℕ) → place_numbers x.within.net places ≡ Some cs → is_among x.task.drop_places c ≡ true → is_among cs c ≡ false → IsEmpty (exit s i places x)
   exit-empty s places x cs e within without =
-      let kept : State = change (without_items i s x.number) i (with_net (λ n. record n { vals = exit_values s i x })) in
-      let emptied : State = empty_region kept i x.task in
-      let empty : IsEmpty emptied = each-empty x.task.drop_tasks (wipe kept i x.task.drop_places) (wipe-empty kept x.task.drop_places within) in
+      let kept : State = values_assigned s i x in
+      let empty : IsEmpty (region_emptied s i x) = each-empty x.task.drop_tasks (wipe kept i x.task.drop_places) (wipe-empty kept x.task.drop_places within) in
       let to : List ℕ = unwrap_or (place_numbers x.within.net places) [] in
-      let done : IsEmpty (produce emptied i to) = produce-empty emptied to (ap (λ (o : Option (List ℕ)). is_among (unwrap_or o []) c) e ∙ without) empty in
-      if-empty _ (make_due (produce emptied i to) i Post) (produce emptied i to) (due-empty (produce emptied i to) done) done
+      let t : State = produce (region_emptied s i x) i to in
+      let post : TreePlace = case_place x.within.part.spec Post in
+      let done : IsEmpty t = produce-empty (region_emptied s i x) to (ap (λ (o : Option (List ℕ)). is_among (unwrap_or o []) c) e ∙ without) empty in
+      if-empty _ (make_due t i post) t (due-empty t post done) done
 
 pub emptied : (s : State) (i : Ident) (t : List ℕ) (places : List Place) (said : Said) (c : ℕ) → is_some_and (task_at s i t) (exit_empties places c) ≡ true → tokens_on (after s (events.Exit i t places) said) i c ≡ 0
 unfolding after

@@ -1,7 +1,6 @@
 -- Behind an event that ends a net, no net stands there.
 use Rattle.std.specs.Prelude.{◌≡◌, ◌&&◌, Bool, true, false, not, [], Option, Some, None, is_some, option_map, option_and_then, refl, if◌then◌else◌}
 use Rattle.std.proofs.Common.{◌∙◌, ap, subst}
-use Rattle.yw_spec.specs.declared.task.Task.{Task}
 use Rattle.yw_state.specs.After.{change, complete, completed, end_net, make_select_due, where_some, with_item, with_sites}
 use Rattle.yw_state.specs.Allowed.{Allowed, allows}
 use Rattle.yw_state.specs.ByName.{made_by_child, made_by_worklet, made_of_given}
@@ -11,7 +10,7 @@ use Rattle.yw_state.specs.Gone.{net_ended, primitive_ends}
 use Rattle.yw_state.specs.Identity.{Ident, parent}
 use Rattle.yw_state.specs.Map.{get, retain, update}
 use Rattle.yw_state.specs.Options.{is_some_and}
-use Rattle.yw_state.specs.State.{ItemAt, ItemPart, NetAt, Site, State, bare, bare_but, item_at, net_at, net_part, no_checks}
+use Rattle.yw_state.specs.State.{ItemAt, ItemPart, NetAt, Site, State, TaskAt, bare, bare_but, item_at, net_at, net_part, no_checks}
 use Rattle.yw_state.specs.Texts.{Said}
 use Rattle.yw_state.specs.Values.{Row}
 use Rattle.yw_state.specs.Words.{is_completed}
@@ -55,20 +54,20 @@ module _ (j : Ident) where
   where_some-none : {A : Type 0} (o : Option A) (s : State) (f : A → State) (x : A) → o ≡ Some x → NoNet (f x) → NoNet (where_some o s f)
   where_some-none o s f x e none = rw e none
 
-  complete-none : (s : State) (out : Row) → NoNet s → NoNet (complete s j out)
-  complete-none s out none = change-none (change s j (with_item (completed out))) j _ (λ x. refl) (change-none s j _ (λ x. refl) none)
+  complete-none : (s : State) (out : Row) (x : ItemAt) → NoNet s → NoNet (complete s j out x)
+  complete-none s out x none = change-none (change s j (with_item (completed out))) j _ (λ x. refl) (change-none s j _ (λ x. refl) none)
 
   ended-none : (s : State) (made : NetAt → ItemAt → Row) (a : Bool) (p : ItemAt → Bool) (q : NetAt → Bool)
       → (a && is_some_and (item_at s j) p && is_some_and (net_at s j) q) ≡ true → NoNet (where_some (item_at s j) s (end_net s j made))
   ended-none s made a p q allowed =
       let x = found (item_at s j) p (second_of_both a _ (first_of_both _ _ allowed)) in
       let n = found (net_at s j) q (second_of_both _ _ allowed) in
-      where_some-none (item_at s j) s _ x.0 x.1 (where_some-none (net_at s j) s _ n.0 n.1 (complete-none (with_sites s (bare s.sites j)) (made n.0 x.0) (cut-none s _)))
+      where_some-none (item_at s j) s _ x.0 x.1 (where_some-none (net_at s j) s _ n.0 n.1 (complete-none (with_sites s (bare s.sites j)) (made n.0 x.0) x.0 (cut-none s _)))
 
   -- ---- an item begins anew, or counts as completed
 
-  make_select_due-none : (s : State) (t : Task) → NoNet s → NoNet (make_select_due s j t)
-  make_select_due-none s t none = if-none _ _ _ (change-none s j _ (λ x. refl) none) none
+  make_select_due-none : (s : State) (x : TaskAt) → NoNet s → NoNet (make_select_due s j x)
+  make_select_due-none s x none = if-none _ _ _ (change-none s j _ (λ x. refl) none) none
 
   cut_back-none : (s : State) (r : Ident) (f : ItemPart → ItemPart) → NoNet (change (with_sites s (bare_but s.sites j r)) j (λ x. record (with_item f x) { due = no_checks }))
   cut_back-none s r f = change-none (with_sites s (bare_but s.sites j r)) j _ (λ x. refl) (cut-none s _)
@@ -77,7 +76,7 @@ module _ (j : Ident) where
   restarted-none s r some =
       let x = there (item_at s j) some in
       where_some-none (item_at s j) s _ x.0 x.1
-      (make_select_due-none _ x.0.of_task.task (cut_back-none s r (λ y. record y { stage = Ready; who = None; made = [] })))
+      (make_select_due-none _ x.0.of_task (cut_back-none s r (λ y. record y { stage = Ready; who = None; made = [] })))
 
   completed-none : (s : State) (r : Ident) → is_some_and (item_at s j) (λ x. not (is_completed x.part.stage)) ≡ true → NoNet (primitive s r j CompleteItem)
   completed-none s r some =

@@ -5,20 +5,21 @@ use Rattle.std.specs.Ordering.{eq_by_cmp}
 use Rattle.std.proofs.Common.{sym, ◌∙◌, ap, subst, arith}
 use Rattle.std.proofs.lemmas.Bool.{and_parts, eqb-true, false_from_ne_true, lt-ltb, ltb-true, or_left}
 use Rattle.yw_base.specs.Identity.{is_identity, number_end, under}
-use Rattle.yw_state.proofs.Alike.{all_weaker, asked_of, due_test, item_in, net_by}
+use Rattle.yw_state.proofs.Alike.{all_weaker, asked_of, item_in, net_by}
 use Rattle.yw_state.proofs.EntryCounts.{length-insert_other, length-none}
 use Rattle.yw_state.proofs.MapLemmas.{by_name, by_option, by_test, get-insert_other, get-insert_same, never, nowhere, some_same, tied, tied_self}
+use Rattle.yw_state.proofs.TreePlaces.{case_has_rule, case_is_target}
 use Rattle.yw_state.proofs.Under.{all_above, all_parent}
 use Rattle.yw_state.specs.After.{put, with_next}
 use Rattle.yw_state.specs.Identity.{Ident, case_number, is_case_ident, is_child, parent}
-use Rattle.yw_state.specs.Judged.{has_rule}
+use Rattle.yw_state.specs.Judged.{case_place, has_rule, has_rules, is_select}
 use Rattle.yw_state.specs.Map.{get, insert, lexical}
 use Rattle.yw_state.specs.NewRule.{are_fit, most_primitives}
 use Rattle.yw_state.specs.Options.{is_some_and}
 use Rattle.yw_state.specs.RuleTree.{TreeRule}
 use Rattle.yw_state.specs.State.{State, Site, Sites, NetPart, ItemPart, RunPart, ItemAt, NetAt, due_at, is_target, item_at, item_of_task, item_part, items_of, net_at, net_part, no_checks, run_part}
 use Rattle.yw_state.specs.Texts.{Reader}
-use Rattle.yw_state.specs.Well.{NumbersFit, NetsStand, ParentsStand, MarksStand, ContentFits, IsWell, NetFits, RulesFit, DepthFits, IsAtLevel, has_work, is_composite, is_drawn, is_top, most_items}
+use Rattle.yw_state.specs.Well.{NumbersFit, NetsStand, ParentsStand, MarksStand, ContentFits, IsWell, NetFits, RulesFit, DepthFits, IsAtLevel, has_work, is_composite, is_drawn, is_top, item_limit}
 use Rattle.yw_state.specs.Well.IsAtLevel.{first, further}
 use Rattle.yw_state.specs.Words.{has_check, is_ready}
 use Rattle.yw_state.specs.declared.tree.TreeKind.{TreeKind}
@@ -42,6 +43,13 @@ pub record CaseMayCome (s : State) (j : Ident) (n : NetPart) : Type 0 where
   pub of_spec : net_by s n ≡ Some found
   pub fits : NetFits found
 
+-- What is due as it comes is due at a case, by a tree that has a rule, and is no choice of a worklet.
+pub record DueAsComes (s : State) (x : Site) (kind : TreeKind) : Type 0 where
+  pub net : NetPart
+  pub here : x.net ≡ Some net
+  pub rule : has_rules s (case_place net.spec kind) ≡ true
+  pub other : is_select kind ≡ false
+
 -- what comes at j, and the counter then
 pub record MayCome (s : State) (j : Ident) (x : Site) (next : ℕ) : Type 0 where
   pub undrawn : is_drawn s j ≡ false
@@ -52,7 +60,7 @@ pub record MayCome (s : State) (j : Ident) (x : Site) (next : ℕ) : Type 0 wher
   pub over : IsNone (get s.ended (case_number j))
   pub no_item : x.item ≡ None
   pub not_suspended : x.suspended ≡ false
-  pub not_due : x.due ≡ no_checks
+  pub due : (kind : TreeKind) → has_check x.due kind ≡ true → DueAsComes s x kind
   pub something : (is_some x.net || is_some x.item || is_some x.run) ≡ true
   pub net : (n : NetPart) → x.net ≡ Some n → CaseMayCome s j n
   pub run : (r : RunPart) → x.run ≡ Some r → RunMayCome s j r
@@ -224,18 +232,24 @@ module _ (s : State) (j : Ident) (x : Site) (next : ℕ) (may : MayCome s j x ne
             new_or_old k
             (λ same here. never (sym may.not_suspended ∙ ap (λ o. is_some_and o (λ (z : Site). z.suspended)) (sym here) ∙ e))
             (λ there. target_kept k (marks.suspended k (ap (λ o. is_some_and o (λ (z : Site). z.suspended)) (sym there) ∙ e)));
-        due = λ k kind e. due_before k kind e (λ there was. target_kept k (marks.due k kind was));
-        due_has_rule = λ k kind e. due_before k kind e (λ there was. has_rule_kept k kind there (marks.due_has_rule k kind was));
-        select = λ k e. due_before k Select e (λ there was. ap (λ o. is_some_and o (λ (z : ItemPart). is_ready z.stage)) (part_same k) ∙ marks.select k was);
+        due = λ k kind e. due_now k kind e (λ due of_case net. case_is_target t k due.net of_case net) (λ there was. target_kept k (marks.due k kind was));
+        due_has_rule = λ k kind e.
+            due_now k kind e (λ due of_case net. case_has_rule t k due.net of_case net kind ∙ due.rule) (λ there was. has_rule_kept k kind there (marks.due_has_rule k kind was));
+        select = λ k e.
+            due_now k Select e (λ due of_case net. never (sym due.other)) (λ there was. ap (λ o. is_some_and o (λ (z : ItemPart). is_ready z.stage)) (part_same k) ∙ marks.select k was);
       }
     where
       due_in : TreeKind → Option Site → Bool
       due_in kind o = has_check (unwrap_or (option_map (λ (z : Site). z.due) o) no_checks) kind
 
-      due_before : {G : Type 0} (k : Ident) (kind : TreeKind) → has_check (due_at t k) kind ≡ true → (get sites k ≡ get s.sites k → has_check (due_at s k) kind ≡ true → G) → G
-      due_before k kind e old =
+      -- due as it comes, or before
+      due_now : {G : Type 0} (k : Ident) (kind : TreeKind) → has_check (due_at t k) kind ≡ true → ((due : DueAsComes s x kind) → is_case_ident k ≡ true → net_part t k ≡ Some due.net → G)
+          → (get sites k ≡ get s.sites k → has_check (due_at s k) kind ≡ true → G) → G
+      due_now k kind e new old =
           new_or_old k
-          (λ same here. never (sym (due_test kind None) ∙ ap (λ c. has_check c kind) (sym may.not_due) ∙ ap (due_in kind) (sym here) ∙ e))
+          (λ same here.
+          let due = may.due kind (ap (due_in kind) (sym here) ∙ e) in
+          new due (ap is_case_ident same ∙ (may.net due.net due.here).is_case) (ap (option_and_then (λ (z : Site). z.net)) here ∙ due.here))
           (λ there. old there (ap (due_in kind) (sym there) ∙ e))
 
   nested_same : (k : Ident) → is_some_and (item_at t k) is_composite ≡ is_some_and (item_at s k) is_composite
@@ -286,8 +300,8 @@ module _ (s : State) (j : Ident) (x : Site) (next : ℕ) (may : MayCome s j x ne
         item = λ k y e. content.item k y (sym (item_at_same k) ∙ e);
         count = λ i a n task e f.
             new_or_old i
-            (λ same here. subst (λ c. c ≤ most_items task.many) (sym (count_same i n ∙ ap (λ k. length (items_of s k n)) same ∙ no_items n)) (omega arith))
-            (λ there. subst (λ c. c ≤ most_items task.many) (sym (count_same i n)) (content.count i a n task (sym (net_at_same i there) ∙ e) f));
+            (λ same here. subst (λ c. c ≤ item_limit task.many) (sym (count_same i n ∙ ap (λ k. length (items_of s k n)) same ∙ no_items n)) (omega arith))
+            (λ there. subst (λ c. c ≤ item_limit task.many) (sym (count_same i n)) (content.count i a n task (sym (net_at_same i there) ∙ e) f));
         run_length = read_now (λ z. z.run) (λ k r. length r.rest ≤ most_primitives) (λ r e. (may.run r e).short) content.run_length;
         run_fit = read_now (λ z. z.run) (λ k r. are_fit s (is_case_ident (parent k)) r.rest ≡ true) (λ r e. (may.run r e).fit) content.run_fit;
         rules = λ key rs e. same_rules key rs (content.rules key rs e);

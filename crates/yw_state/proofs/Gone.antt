@@ -3,13 +3,14 @@ use Rattle.std.specs.Prelude.{◌≡◌, ℕ, ◌&&◌, ◌||◌, Bool, true, fa
 use Rattle.std.proofs.Common.{◌∙◌, ap, inl, inr}
 use Rattle.yw_base.specs.Identity.{under}
 use Rattle.yw_spec.specs.declared.spec.Place.{Place}
-use Rattle.yw_state.specs.After.{change, complete, completed, end_net, exit, make_due, produce, where_some, wipe, with_item, with_net, with_run, with_sites, without_items}
+use Rattle.yw_state.specs.After.{change, complete, completed, end_net, exit, items_gone, make_due, produce, region_emptied, values_assigned, where_some, wipe, with_item, with_run, with_sites}
 use Rattle.yw_state.specs.Allowed.{Allowed, allows, exit_values, place_numbers}
 use Rattle.yw_state.specs.ByName.{made_of_given, made_by_child, made_by_worklet}
 use Rattle.yw_state.specs.Events.{after}
-use Rattle.yw_state.specs.Exlets.{case_of, end_compensation, primitive, take_primitive, taken_first}
+use Rattle.yw_state.specs.Exlets.{case_above, end_compensation, primitive, take_primitive, taken_first}
 use Rattle.yw_state.specs.Gone.{cut_back_removes, exit_removes, primitive_removes, removes}
 use Rattle.yw_state.specs.Identity.{Ident, case_ident, parent, same, strictly_under}
+use Rattle.yw_state.specs.Judged.{case_place}
 use Rattle.yw_state.specs.Map.{get, retain}
 use Rattle.yw_state.specs.Options.{is_some_and}
 use Rattle.yw_state.specs.State.{ItemAt, ItemPart, NetAt, Sites, State, TaskAt, bare, no_checks, bare_but, item_at, item_part, net_at, net_part, task_at}
@@ -43,16 +44,13 @@ bare_but-gone m j r k cut =
 
 -- ---- the state in which an exit has taken the task's items, made its assignments and emptied the places of its removal set
 
-abbrev with_values : State → Ident → TaskAt → State
-with_values s i x = change (without_items i s x.number) i (with_net (λ n. record n { vals = exit_values s i x }))
-
 abbrev without_tokens : State → Ident → TaskAt → State
-without_tokens s i x = wipe (with_values s i x) i x.task.drop_places
+without_tokens s i x = wipe (values_assigned s i x) i x.task.drop_places
 
 without_tokens-stays : (q k : Ident) → under k q ≡ true → (s : State) (i : Ident) (x : TaskAt) → Stays q k s (without_tokens s i x)
 without_tokens-stays q k below s i x =
-    step q k below (step q k below (without_items-stays q k below s i x.number) (net-stays q k below (without_items i s x.number) i (λ n. record n { vals = exit_values s i x })))
-    (net-stays q k below (with_values s i x) i (λ n. record n { tokens = fold (λ tokens c. slice_set tokens c 0) n.tokens x.task.drop_places }))
+    step q k below (step q k below (without_items-stays q k below s i x.number) (net-stays q k below (items_gone s i x) i (λ n. record n { vals = exit_values s i x })))
+    (net-stays q k below (values_assigned s i x) i (λ n. record n { tokens = fold (λ tokens c. slice_set tokens c 0) n.tokens x.task.drop_places }))
 
 -- ---- the state in which a run has taken its first primitive
 
@@ -69,14 +67,14 @@ pub same_item_at : (s : State) (r j : Ident) → item_at (taken s r) j ≡ item_
 same_item_at s r j = rw (same_net s r (parent j), same_item s r j) refl
 
 module _ (k : Ident) where
-  complete-keeps : (s : State) (j : Ident) (out : Row) → IsGone k s → IsGone k (complete s j out)
-  complete-keeps s j out none = change-keeps k (change s j (with_item (completed out))) j _ (change-keeps k s j _ none)
+  complete-keeps : (s : State) (j : Ident) (out : Row) (x : ItemAt) → IsGone k s → IsGone k (complete s j out x)
+  complete-keeps s j out x none = change-keeps k (change s j (with_item (completed out))) j _ (change-keeps k s j _ none)
 
   -- ---- a net is at its end
 
   end_net-gone : (s : State) (j : Ident) (made : NetAt → ItemAt → Row) (x : ItemAt) (n : NetAt) → net_at s j ≡ Some n → strictly_under k j ≡ true → IsGone k (end_net s j made x)
   end_net-gone s j made x n e below =
-      where_some-gone k (net_at s j) s _ n e (complete-keeps (with_sites s (bare s.sites j)) j (made n x) (bare-gone s.sites j k below))
+      where_some-gone k (net_at s j) s _ n e (complete-keeps (with_sites s (bare s.sites j)) j (made n x) x (bare-gone s.sites j k below))
 
   ended-gone : (s : State) (j : Ident) (made : NetAt → ItemAt → Row) → is_some (item_at s j) ≡ true → is_some (net_at s j) ≡ true → strictly_under k j ≡ true → IsGone k (where_some (item_at s j) s (end_net s j made))
   ended-gone s j made item net below =
@@ -86,21 +84,21 @@ module _ (k : Ident) where
 
   -- ---- a task exits
 
-  emptied-gone : (s : State) (i : Ident) (x : TaskAt) → exit_removes s i k x ≡ true → IsGone k (fold (without_items i) (without_tokens s i x) x.task.drop_tasks)
+  emptied-gone : (s : State) (i : Ident) (x : TaskAt) → exit_removes s i k x ≡ true → IsGone k (region_emptied s i x)
   emptied-gone s i x some =
       elim (either _ _ some) [
         | inl own ↦
             each-keeps k i x.task.drop_tasks (without_tokens s i x)
-            (change-keeps k (with_values s i x) i _ (change-keeps k (without_items i s x.number) i _ (without_items-gone s i x.number k own)))
+            (change-keeps k (values_assigned s i x) i _ (change-keeps k (items_gone s i x) i _ (without_items-gone s i x.number k own)))
         | inr of_set ↦ region-gone i k x.task.drop_tasks s (without_tokens s i x) (λ q below. without_tokens-stays q k below s i x) of_set
       ]
 
   exit-gone : (s : State) (i : Ident) (places : List Place) (x : TaskAt) → exit_removes s i k x ≡ true → IsGone k (exit s i places x)
   exit-gone s i places x some =
       let cs : List ℕ = unwrap_or (place_numbers x.within.net places) [] in
-      let emptied : State = fold (without_items i) (without_tokens s i x) x.task.drop_tasks in
-      let gone : IsGone k (produce emptied i cs) = change-keeps k emptied i _ (emptied-gone s i x some) in
-      if-keeps k _ (make_due (produce emptied i cs) i Post) (produce emptied i cs) (change-keeps k (produce emptied i cs) i _ gone) gone
+      let t : State = produce (region_emptied s i x) i cs in
+      let gone : IsGone k t = change-keeps k (region_emptied s i x) i _ (emptied-gone s i x some) in
+      if-keeps k _ (make_due t i (case_place x.within.part.spec Post)) t (change-keeps k t i _ gone) gone
 
   -- ---- a run takes a primitive
 
@@ -111,7 +109,7 @@ module _ (k : Ident) where
   restarted-gone s r removed =
       let x = there (item_at s (parent r)) (first_of_both _ _ removed) in
       let cut = cut_back-gone s r (parent r) (λ y. record y { stage = Ready; who = None; made = [] }) (second_of_both _ _ removed) in
-      where_some-gone k (item_at s (parent r)) s _ x.0 x.1 (make_select_due-keeps k _ (parent r) x.0.of_task.task cut)
+      where_some-gone k (item_at s (parent r)) s _ x.0 x.1 (make_select_due-keeps k _ (parent r) x.0.of_task cut)
 
   completed-gone : (s : State) (r : Ident) → (is_some_and (item_at s (parent r)) (λ x. not (is_completed x.part.stage)) && cut_back_removes r k) ≡ true → IsGone k (primitive s r (parent r) CompleteItem)
   completed-gone s r removed =
@@ -127,7 +125,7 @@ module _ (k : Ident) where
   primitive-gone s r RemoveItem removed = drop-gone s.sites (parent r) k removed
   primitive-gone s r SuspendCase removed = never removed
   primitive-gone s r ContinueCase removed = never removed
-  primitive-gone s r RemoveCase removed = drop-gone s.sites (case_of r) k removed
+  primitive-gone s r RemoveCase removed = drop-gone s.sites (case_above r) k removed
   primitive-gone s r (Compensate name) removed = never removed
   primitive-gone s r (Unknown text) removed = never removed
 

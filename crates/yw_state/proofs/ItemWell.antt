@@ -4,7 +4,7 @@ use Rattle.std.proofs.Common.{sym, ◌∙◌, ap, subst, inl, inr}
 use Rattle.yw_state.proofs.Alike.{asked_of, due_test, has_part, item_in, net_by}
 use Rattle.yw_state.proofs.ChangeWell.{changed_or_same, passed_before, read_kept}
 use Rattle.yw_state.proofs.EntryCounts.{length-update}
-use Rattle.yw_state.proofs.MapLemmas.{by_name, by_option, never, nowhere, some_same, update_stands}
+use Rattle.yw_state.proofs.MapLemmas.{by_name, by_option, get-update_same, never, nowhere, some_same, update_stands}
 use Rattle.yw_state.specs.After.{change}
 use Rattle.yw_state.specs.Identity.{Ident, is_case_ident, is_child, parent}
 use Rattle.yw_state.specs.Judged.{has_rule}
@@ -13,7 +13,7 @@ use Rattle.yw_state.specs.Options.{is_some_and}
 use Rattle.yw_state.specs.RuleTree.{TreeRule}
 use Rattle.yw_state.specs.State.{State, Site, Sites, NetPart, ItemPart, ItemAt, NetAt, due_at, is_target, item_at, item_of_task, item_part, net_at, net_part, run_part, task_in}
 use Rattle.yw_state.specs.Texts.{Reader}
-use Rattle.yw_state.specs.Well.{NumbersFit, NetsStand, ParentsStand, MarksStand, ContentFits, IsWell, ItemFits, RulesFit, IsAtLevel, Stands, is_child_of, is_composite, is_top, most_items, wants_net}
+use Rattle.yw_state.specs.Well.{NumbersFit, NetsStand, ParentsStand, MarksStand, ContentFits, IsWell, ItemFits, RulesFit, IsAtLevel, Stands, is_child_of, is_composite, is_top, item_limit, wants_net}
 use Rattle.yw_state.specs.Well.IsAtLevel.{first, further}
 use Rattle.yw_state.specs.Words.{has_check, is_ready}
 use Rattle.yw_state.specs.declared.tree.TreeKind.{TreeKind}
@@ -67,6 +67,12 @@ module _ (s : State) (j : Ident) (f : Site → Site) (g : ItemPart → ItemPart)
   mapped_item : (o : Option Site) → option_and_then (λ (x : Site). x.item) (option_map f o) ≡ option_map g (option_and_then (λ (x : Site). x.item) o)
   mapped_item None = refl
   mapped_item (Some x) = goes.item x
+
+  pub item_renewed : item_at t j ≡ option_map (renewed g) (item_at s j)
+  item_renewed =
+      ap (λ o. item_in o (net_at t (parent j))) (ap (option_and_then (λ (x : Site). x.item)) (get-update_same by_name s.sites j f) ∙ mapped_item (get s.sites j))
+      ∙ ap (item_in (option_map g (item_part s j))) (net_at_same (parent j))
+      ∙ in_nets g goes.task (item_part s j) (net_at s (parent j))
 
   part_or_renewed : (k : Ident) → (k ≡ j) × (item_part t k ≡ option_map g (item_part s k)) ⊎ (item_part t k ≡ item_part s k)
   part_or_renewed k = of_sites (changed_or_same s.sites j f k)
@@ -276,7 +282,7 @@ module _ (s : State) (j : Ident) (f : Site → Site) (g : ItemPart → ItemPart)
         net = λ k n e. content.net k n (sym (net_at_same k) ∙ e);
         item = of_item_now (λ k x. ItemFits x) content.item goes.fits;
         count = λ i n k task e h.
-            subst (λ count. count ≤ most_items task.many) (sym (length-update by_name (λ e. item_of_task i k e.0 e.1) s.sites j f (child_alike i k))) (content.count i n k task (sym (net_at_same i) ∙ e) h);
+            subst (λ count. count ≤ item_limit task.many) (sym (length-update by_name (λ e. item_of_task i k e.0 e.1) s.sites j f (child_alike i k))) (content.count i n k task (sym (net_at_same i) ∙ e) h);
         run_length = λ k r e. content.run_length k r (sym (run_same k) ∙ e);
         run_fit = λ k r e. content.run_fit k r (sym (run_same k) ∙ e);
         rules = λ key rs e. same_rules key rs (content.rules key rs e);

@@ -10,10 +10,9 @@ use Rattle.yw_spec.specs.declared.spec.Net.{Net}
 use Rattle.yw_spec.specs.declared.spec.Spec.{Spec}
 use Rattle.yw_spec.specs.declared.spec.Var.{Var}
 use Rattle.yw_state.proofs.Alike.{net_in}
-use Rattle.yw_state.proofs.FreshWell.{CaseMayCome, MayCome, come_is_well}
-use Rattle.yw_state.proofs.MapLemmas.{by_name, by_option, get-insert_same, never, nowhere, some_same}
-use Rattle.yw_state.proofs.MarksWell.{make_due_is_well}
-use Rattle.yw_state.specs.After.{empty_site, launch, make_due, new_net, put, stands, where_some, with_next}
+use Rattle.yw_state.proofs.FreshWell.{CaseMayCome, DueAsComes, MayCome, come_is_well}
+use Rattle.yw_state.proofs.MapLemmas.{by_option, never, nowhere, some_same}
+use Rattle.yw_state.specs.After.{begin_case, case_checks, launch, new_case, new_net, where_some}
 use Rattle.yw_state.specs.Allowed.{Allowed, allows, is_next, launch_fits, most_tokens}
 use Rattle.yw_state.specs.Events.{after}
 use Rattle.yw_state.specs.Identity.{case_ident}
@@ -21,12 +20,14 @@ use Rattle.yw_state.specs.Map.{get}
 use Rattle.yw_base.specs.Usages.{comes_in}
 use Rattle.yw_state.specs.Nets.{top_net}
 use Rattle.yw_state.specs.Options.{is_some_and}
-use Rattle.yw_state.specs.State.{State, Site, NetPart, is_target, spec_called, top_called}
+use Rattle.yw_state.specs.State.{State, Site, NetPart, spec_called, top_called}
 use Rattle.yw_state.specs.Texts.{Reader, Said}
 use Rattle.yw_state.specs.Values.{Row, same_value}
 use Rattle.yw_state.specs.Well.{IsWell, NetFits, vals_fit}
+use Rattle.yw_state.specs.Words.{has_check}
 use Rattle.yw_state.specs.declared.event.Event.TheVariants as events
-use Rattle.yw_state.specs.declared.tree.TreeKind.TheVariants.{Pre, Select}
+use Rattle.yw_state.specs.declared.tree.TreeKind.{TreeKind}
+use Rattle.yw_state.specs.declared.tree.TreeKind.TheVariants.{Pre, Post, Select}
 
 launch_vals_fit : (xs : List Var) (vs : Row) → launch_fits xs vs ≡ true → vals_fit xs vs ≡ true
 launch_vals_fit [] [] e = refl
@@ -53,6 +54,9 @@ module _ (reader : Reader) (s : State) (n : ℕ) (name : List ℕ) (vals : Row) 
     abbrev begun : NetPart
     begun = new_net name spec.top net vals
 
+    abbrev site : Site
+    site = new_case name spec net vals (case_checks s name)
+
     is_its_top : slice_get spec.nets spec.top ≡ Some net
     is_its_top = ap (option_and_then top_net) (sym called) ∙ top
 
@@ -74,7 +78,13 @@ module _ (reader : Reader) (s : State) (n : ℕ) (name : List ℕ) (vals : Row) 
           fits = begun_fits;
         }
 
-    may_come : MayCome s (case_ident n) (stands begun empty_site) (n + 1)
+    due_there : (kind : TreeKind) → has_check (case_checks s name) kind ≡ true → DueAsComes s site kind
+    due_there Pre e = record { net = begun; here = refl; rule = e; other = refl }
+    due_there Post e = never e
+    due_there Select e = never e
+    due_there kind e = never e
+
+    may_come : MayCome s (case_ident n) site (n + 1)
     may_come =
         record {
           undrawn = ap (λ b. b && true) (le-ltb n s.next (omega (arith, is_counter)));
@@ -85,25 +95,15 @@ module _ (reader : Reader) (s : State) (n : ℕ) (name : List ℕ) (vals : Row) 
           over = not_over;
           no_item = refl;
           not_suspended = refl;
-          not_due = refl;
+          due = due_there;
           something = refl;
           net = λ other e. subst (CaseMayCome s (case_ident n)) (some_same begun other e) case_may_come;
           run = λ r e. nowhere e;
           not_both = λ other e. refl;
         }
 
-    begun_is_well : IsWell reader (make_due (with_next (put s (case_ident n) (stands begun empty_site)) (n + 1)) (case_ident n) Pre)
-    begun_is_well =
-        make_due_is_well reader (with_next (put s (case_ident n) (stands begun empty_site)) (n + 1)) (case_ident n) Pre is_there (λ e. absurd (is_not_select e))
-        (come_is_well reader s (case_ident n) (stands begun empty_site) (n + 1) may_come well)
-      where
-        is_there : is_target (with_next (put s (case_ident n) (stands begun empty_site)) (n + 1)) (case_ident n) ≡ true
-        is_there =
-            ap (λ o. is_some (option_and_then (λ (y : Site). y.net) o) || is_some (option_and_then (λ (y : Site). y.item) o))
-            (get-insert_same by_name s.sites (case_ident n) (stands begun empty_site))
-
-        is_not_select : ¬ (Pre ≡ Select)
-        is_not_select e = cc
+    begun_is_well : IsWell reader (begin_case s n name vals spec net)
+    begun_is_well = come_is_well reader s (case_ident n) site (n + 1) may_come well
 
   launched_is_well : is_some_and (top_called s name) (λ (net : Net). launch_fits net.vars vals) ≡ true → IsWell reader (launch s n name vals)
   launched_is_well fits =
@@ -111,15 +111,12 @@ module _ (reader : Reader) (s : State) (n : ℕ) (name : List ℕ) (vals : Row) 
       (λ none. subst (λ o. IsWell reader (where_some o s begins)) (sym none) well)
       (λ spec called. subst (λ o. IsWell reader (where_some o s begins)) (sym called)
       (by_option (top_called s name)
-      (λ none. subst (λ o. IsWell reader (where_some o s (begins_with spec))) (sym none) well)
-      (λ net top. subst (λ o. IsWell reader (where_some o s (begins_with spec))) (sym top)
+      (λ none. subst (λ o. IsWell reader (where_some o s (begin_case s n name vals spec))) (sym none) well)
+      (λ net top. subst (λ o. IsWell reader (where_some o s (begin_case s n name vals spec))) (sym top)
       (begun_is_well spec net called top (ap (λ o. is_some_and o (λ (other : Net). launch_fits other.vars vals)) (sym top) ∙ fits)))))
     where
-      begins_with : Spec → Net → State
-      begins_with spec net = make_due (with_next (put s (case_ident n) (stands (new_net name spec.top net vals) empty_site)) (n + 1)) (case_ident n) Pre
-
       begins : Spec → State
-      begins spec = where_some (top_called s name) s (begins_with spec)
+      begins spec = where_some (top_called s name) s (begin_case s n name vals spec)
 
 pub launch_keeps_well : (reader : Reader) (s : State) (n : ℕ) (name : List ℕ) (vals : Row) (said : Said) → IsWell reader s → Allowed s (events.Launch n name vals) said → IsWell reader (after s (events.Launch n name vals) said)
 unfolding allows after

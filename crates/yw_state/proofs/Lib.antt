@@ -31,4 +31,3 @@ pub mod EndWell
 pub mod FreshWell
 pub mod LaunchWell
 pub mod RuleNumbers
-pub mod RaiseWell

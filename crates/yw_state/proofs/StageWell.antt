@@ -1,22 +1,22 @@
 -- What is well stays well when an item is begun or completed.
-use Rattle.std.specs.Prelude.{◌≡◌, ◌&&◌, ◌||◌, ℕ, Bool, true, false, not, List, Some, is_some, is_none, refl}
-use Rattle.std.proofs.Common.{sym, ◌∙◌, ap}
-use Rattle.std.proofs.lemmas.Bool.{and_parts, false_from_ne_true, not-true, or_right}
+use Rattle.std.specs.Prelude.{◌≡◌, ◌&&◌, ◌||◌, ℕ, Bool, true, false, not, List, Some, is_some, is_none, option_map, refl}
+use Rattle.std.proofs.Common.{sym, ◌∙◌, ap, subst}
+use Rattle.std.proofs.lemmas.Bool.{and_parts, false_from_ne_true, not-true}
 use Rattle.yw_spec.specs.declared.task.Kind.{Kind}
 use Rattle.yw_spec.specs.declared.task.Kind.TheVariants as kinds
 use Rattle.yw_spec.specs.declared.task.Task.{Task}
-use Rattle.yw_state.proofs.Alike.{item_in}
 use Rattle.yw_state.proofs.Clear.{none_due}
-use Rattle.yw_state.proofs.ItemWell.{GoesOn, going_on_is_well, target_same}
-use Rattle.yw_state.proofs.MapLemmas.{by_option, never, nowhere}
-use Rattle.yw_state.specs.After.{begun, change, complete, completed, with_item}
+use Rattle.yw_state.proofs.ItemWell.{GoesOn, going_on_is_well, item_renewed, renewed}
+use Rattle.yw_state.proofs.MapLemmas.{never}
+use Rattle.yw_state.proofs.MarksWell.{item_due_is_well}
+use Rattle.yw_state.proofs.Parts.{found}
+use Rattle.yw_state.specs.After.{begun, change, complete, completed, where_some, with_item}
 use Rattle.yw_state.specs.Allowed.{Allowed, allows, may_complete}
 use Rattle.yw_state.specs.Events.{after}
 use Rattle.yw_state.specs.Identity.{Ident, parent}
 use Rattle.yw_state.specs.Nets.{child_net, is_atomic}
 use Rattle.yw_state.specs.Options.{is_some_and}
-use Rattle.yw_state.specs.State.{State, Site, ItemAt, is_case, is_target, item_at, item_part, items_of, net_at, net_part}
-use Rattle.yw_state.proofs.MarksWell.{make_due_is_well}
+use Rattle.yw_state.specs.State.{State, Site, ItemAt, is_target, item_at, items_of, net_part}
 use Rattle.yw_state.specs.Passing.{is_defined, made_rows_with, row_fits}
 use Rattle.yw_state.specs.Values.{Row}
 use Rattle.yw_state.specs.Texts.{Reader, Said}
@@ -44,12 +44,6 @@ is_not_select e = cc
 module _ (s : State) (j : Ident) (marks : MarksStand s) where
   was_suspended : (x : Site) → Stands s j x → x.suspended ≡ true → is_target s j ≡ true
   was_suspended x stands e = marks.suspended j (ap (λ o. is_some_and o (λ (y : Site). y.suspended)) stands ∙ e)
-
-item_there : (s : State) (j : Ident) (x : ItemAt) → item_at s j ≡ Some x → is_target s j ≡ true
-item_there s j x e =
-    by_option (item_part s j)
-    (λ none. nowhere (ap (λ o. item_in o (net_at s (parent j))) (sym none) ∙ e))
-    (λ part some. or_right (is_case s j) (is_some (item_part s j)) (ap is_some some))
 
 -- a fact of the item that is there
 of_item : (s : State) (j : Ident) (test : ItemAt → Bool) → is_some_and (item_at s j) test ≡ true → (x : ItemAt) → item_at s j ≡ Some x → test x ≡ true
@@ -122,17 +116,11 @@ module _ (reader : Reader) (s : State) (j : Ident) (well : IsWell reader s) (cal
               };
         }
 
-    has_item : is_target s j ≡ true
-    has_item =
-        by_option (item_at s j)
-        (λ none. never (ap (λ o. is_some_and o (may_complete s j out)) (sym none) ∙ completes))
-        (λ x some. item_there s j x some)
-
-    completed_is_well : IsWell reader (complete s j out)
-    completed_is_well =
-        let now = change s j (with_item (completed out)) in
-        make_due_is_well reader now j Post (target_same s j (with_item (completed out)) (completed out) complete_goes j ∙ has_item) (λ e. absurd (is_not_select e))
-        (going_on_is_well s j (with_item (completed out)) (completed out) complete_goes reader well)
+    completed_is_well : (x : ItemAt) → item_at s j ≡ Some x → IsWell reader (complete s j out x)
+    completed_is_well x some =
+        item_due_is_well reader (change s j (with_item (completed out))) j
+        (going_on_is_well s j (with_item (completed out)) (completed out) complete_goes reader well) (renewed (completed out) x)
+        (item_renewed s j (with_item (completed out)) (completed out) complete_goes ∙ ap (option_map (renewed (completed out))) some) Post (λ e. absurd (is_not_select e))
 
 pub start_keeps_well : (reader : Reader) (s : State) (j : Ident) (who : List ℕ) (said : Said) → IsWell reader s → Allowed s (events.Start j who) said → IsWell reader (after s (events.Start j who) said)
 unfolding allows after
@@ -144,4 +132,5 @@ pub complete_keeps_well : (reader : Reader) (s : State) (j : Ident) (out : Row) 
 unfolding allows after
 complete_keeps_well reader s j out said well allowed =
     let parts = and_parts (clear s j && not (busy s j)) (is_some_and (item_at s j) (may_complete s j out)) allowed.0 in
-    completed_is_well reader s j well parts.0 out parts.1
+    let x = found (item_at s j) (may_complete s j out) parts.1 in
+    subst (λ o. IsWell reader (where_some o s (complete s j out))) (sym x.1) (completed_is_well reader s j well parts.0 out parts.1 x.0 x.1)

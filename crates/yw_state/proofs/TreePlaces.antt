@@ -1,7 +1,13 @@
--- A tree's place is known by its key.
-use Rattle.std.specs.Prelude.{◌≡◌, ℕ, zero, suc, List, [], ◌∷◌, Option, Some, None, refl}
-use Rattle.std.proofs.Common.{sym, ◌∙◌, ap}
-use Rattle.yw_state.specs.Judged.{kind_number, name_key, place_key}
+-- A tree's place is known by its key. What a case or an item is judged by is the tree at its place.
+use Rattle.std.specs.Prelude.{◌≡◌, ℕ, zero, suc, true, false, List, [], ◌∷◌, length, Option, Some, None, is_some, refl}
+use Rattle.std.proofs.Common.{sym, ◌∙◌, ap, arith}
+use Rattle.std.proofs.lemmas.Bool.{and_from, eqb-true, false_from_ne_true, or_left, or_right}
+use Rattle.yw_state.proofs.Alike.{asked_of}
+use Rattle.yw_state.proofs.Tests.{then_some}
+use Rattle.yw_state.specs.Identity.{Ident, is_case_ident}
+use Rattle.yw_state.specs.Judged.{case_place, has_rule, has_rules, kind_number, name_key, place_key, task_place}
+use Rattle.yw_state.specs.State.{State, NetPart, ItemPart, ItemAt, is_case, is_item, is_target, item_at, item_part, net_part}
+use Rattle.yw_state.specs.Well.{ParentsStand}
 use Rattle.yw_state.specs.declared.tree.TreeKind.{TreeKind}
 use Rattle.yw_state.specs.declared.tree.TreeKind.TheVariants.{Pre, Post, Select, External, Timeout, Abort}
 use Rattle.yw_state.specs.declared.tree.TreePlace.{TreePlace}
@@ -47,3 +53,30 @@ same_place p = λ i. record { spec = p.spec; net = same_name p.net i; task = sam
 
 pub one_place : (p q : TreePlace) → place_key p ≡ place_key q → p ≡ q
 one_place p q e = sym (same_place p) ∙ ap place_of e ∙ same_place q
+
+module _ (s : State) (j : Ident) where
+  -- ---- a case
+
+  module _ (n : NetPart) (of_case : is_case_ident j ≡ true) (net : net_part s j ≡ Some n) where
+    pub case_is_target : is_target s j ≡ true
+    case_is_target = or_left (is_case s j) (is_item s j) (and_from (is_case_ident j) (is_some (net_part s j)) of_case (ap is_some net))
+
+    pub case_has_rule : (kind : TreeKind) → has_rule s j kind ≡ has_rules s (case_place n.spec kind)
+    case_has_rule kind = ap (λ b. asked_of b s (net_part s j) (item_at s j) kind) of_case ∙ ap (λ o. asked_of true s o (item_at s j) kind) net
+
+  -- ---- an item
+
+  module _ (x : ItemAt) (item : item_at s j ≡ Some x) where
+    part_there : (y : ItemPart) × (item_part s j ≡ Some y)
+    part_there = let found = then_some _ (item_part s j) x item in (found.0, found.1)
+
+    pub item_is_target : is_target s j ≡ true
+    item_is_target = or_right (is_case s j) (is_item s j) (ap is_some part_there.1)
+
+    pub item_is_no_case : ParentsStand s → is_case_ident j ≡ false
+    item_is_no_case parents =
+        false_from_ne_true (is_case_ident j) (λ one. absurd (omega (arith, eqb-true (length j) 1 one, parents.item_depth j part_there.0 part_there.1)))
+
+    pub item_has_rule : ParentsStand s → (kind : TreeKind) → has_rule s j kind ≡ has_rules s (task_place x.of_task kind)
+    item_has_rule parents kind =
+        ap (λ b. asked_of b s (net_part s j) (item_at s j) kind) (item_is_no_case parents) ∙ ap (λ o. asked_of false s (net_part s j) o kind) item

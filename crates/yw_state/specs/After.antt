@@ -9,9 +9,9 @@ use Rattle.yw_spec.specs.declared.spec.Place.{Place}
 use Rattle.yw_spec.specs.declared.spec.Spec.{Spec}
 use Rattle.yw_spec.specs.declared.task.Task.{Task}
 use Rattle.yw_state.specs.Allowed.{exit_values, place_numbers}
-use Rattle.yw_state.specs.ByName.{Named, first_values, given_named}
+use Rattle.yw_state.specs.ByName.{Valuation, first_values, given_named}
 use Rattle.yw_state.specs.Identity.{Ident, case_ident, child, is_case_ident}
-use Rattle.yw_state.specs.Judged.{conclusion_at, has_rule, place_key, rules_at}
+use Rattle.yw_state.specs.Judged.{case_place, conclusion_at, has_rules, place_key, rules_at, task_place}
 use Rattle.yw_state.specs.Map.{insert, update}
 use Rattle.yw_state.specs.Nets.{child_net, is_among, is_atomic}
 use Rattle.yw_state.specs.Passing.{entry_values, given_values}
@@ -70,8 +70,8 @@ new_net spec k net vals = record { spec = spec; net = k; vals = vals; tokens = s
 abbrev pub stands : NetPart → Site → Site
 stands n x = record x { net = Some n }
 
-abbrev pub new_item : ℕ → Row → Site
-new_item k given = record empty_site { item = Some (record { task = k; stage = Ready; given = given; made = []; who = None }) }
+abbrev pub new_item : ℕ → Row → Checks → Site
+new_item k given due = record empty_site { item = Some (record { task = k; stage = Ready; given = given; made = []; who = None }); due = due }
 
 abbrev pub new_run : List Primitive → Site
 new_run ps = record empty_site { run = Some (record { rest = ps; waiting = false }) }
@@ -84,9 +84,9 @@ due_where true Select c = record c { select = true }
 due_where true Post c = record c { post = true }
 due_where b kind c = c
 
--- the check is due at j from now on, if its tree has a rule
-abbrev pub make_due : State → Ident → TreeKind → State
-make_due s j kind = change s j (λ x. record x { due = due_where (has_rule s j kind) kind x.due })
+-- the check by the tree at this place is due at j from now on, if that tree has a rule
+abbrev pub make_due : State → Ident → TreePlace → State
+make_due s j p = change s j (λ x. record x { due = due_where (has_rules s p) p.kind x.due })
 
 abbrev pub without_check : TreeKind → Checks → Checks
 without_check Pre c = record c { pre = false }
@@ -99,8 +99,16 @@ abbrev pub pass : State → Ident → TreeKind → State
 pass s j kind = change s j (λ x. record x { due = without_check kind x.due })
 
 -- an atomic task's item may have a worklet chosen for it
-abbrev pub make_select_due : State → Ident → Task → State
-make_select_due s j t = if is_atomic t then make_due s j Select else s
+abbrev pub make_select_due : State → Ident → TaskAt → State
+make_select_due s j x = if is_atomic x.task then make_due s j (task_place x Select) else s
+
+-- what is due at a case as it begins
+abbrev pub case_checks : State → List ℕ → Checks
+case_checks s name = record no_checks { pre = has_rules s (case_place name Pre) }
+
+-- what is due at an item of the task as it comes
+abbrev pub item_checks : State → TaskAt → Checks
+item_checks s x = record no_checks { pre = has_rules s (task_place x Pre); select = is_atomic x.task && has_rules s (task_place x Select) }
 
 -- ---- tokens
 
@@ -142,9 +150,11 @@ add_rule s p at side when conclusion said = s
 
 -- ---- a case begins
 
+abbrev pub new_case : List ℕ → Spec → Net → Row → Checks → Site
+new_case name spec net vals due = record empty_site { net = Some (new_net name spec.top net vals); due = due }
+
 abbrev pub begin_case : State → ℕ → List ℕ → Row → Spec → Net → State
-begin_case s n name vals spec net =
-    make_due (with_next (put s (case_ident n) (stands (new_net name spec.top net vals) empty_site)) (n + 1)) (case_ident n) Pre
+begin_case s n name vals spec net = with_next (put s (case_ident n) (new_case name spec net vals (case_checks s name))) (n + 1)
 
 -- with a specification and its top net
 abbrev pub where_spec : State → List ℕ → (Spec → Net → State) → State
@@ -155,12 +165,12 @@ launch s n name vals = where_spec s name (begin_case s n name vals)
 
 -- ---- items come
 
-abbrev pub add_item : TaskAt → Ident → State → ℕ × Row → State
-add_item x i s e = make_select_due (make_due (put s (child i e.0) (new_item x.number e.1)) (child i e.0) Pre) (child i e.0) x.task
+abbrev pub add_item : TaskAt → Ident → Checks → State → ℕ × Row → State
+add_item x i due s e = put s (child i e.0) (new_item x.number e.1 due)
 
 -- items that are given these, numbered from the first number on
 abbrev pub add_items : TaskAt → Ident → ℕ → List Row → State → State
-add_items x i first rows s = with_next (fold (add_item x i) s (zip (range_with_len first (length rows)) rows)) (first + length rows)
+add_items x i first rows s = with_next (fold (add_item x i (item_checks s x)) s (zip (range_with_len first (length rows)) rows)) (first + length rows)
 
 abbrev pub enter_with : State → Ident → TaskAt → ℕ → List ℕ → List Row → State
 enter_with s i x first taken rows = add_items x i first rows (take s i taken)
@@ -180,11 +190,11 @@ begun who x = record x { stage = Executing; who = who }
 abbrev pub completed : Row → ItemPart → ItemPart
 completed out x = record x { stage = Completed; made = out }
 
-abbrev pub complete : State → Ident → Row → State
-complete s j out = make_due (change s j (with_item (completed out))) j Post
+abbrev pub complete : State → Ident → Row → ItemAt → State
+complete s j out x = make_due (change s j (with_item (completed out))) j (task_place x.of_task Post)
 
 -- a net of this specification begins at item j, with values by name
-abbrev pub begin_at : State → Ident → List ℕ → ℕ → Named → Option (List ℕ) → Net → State
+abbrev pub begin_at : State → Ident → List ℕ → ℕ → Valuation → Option (List ℕ) → Net → State
 begin_at s j spec k source who net = change s j (λ at. stands (new_net spec k net (first_values source net)) (with_item (begun who) at))
 
 abbrev pub net_numbered : Spec → Task → Option (ℕ × Net)
@@ -200,7 +210,7 @@ substitute s j name x = where_spec s name (λ spec net. begin_at (pass s j Selec
 
 -- the item's net is at its end, and hands this back
 abbrev pub end_net : State → Ident → (NetAt → ItemAt → Row) → ItemAt → State
-end_net s j made x = where_some (net_at s j) s (λ n. complete (with_sites s (bare s.sites j)) j (made n x))
+end_net s j made x = where_some (net_at s j) s (λ n. complete (with_sites s (bare s.sites j)) j (made n x) x)
 
 -- ---- a task exits
 
@@ -218,13 +228,24 @@ abbrev pub empty_region : State → Ident → Task → State
 empty_region s i t = fold (without_items i) (wipe s i t.drop_places) t.drop_tasks
 
 -- an exit that marks the output of a case's own net
-abbrev pub post_at_output : State → Ident → Net → List ℕ → State
-post_at_output s i net cs = if is_case_ident i && is_among cs net.output then make_due s i Post else s
+abbrev pub post_at_output : State → Ident → NetAt → List ℕ → State
+post_at_output s i n cs = if is_case_ident i && is_among cs n.net.output then make_due s i (case_place n.part.spec Post) else s
 
--- the task's items go, the assignments are made, the removal set is emptied, and a token comes to each of the places
+-- first the task's items go
+abbrev pub items_gone : State → Ident → TaskAt → State
+items_gone s i x = without_items i s x.number
+
+-- then the assignments are made, over the values and the items as they were
+abbrev pub values_assigned : State → Ident → TaskAt → State
+values_assigned s i x = set_values (items_gone s i x) i (exit_values s i x)
+
+-- then the removal set is emptied
+abbrev pub region_emptied : State → Ident → TaskAt → State
+region_emptied s i x = empty_region (values_assigned s i x) i x.task
+
+-- and then a token comes to each of the places
 abbrev pub exit_to : State → Ident → TaskAt → List ℕ → State
-exit_to s i x cs =
-    post_at_output (produce (empty_region (set_values (without_items i s x.number) i (exit_values s i x)) i x.task) i cs) i x.within.net cs
+exit_to s i x cs = post_at_output (produce (region_emptied s i x) i cs) i x.within cs
 
 abbrev pub exit : State → Ident → List Place → TaskAt → State
 exit s i places x = exit_to s i x (unwrap_or (place_numbers x.within.net places) [])

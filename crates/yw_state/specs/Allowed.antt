@@ -1,7 +1,7 @@
 -- Where each event is allowed: one row for each kind, a test that computes, and one fact, that an OR-join doesn't wait. The rows from
 -- Launch to CompleteEmpty are the paper's transitions; those from Pass on are after the thesis; all that concerns values, numbers and
 -- the order of checks is our own.
-use Rattle.std.specs.Prelude.{◌≡◌, ℕ, ◌+◌, ◌==◌, ◌&&◌, ◌||◌, Bool, true, false, not, List, [], ◌∷◌, map, filter, length, Option, Some, is_some, is_none, option_and_then, slice_get, nat_le, nat_lt, nat_eq, IsTrue}
+use Rattle.std.specs.Prelude.{◌≡◌, ℕ, ◌+◌, ◌==◌, ◌&&◌, ◌||◌, Bool, true, false, not, List, [], ◌∷◌, map, filter, length, Option, Some, is_some, is_none, option_and_then, slice_get, nat_le, nat_lt, nat_eq, IsTrue, if◌then◌else◌}
 use Rattle.std.specs.Cmp.Lexicographic.{pointwise}
 use Rattle.std.specs.List.{list_all}
 use Rattle.std.specs.Str.{bytes_eq}
@@ -173,10 +173,17 @@ concludes s j kind node = is_some_and (judged s j kind) (λ k. k == node)
 abbrev pub depth_end : ℕ
 depth_end = 32
 
--- what the tree concludes can't be begun: a worklet would stand too deep, or no number is left for a run
-abbrev pub cannot_begin : State → Ident → Bool → Bool
-cannot_begin s j true = nat_le depth_end (length j)
-cannot_begin s j false = s.next == number_end
+-- a worklet at j would stand too deep
+abbrev pub is_too_deep : Ident → Bool
+is_too_deep j = nat_le depth_end (length j)
+
+-- no number is left for a run
+abbrev pub none_is_left : State → Bool
+none_is_left s = s.next == number_end
+
+-- what the tree concludes can't be begun
+abbrev pub cannot_begin : State → Ident → TreeKind → Bool
+cannot_begin s j kind = if is_select kind then is_too_deep j else none_is_left s
 
 abbrev pub is_worklet : List ℕ → Conclusion → Bool
 is_worklet name (Worklet other) = bytes_eq other name
@@ -220,7 +227,7 @@ allows s (events.Cancel n) said = is_case s (case_ident n)
 allows s (events.StartSub j) said = clear s j && not (busy s j) && is_some_and (item_at s j) (composite_is ready)
 allows s (events.CompleteSub j) said = clear s j && not (busy s j) && is_some_and (item_at s j) (composite_is executing) && at_output s j
 allows s (events.CompleteEmpty j) said = clear s j && is_some_and (item_at s j) (λ x. ready x && is_empty x.of_task.task)
-allows s (events.Pass j check) said = comes_next s j check && (is_none (judged s j check) || cannot_begin s j (is_select check))
+allows s (events.Pass j check) said = comes_next s j check && (is_none (judged s j check) || cannot_begin s j check)
 allows s (events.Except j check node n) said = begins_exlet check && comes_next s j check && concludes s j check node && is_next s n
 allows s (events.Substitute j worklet) said = comes_next s j kinds.Select && nat_lt (length j) depth_end && chooses s j worklet
 allows s (events.CompleteWorklet j) said = clear s j && not (busy s j) && is_some_and (item_at s j) (atomic_is executing) && at_output s j

@@ -1,10 +1,9 @@
 -- What a query is told, read off the maps. What is told, and in which order, is our own.
-use Rattle.std.specs.Prelude.{◌≡◌, ◌↔◌, ℕ, ◌==◌, ◌&&◌, Bool, true, false, List, [], ◌∷◌, ◌++◌, map, zip, filter, Option, Some, None, option_map, option_and_then, slice_get, Contains, if◌then◌else◌}
-use Rattle.std.specs.List.{filter_map, flat_map, enumerate_from}
+use Rattle.std.specs.Prelude.{◌≡◌, ◌≤◌, ◌↔◌, ℕ, ◌==◌, ◌&&◌, Bool, true, false, List, [], ◌∷◌, ◌++◌, map, zip, filter, Option, Some, None, option_map, slice_get, Contains, if◌then◌else◌}
+use Rattle.std.specs.List.{filter_map, flat_map}
 use Rattle.std.specs.Ordering.{is_lt, ordering_then}
 use Rattle.yw_base.specs.declared.value.Value.{Value}
 use Rattle.yw_spec.specs.Net.{place_text}
-use Rattle.yw_spec.specs.declared.spec.Place.{Place}
 use Rattle.yw_spec.specs.declared.spec.Var.{Var}
 use Rattle.yw_state.specs.Broken.{Check, test, fact, test_at, fact_at, fault, First, enter_checks, start_checks, complete_checks}
 use Rattle.yw_state.specs.Identity.{Ident, case_number}
@@ -74,22 +73,23 @@ IsWorkOf s who at task Complete = First (of_work (complete_checks s who at [])) 
 abbrev pub IsWork : State → List ℕ → WorkRow → Type 0
 IsWork s who row = IsWorkOf s who row.at row.task row.what
 
-abbrev comes_before : WorkRow → WorkRow → Bool
-comes_before a b = is_lt (ordering_then (lexical a.at b.at) (lexical a.task b.task))
+-- each comes before the next
+abbrev pub rises : {A : Type 0} → (A → A → Bool) → List A → Bool
+rises before [] = true
+rises before (a ∷ []) = true
+rises before (a ∷ b ∷ rows) = before a b && rises before (b ∷ rows)
 
-abbrev rises : List WorkRow → Bool
-rises [] = true
-rises (a ∷ []) = true
-rises (a ∷ b ∷ rows) = comes_before a b && rises (b ∷ rows)
+abbrev work_before : WorkRow → WorkRow → Bool
+work_before a b = is_lt (ordering_then (lexical a.at b.at) (lexical a.task b.task))
 
 -- Exactly the work of the person, in order of identity, then of the task's name.
 pub record IsWorkList (s : State) (who : List ℕ) (rows : List WorkRow) : Type 0 where
-  pub ordered : rises rows ≡ true
+  pub ordered : rises work_before rows ≡ true
   pub exact : (row : WorkRow) → Contains rows row ↔ IsWork s who row
 
 -- ---- all that stands in a case
 
-abbrev of_case : State → ℕ → List (Ident × Site)
+abbrev pub of_case : State → ℕ → List (Ident × Site)
 of_case s n = filter (λ e. case_number e.0 == n) (entries s.sites)
 
 abbrev if_due : Bool → TreeKind → List TreeKind
@@ -98,51 +98,48 @@ if_due b kind = if b then kind ∷ [] else []
 abbrev due_checks : Checks → List TreeKind
 due_checks c = if_due c.pre Pre ++ (if_due c.select Select ++ if_due c.post Post)
 
-abbrev due_rows : Ident × Site → List DueRow
+abbrev pub due_rows : Ident × Site → List DueRow
 due_rows e = map (λ check. record { at = e.0; check = check }) (due_checks e.1.due)
 
-abbrev item_row : State → Ident × Site → Option ItemRow
+abbrev pub item_row : State → Ident × Site → Option ItemRow
 item_row s e = option_map (λ (x : ItemAt). record { item = e.0; task = x.of_task.task.name; stage = x.part.stage; who = x.part.who }) (item_at s e.0)
 
 abbrev named_value : Var × Value → NamedValue
 named_value e = record { name = e.0.name; value = e.1 }
 
-abbrev net_row : State → Ident × Site → Option NetRow
+abbrev pub net_row : State → Ident × Site → Option NetRow
 net_row s e =
     option_map (λ (n : NetAt). record { net = e.0; spec = n.part.spec; name = n.net.name; values = map named_value (zip n.net.vars n.part.vals) }) (net_at s e.0)
 
-abbrev run_row : Ident × Site → Option RunRow
+abbrev pub run_row : Ident × Site → Option RunRow
 run_row e = option_map (λ (r : RunPart). record { run = e.0; waiting = r.waiting; rest = r.rest }) e.1.run
 
-abbrev if_marked : Ident → ℕ → Place → Option TokenRow
-if_marked i count p = if count == 0 then None else Some (record { net = i; place = p; count = count })
+-- So many tokens are on a place of a net of the case, one at least.
+pub record IsTokenRow (s : State) (n : ℕ) (row : TokenRow) : Type 0 where
+  pub in_case : case_number row.net ≡ n
+  pub net : NetAt
+  pub here : net_at s row.net ≡ Some net
+  pub number : ℕ
+  pub place : slice_get net.net.places number ≡ Some row.place
+  pub count : slice_get net.part.tokens number ≡ Some row.count
+  pub some : 1 ≤ row.count
 
-abbrev token_row : NetAt → Ident → ℕ × ℕ → Option TokenRow
-token_row n i e = option_and_then (if_marked i e.1) (slice_get n.net.places e.0)
+abbrev pub token_before : TokenRow → TokenRow → Bool
+token_before a b = is_lt (ordering_then (lexical a.net b.net) (lexical (place_text a.place) (place_text b.place)))
 
--- behind those whose places' texts are not greater
-abbrev placed_among : TokenRow → List TokenRow → List TokenRow
-placed_among r [] = r ∷ []
-placed_among r (q ∷ qs) = if is_lt (lexical (place_text r.place) (place_text q.place)) then r ∷ q ∷ qs else q ∷ placed_among r qs
+-- Exactly the tokens of the case, in order of the net's identity, then of the place's text.
+pub record IsTokenList (s : State) (n : ℕ) (rows : List TokenRow) : Type 0 where
+  pub ordered : rises token_before rows ≡ true
+  pub exact : (row : TokenRow) → Contains rows row ↔ IsTokenRow s n row
 
-abbrev by_place : List TokenRow → List TokenRow
-by_place [] = []
-by_place (r ∷ rs) = placed_among r (by_place rs)
-
-abbrev rows_of_net : Ident → Option NetAt → List TokenRow
-rows_of_net i None = []
-rows_of_net i (Some n) = by_place (filter_map (token_row n i) (enumerate_from 0 n.part.tokens))
-
-abbrev pub shown : State → ℕ → Shown
-shown s n =
-    record {
-      due = flat_map due_rows (of_case s n);
-      items = filter_map (item_row s) (of_case s n);
-      nets = filter_map (net_row s) (of_case s n);
-      runs = filter_map run_row (of_case s n);
-      suspended = map (λ e. e.0) (filter (λ e. e.1.suspended) (of_case s n));
-      tokens = flat_map (λ e. rows_of_net e.0 (net_at s e.0)) (of_case s n);
-    }
+-- All that stands in the case, each kind in order of identity.
+pub record IsShown (s : State) (n : ℕ) (x : Shown) : Type 0 where
+  pub due : x.due ≡ flat_map due_rows (of_case s n)
+  pub items : x.items ≡ filter_map (item_row s) (of_case s n)
+  pub nets : x.nets ≡ filter_map (net_row s) (of_case s n)
+  pub runs : x.runs ≡ filter_map run_row (of_case s n)
+  pub suspended : x.suspended ≡ map (λ e. e.0) (filter (λ e. e.1.suspended) (of_case s n))
+  pub tokens : IsTokenList s n x.tokens
 
 -- ---- cases that are over, and specifications
 

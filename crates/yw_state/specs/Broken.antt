@@ -13,7 +13,7 @@ use Rattle.yw_spec.specs.declared.spec.Var.{Var}
 use Rattle.yw_spec.specs.declared.task.Assign.{Assign}
 use Rattle.yw_spec.specs.declared.task.Param.{Param}
 use Rattle.yw_spec.specs.declared.task.Task.{Task}
-use Rattle.yw_state.specs.Automatic.{IsQuiet}
+use Rattle.yw_state.specs.Automatic.{Comes}
 use Rattle.yw_state.specs.Given.{element_value, made_values, misfit, unwanted}
 use Rattle.yw_state.specs.Identity.{Ident, case_number, is_case_ident, parent}
 use Rattle.yw_state.specs.Joins.{Waits, has_tokens}
@@ -33,6 +33,7 @@ use Rattle.yw_state.specs.declared.command.Command.TheVariants as commands
 use Rattle.yw_state.specs.declared.command.Given.{Given}
 use Rattle.yw_state.specs.declared.command.Query.{Query}
 use Rattle.yw_state.specs.declared.command.Query.TheVariants as queries
+use Rattle.yw_state.specs.declared.event.Event.{Event}
 use Rattle.yw_state.specs.declared.rule.Refusal.{Refusal}
 use Rattle.yw_state.specs.declared.rule.Rule.{Rule}
 use Rattle.yw_state.specs.declared.rule.Rule.TheVariants.{SpecExists, UnknownSpec, UnknownPlace, PlaceTaken, BadExpr, BadConclusion, UnknownPerson, UnknownCase, UnknownItem, NotQuiet, UnknownTask, ByItself, NotDynamic, Role, Held, Active, NotEnabled, OrWaits, Stage, NotYours, Busy, MaxReached, BadData, Output, Mapping, Count, NoTrigger, NoExlet, Mark, Numbers}
@@ -96,7 +97,7 @@ is_spent s count = nat_lt number_end (s.next + count)
 
 -- something is still to come of itself
 abbrev IsMoving : State → Ident → Type 0
-IsMoving s j = IsQuiet s (case_number j) → ⊥
+IsMoving s j = (e : Event) × Comes s (case_number j) e
 
 -- no case at one number, no item at several
 abbrev no_target : State → Ident → List Check
@@ -151,11 +152,12 @@ launch_checks s name gs =
     ∷ test (is_spent s 1) Numbers
     ∷ []
 
-abbrev pub misses_bounds : TaskAt → Bool
-misses_bounds x = not (within_bounds x.task.many (length (unwrap_or (entry_values x.task x.within.part.vals) [])))
-
-abbrev entry_count : TaskAt → ℕ
+-- so many items come where the task is entered
+abbrev pub entry_count : TaskAt → ℕ
 entry_count x = length (unwrap_or (entry_values x.task x.within.part.vals) [])
+
+abbrev pub misses_bounds : TaskAt → Bool
+misses_bounds x = not (within_bounds x.task.many (entry_count x))
 
 abbrev WaitsThere : State → Ident → List ℕ → Type 0
 WaitsThere s i t = (x : TaskAt) × (task_at s i t ≡ Some x) × IsTrue (is_or x.task.join) × Waits s i x

@@ -15,13 +15,13 @@ use Rattle.yw_state.specs.State.{State, NetAt, ItemAt, net_at, item_at}
 use Rattle.yw_state.specs.Values.{Row}
 
 -- what has a value under which name
-abbrev pub Named : Type 0
-Named = List ℕ → Option Value
+abbrev pub Valuation : Type 0
+Valuation = List ℕ → Option Value
 
-abbrev pub param_value : List Param → Row → Named
+abbrev pub param_value : List Param → Row → Valuation
 param_value ps vs name = option_map (λ e. e.1) (find (λ (e : Param × Value). bytes_eq e.0.name name) (zip ps vs))
 
-abbrev value_among : List (Var × Value) → Named
+abbrev value_among : List (Var × Value) → Valuation
 value_among es name = option_map (λ e. e.1) (find (λ (e : Var × Value). bytes_eq e.0.name name) es)
 
 -- the value, where it is of the sort
@@ -30,28 +30,28 @@ of_sort sort v = if has_sort v sort then Some v else None
 
 -- ---- what a net or an item has
 
-abbrev pub var_named : NetAt → Named
+abbrev pub var_named : NetAt → Valuation
 var_named n = value_among (zip n.net.vars n.part.vals)
 
 -- of the variables whose values are handed back
-abbrev handed_back : NetAt → Named
+abbrev handed_back : NetAt → Valuation
 handed_back n = value_among (filter (λ (e : Var × Value). goes_out e.0.usage) (zip n.net.vars n.part.vals))
 
-abbrev pub given_named : ItemAt → Named
+abbrev pub given_named : ItemAt → Valuation
 given_named x = param_value x.of_task.task.ins x.part.given
 
 -- what a run at j hands to its compensation: a case's variables, or what an item was given
-abbrev pub source_at : State → Ident → Named
+abbrev pub source_at : State → Ident → Valuation
 source_at s j name =
     if is_case_ident j then option_and_then (λ n. var_named n name) (net_at s j) else option_and_then (λ x. given_named x name) (item_at s j)
 
 -- ---- what a net begins with
 
-abbrev begins_with : Named → Var → Value
+abbrev begins_with : Valuation → Var → Value
 begins_with source x = if comes_in x.usage then unwrap_or (option_and_then (of_sort x.sort) (source x.name)) x.init else x.init
 
 -- a variable into which values come has the one of its name and sort, and any other its own first value
-abbrev pub first_values : Named → Net → Row
+abbrev pub first_values : Valuation → Net → Row
 first_values source net = map (begins_with source) net.vars
 
 -- ---- what an item has made when its net is at its end

@@ -30,7 +30,7 @@ restarted x = record x { stage = Ready; who = None; made = [] }
 
 -- the item begins anew, and a worklet may be chosen for it again
 abbrev pub restart_item : State → Ident → Ident → ItemAt → State
-restart_item s r j x = make_select_due (cut_back s r j restarted) j x.of_task.task
+restart_item s r j x = make_select_due (cut_back s r j restarted) j x.of_task
 
 -- the item counts as completed, and has made what it was given; it stays as it is where it is completed
 abbrev pub complete_item : State → Ident → Ident → ItemAt → State
@@ -47,8 +47,8 @@ begin_compensation s r j name spec net = change s r (λ x. stands (new_net name 
 abbrev pub compensate : State → Ident → Ident → List ℕ → State
 compensate s r j name = if nat_lt (length r) depth_end then where_spec s name (begin_compensation s r j name) else s
 
-abbrev pub case_of : Ident → Ident
-case_of r = case_ident (case_number r)
+abbrev pub case_above : Ident → Ident
+case_above r = case_ident (case_number r)
 
 -- what the primitive does, taken by run r at j
 abbrev pub primitive : State → Ident → Ident → Primitive → State
@@ -57,8 +57,8 @@ primitive s r j ContinueItem = continue_at s j
 primitive s r j RestartItem = where_some (item_at s j) s (restart_item s r j)
 primitive s r j CompleteItem = where_some (item_at s j) s (complete_item s r j)
 primitive s r j RemoveItem = with_sites s (drop s.sites j)
-primitive s r j SuspendCase = suspend s (case_of r)
-primitive s r j ContinueCase = continue_at s (case_of r)
+primitive s r j SuspendCase = suspend s (case_above r)
+primitive s r j ContinueCase = continue_at s (case_above r)
 primitive s r j RemoveCase = end_case s (case_number r) Removed
 primitive s r j (Compensate name) = compensate s r j name
 primitive s r j (Unknown text) = s

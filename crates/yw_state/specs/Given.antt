@@ -4,11 +4,9 @@ use Rattle.std.specs.Prelude.{ℕ, ◌&&◌, Bool, not, List, [], ◌∷◌, map
 use Rattle.std.specs.Option.{option_or}
 use Rattle.std.specs.List.{list_any}
 use Rattle.std.specs.Str.{bytes_eq}
-use Rattle.yw_base.specs.Values.{may_hold}
+use Rattle.yw_base.specs.Values.{may_hold, meant}
 use Rattle.yw_base.specs.declared.value.Sort.{Sort}
-use Rattle.yw_base.specs.declared.value.Sort.TheVariants as sorts
 use Rattle.yw_base.specs.declared.value.Value.{Value}
-use Rattle.yw_base.specs.declared.value.Value.TheVariants as values
 use Rattle.yw_spec.specs.declared.spec.Var.{Var}
 use Rattle.yw_spec.specs.declared.task.Param.{Param}
 use Rattle.yw_spec.specs.declared.task.Task.{Task}
@@ -18,10 +16,6 @@ use Rattle.yw_base.specs.Usages.{comes_in}
 use Rattle.yw_state.specs.Options.{all_of}
 use Rattle.yw_state.specs.Values.{Row}
 use Rattle.yw_state.specs.declared.command.Given.{Given}
-
-abbrev meant : Sort → Value → Value
-meant sorts.Texts (values.Ints []) = values.Texts []
-meant sort v = v
 
 abbrev if_fitting : Sort → Value → Option Value
 if_fitting sort v = if may_hold sort v then Some v else None

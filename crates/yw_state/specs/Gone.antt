@@ -5,7 +5,7 @@ use Rattle.std.specs.List.{list_any}
 use Rattle.yw_base.specs.Identity.{under}
 use Rattle.yw_spec.specs.declared.spec.Place.{Place}
 use Rattle.yw_state.specs.Allowed.{place_numbers}
-use Rattle.yw_state.specs.Exlets.{case_of}
+use Rattle.yw_state.specs.Exlets.{case_above}
 use Rattle.yw_state.specs.Identity.{Ident, same, strictly_under, case_ident, parent}
 use Rattle.yw_state.specs.Nets.{is_among}
 use Rattle.yw_state.specs.Options.{is_some_and}
@@ -33,7 +33,7 @@ abbrev pub primitive_removes : State → Ident → Ident → Primitive → Bool
 primitive_removes s r j RestartItem = is_some (item_at s (parent r)) && cut_back_removes r j
 primitive_removes s r j CompleteItem = is_some_and (item_at s (parent r)) (λ x. not (is_completed x.part.stage)) && cut_back_removes r j
 primitive_removes s r j RemoveItem = under j (parent r)
-primitive_removes s r j RemoveCase = under j (case_of r)
+primitive_removes s r j RemoveCase = under j (case_above r)
 primitive_removes s r j p = false
 
 -- the event removes what stands at j; an event of no row here removes nothing

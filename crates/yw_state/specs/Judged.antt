@@ -13,7 +13,7 @@ use Rattle.yw_state.specs.Map.{get}
 use Rattle.yw_state.specs.Nets.{child_net, is_atomic, net_called, task_called}
 use Rattle.yw_state.specs.Options.{is_some_and}
 use Rattle.yw_state.specs.RuleTree.{TreeRule, concluded}
-use Rattle.yw_state.specs.State.{State, NetPart, ItemAt, TaskAt, net_part, item_at}
+use Rattle.yw_state.specs.State.{State, ItemAt, TaskAt, net_part, item_at}
 use Rattle.yw_state.specs.Values.{Row}
 use Rattle.yw_state.specs.Words.{is_completed}
 use Rattle.yw_state.specs.declared.tree.Conclusion.{Conclusion}
@@ -43,6 +43,10 @@ place_key p = p.spec ∷ name_key p.net ∷ name_key p.task ∷ (kind_number p.k
 abbrev pub rules_at : State → TreePlace → List TreeRule
 rules_at s p = unwrap_or (get s.rules (place_key p)) []
 
+-- the tree at this place has a rule
+abbrev pub has_rules : State → TreePlace → Bool
+has_rules s p = nat_lt 0 (length (rules_at s p))
+
 abbrev pub is_select : TreeKind → Bool
 is_select Select = true
 is_select kind = false
@@ -66,8 +70,8 @@ has_place spec net task kind = false
 abbrev pub is_tree_place : Spec → TreePlace → Bool
 is_tree_place spec p = has_place spec p.net p.task p.kind
 
-abbrev pub case_place : NetPart → TreeKind → TreePlace
-case_place n kind = record { spec = n.spec; net = None; task = None; kind = kind }
+abbrev pub case_place : List ℕ → TreeKind → TreePlace
+case_place spec kind = record { spec = spec; net = None; task = None; kind = kind }
 
 abbrev pub task_place : TaskAt → TreeKind → TreePlace
 task_place x kind = record { spec = x.within.part.spec; net = Some x.within.net.name; task = Some x.task.name; kind = kind }
@@ -91,8 +95,8 @@ item_value x p =
     (param_value x.of_task.task.ins x.part.given p.name))
     (zero_of p.sort)
 
-abbrev pub item_row : ItemAt → Row
-item_row x = map (item_value x) (x.of_task.task.ins ++ x.of_task.task.outs)
+abbrev pub item_values : ItemAt → Row
+item_values x = map (item_value x) (x.of_task.task.ins ++ x.of_task.task.outs)
 
 -- The rules of a tree, and the values that it is asked about.
 pub record Question : Type 0 where
@@ -100,10 +104,10 @@ pub record Question : Type 0 where
   pub row : Row
 
 abbrev case_question : State → Ident → TreeKind → Option Question
-case_question s j kind = option_map (λ n. record { rules = rules_at s (case_place n kind); row = n.vals }) (net_part s j)
+case_question s j kind = option_map (λ n. record { rules = rules_at s (case_place n.spec kind); row = n.vals }) (net_part s j)
 
 abbrev item_question : State → Ident → TreeKind → Option Question
-item_question s j kind = option_map (λ x. record { rules = rules_at s (task_place x.of_task kind); row = item_row x }) (item_at s j)
+item_question s j kind = option_map (λ x. record { rules = rules_at s (task_place x.of_task kind); row = item_values x }) (item_at s j)
 
 -- of the tree of this kind for the case or the item at j
 abbrev pub question : State → Ident → TreeKind → Option Question

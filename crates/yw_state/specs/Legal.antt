@@ -5,7 +5,7 @@ use Rattle.yw_spec.specs.declared.spec.Net.{Net}
 use Rattle.yw_spec.specs.declared.spec.Place.{Place}
 use Rattle.yw_spec.specs.declared.spec.Spec.{Spec}
 use Rattle.yw_state.specs.Automatic.{ComeAll, IsQuiet, after_each, case_of}
-use Rattle.yw_state.specs.Broken.{Breaks}
+use Rattle.yw_state.specs.Broken.{Breaks, entry_count}
 use Rattle.yw_state.specs.Events.{Leads}
 use Rattle.yw_state.specs.Given.{element_value, launch_values, made_values}
 use Rattle.yw_state.specs.Identity.{case_number}
@@ -23,7 +23,7 @@ use Rattle.yw_state.specs.declared.tree.TreePlace.{TreePlace}
 abbrev AsksLoad : Reader → List ℕ → Event → Type 0
 AsksLoad reader text e = (spec : Spec) × reader.spec text (Ok spec) × (e ≡ events.Load spec.name text)
 
--- the event that the command asks for; of an Enter the places and the count are left to where it is allowed
+-- the event that the command asks for; of an Enter the places are left to where it is allowed
 unfoldable pub IsAsked : Reader → State → Command → Event → Type 0
 IsAsked reader s (commands.Person name roles) e = e ≡ events.Person name roles
 IsAsked reader s (commands.Load toml) e = AsksLoad reader toml e
@@ -31,7 +31,8 @@ IsAsked reader s (commands.Rule spec net task kind at side when conclusion) e =
     (p : TreePlace) × (p ≡ record { spec = spec; net = net; task = task; kind = kind }) × (e ≡ events.AddRule p at side when conclusion (length (rules_at s p) + 1))
 IsAsked reader s (commands.Launch spec gs) e =
     Some e ≡ option_map (λ (net : Net). events.Launch s.next spec (launch_values net.vars gs)) (top_called s spec)
-IsAsked reader s (commands.Enter who i t) e = (places : List Place) × (count : ℕ) × (e ≡ events.Enter i t places s.next count)
+IsAsked reader s (commands.Enter who i t) e =
+    (places : List Place) × (Some e ≡ option_map (λ x. events.Enter i t places s.next (entry_count x)) (task_at s i t))
 IsAsked reader s (commands.Start who j) e = e ≡ events.Start j who
 IsAsked reader s (commands.Complete who j gs) e =
     Some e ≡ option_map (events.Complete j) (option_and_then (λ x. made_values x.of_task.task.outs gs) (item_at s j))

@@ -116,15 +116,15 @@ is_defined t rows vals = list_all (λ (a : Assign). is_some (val a.value (set_ro
 abbrev pub is_true : Row → Branch → Bool
 is_true row b = is_some_and b.when (λ e. holds e row)
 
-abbrev pub leads_to : (Branch → Bool) → List Branch → List ℕ
-leads_to p bs = map (λ (b : Branch). b.to) (filter p bs)
+abbrev pub branch_places : (Branch → Bool) → List Branch → List ℕ
+branch_places p bs = map (λ (b : Branch). b.to) (filter p bs)
 
 -- the places of the branches that are true, or of the default where none is
 abbrev pub true_places : List Branch → Row → List ℕ
-true_places bs row = true_or_default (leads_to (is_true row) bs)
+true_places bs row = true_or_default (branch_places (is_true row) bs)
   where
     true_or_default : List ℕ → List ℕ
-    true_or_default [] = leads_to (λ b. is_none b.when) bs
+    true_or_default [] = branch_places (λ b. is_none b.when) bs
     true_or_default (c ∷ cs) = c ∷ cs
 
 abbrev first_of : List ℕ → List ℕ

@@ -112,8 +112,8 @@ pub record MarksStand (s : State) : Type 0 where
 abbrev pub vals_fit : List Var → Row → Bool
 vals_fit = pointwise (λ (x : Var). may_hold x.sort)
 
-abbrev pub most_items : Option Many → ℕ
-most_items many = option_map_or (λ (m : Many). m.max) many 1
+abbrev pub item_limit : Option Many → ℕ
+item_limit many = option_map_or (λ (m : Many). m.max) many 1
 
 -- A net's values are of its variables, and its counts of tokens of its places.
 pub record NetFits (n : NetAt) : Type 0 where
@@ -155,7 +155,7 @@ pub record ContentFits (reader : Reader) (s : State) : Type 0 where
   pub of_spec : (j : Ident) (n : NetPart) → net_part s j ≡ Some n → IsSome (net_at s j)
   pub net : (j : Ident) (n : NetAt) → net_at s j ≡ Some n → NetFits n
   pub item : (j : Ident) (x : ItemAt) → item_at s j ≡ Some x → ItemFits x
-  pub count : (i : Ident) (n : NetAt) (k : ℕ) (t : Task) → net_at s i ≡ Some n → slice_get n.net.tasks k ≡ Some t → length (items_of s i k) ≤ most_items t.many
+  pub count : (i : Ident) (n : NetAt) (k : ℕ) (t : Task) → net_at s i ≡ Some n → slice_get n.net.tasks k ≡ Some t → length (items_of s i k) ≤ item_limit t.many
   pub run_length : (j : Ident) (r : RunPart) → run_part s j ≡ Some r → length r.rest ≤ most_primitives
   pub run_fit : (j : Ident) (r : RunPart) → run_part s j ≡ Some r → IsTrue (are_fit s (is_case_ident (parent j)) r.rest)
   pub rules : (key : List (List ℕ)) (rs : List TreeRule) → get s.rules key ≡ Some rs → RulesFit reader s key rs

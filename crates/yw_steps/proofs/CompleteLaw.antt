@@ -21,13 +21,12 @@ use Rattle.yw_state.specs.Broken.{First}
 use Rattle.yw_state.specs.Events.{after}
 use Rattle.yw_state.specs.Given.{made_values, misfit}
 use Rattle.yw_state.specs.Identity.{Ident, parent}
-use Rattle.yw_state.specs.Judged.{has_rule}
 use Rattle.yw_state.specs.Map.{entries, get}
 use Rattle.yw_state.specs.Passing.{made_rows_with, row_fits, set_row}
 use Rattle.yw_state.specs.State.{ItemAt, ItemPart, NetAt, NetPart, State, TaskAt, if_of_task, item_at, item_of_task, item_part, items_of, net_at, net_part, task_in}
 use Rattle.yw_state.specs.Texts.{nothing}
 use Rattle.yw_state.specs.Values.{Row}
-use Rattle.yw_state.specs.Well.{most_items}
+use Rattle.yw_state.specs.Well.{item_limit}
 use Rattle.yw_state.specs.Words.{busy, is_executing}
 use Rattle.yw_state.specs.declared.command.Given.{Given}
 use Rattle.yw_state.specs.declared.event.Event.TheVariants as events
@@ -49,7 +48,7 @@ use Rattle.yw_task.specs.Completes.{complete_rest, completion_fault, first_undef
 use Rattle.yw_task.specs.Standing.{ItemStands}
 use Rattle.yw_tree.proofs.Parents.{identity_long, parent_child}
 use Rattle.yw_tree.specs.Entries.{item_part_of, item_site}
-use Rattle.yw_tree.specs.Forest.{IsForest, item_of, placed, sites_of}
+use Rattle.yw_tree.specs.Forest.{IsForest, item_of, item_replaced, sites_of}
 use Rattle.yw_tree.specs.Shows.{items_in}
 use Rattle.yw_tree.specs.declared.Forest.{Forest}
 use Rattle.yw_tree.specs.declared.NetState.{NetState, out-NetState}
@@ -124,7 +123,7 @@ module _ (f : Forest) (boxed : IsForest f) (j : Ident) (identity : is_identity j
       ap (λ (b : Bool). cond b (if_of_task k j p) None) (is_child_of j (parent j) (parent_child j (identity_long j identity)))
       ∙ ap (λ (b : Bool). cond b (Some (j, p)) None) (eq-eqb k k refl) in
       let few : length (items_of s (parent j) k) ≤ 1 =
-      subst (λ es. length es ≤ 1) items_are (subst (λ (o : Option Many). length (items_of s (parent j) is.there.part.task) ≤ most_items o) (ap (λ (t : Task). t.many) task_is ∙ none) is.few) in
+      subst (λ es. length es ≤ 1) items_are (subst (λ (o : Option Many). length (items_of s (parent j) is.there.part.task) ≤ item_limit o) (ap (λ (t : Task). t.many) task_is ∙ none) is.few) in
       only_one (λ e. item_of_task (parent j) k e.0 e.1) j (item_site names place.item) (j, p) gives (entries s.sites) site few
 
   pub together : (out so_far : Row) → row_fits task.outs out ≡ true → (is_some task.many ≡ true → so_far ≡ outs_once j out (items_in place.outer (out-Node place.item).task) 0 task.outs)
@@ -205,16 +204,15 @@ abbrev Level : Type 0
 Level = Node-F NetState Node Run
 
 pub completed : (f : Forest) → IsForest f → (j : Ident) → is_identity j ≡ true → (net : Net) (out : Row) (due : Checks) (old new : Node) → item_of f j ≡ Some old
-    → out-Node new ≡ record (out-Node old) { stage = Completed; made = out; due = due_where due.post Post (out-Node old).due } → Completes net j out due f (placed f j new)
+    → out-Node new ≡ record (out-Node old) { stage = Completed; made = out; due = due_where due.post Post (out-Node old).due } → Completes net j out due f (item_replaced f j new)
 completed f boxed j identity net out due old new found e = λ names s sites may.
     let id = its_id f boxed j identity old found in
     let does = completes old new out due e in
     let known_of : (z : State) → (x : ItemAt) → item_at z j ≡ Some x → item_at z (out-Node old).id ≡ Some x = λ z x h. subst (λ k. item_at z k ≡ Some x) (sym id) h in
-    let rule_of : (z : State) → due.post ≡ has_rule z j Post → due.post ≡ has_rule z (out-Node old).id Post = λ z h. subst (λ k. due.post ≡ has_rule z k Post) (sym id) h in
     record {
       leads = λ others r said are so.
-          subst (λ k. after r (events.Complete k out) said ≡ with_sites r (sites_of others (placed f k new))) id
-          (does others f r so.item_is.there said (it_stands f boxed j identity old found others r are) (known_of r so.item_is.there so.item_is.known) (rule_of r so.rule)).map;
-      boxed = subst (λ k. IsForest (placed f k new)) id
-          (does names f s may.item_is.there nothing (it_stands f boxed j identity old found names s sites) (known_of s may.item_is.there may.item_is.known) (rule_of s may.rule)).kept;
+          subst (λ k. after r (events.Complete k out) said ≡ with_sites r (sites_of others (item_replaced f k new))) id
+          (does others f r so.item_is.there said (it_stands f boxed j identity old found others r are) (known_of r so.item_is.there so.item_is.known) so.rule).map;
+      boxed = subst (λ k. IsForest (item_replaced f k new)) id
+          (does names f s may.item_is.there nothing (it_stands f boxed j identity old found names s sites) (known_of s may.item_is.there may.item_is.known) may.rule).kept;
     }

@@ -37,7 +37,6 @@ use Rattle.yw_steps.proofs.NetFound.{part_is, stands_so}
 use Rattle.yw_steps.specs.Enters.{EnterBreaks, EnterIsAllowed, Enters, StandsFor}
 use Rattle.yw_steps.specs.Stands.{MayGetItems, NetIs}
 use Rattle.yw_task.proofs.EnterAsk.{has_marks, net_with, task_stands}
-use Rattle.yw_task.specs.Due.{entry_checks}
 use Rattle.yw_task.specs.Enters.{EnterBreaks as NetEnterBreaks, Enters as NetEnters, MayGet, PlacesNet, enter_table, is_choice}
 use Rattle.yw_tree.specs.Forest.{IsForest, sites_of}
 use Rattle.yw_tree.specs.Places.{net_at as net_found, placed_net}
@@ -64,7 +63,7 @@ module _ (f : Forest) (boxed : IsForest f) (i : Ident) (identity : is_identity i
     task_is = at;
     next = needs.next;
     fresh = needs.fresh;
-    due_are = needs.due_are ∙ ap (λ (p : NetPart). entry_checks s p.spec net task) (part_is f boxed i identity u found names s sites needs.net_is.there needs.net_is.stands);
+    due_are = needs.due_are;
   }
 
   numbers_are : (task : Task) (taken : Taken) (places : List Place) → StandsFor f i net task taken places → place_numbers net places ≡ Some (taken_places (out-NetState u).marks task.before taken)

@@ -22,12 +22,12 @@ use Rattle.yw_state.specs.Identity.{Ident, child, parent}
 use Rattle.yw_state.specs.Map.{get, lexical}
 use Rattle.yw_state.specs.State.{ItemAt, ItemPart, NetAt, NetPart, Sites, State, TaskAt, item_at, item_part, items_of, net_at, net_of, net_part, task_in}
 use Rattle.yw_state.specs.Texts.{Reader, Said}
-use Rattle.yw_state.specs.Well.{IsWell, NumbersFit, most_items}
+use Rattle.yw_state.specs.Well.{IsWell, NumbersFit, item_limit}
 use Rattle.yw_state.specs.declared.event.Event.TheVariants as events
 use Rattle.yw_state.specs.declared.part.Checks.{Checks}
 use Rattle.yw_steps.specs.Completes.{IsItemIn, ItemIs}
 use Rattle.yw_steps.specs.Stands.{ComeBefore, MayGetItems, NetIs, TaskMayGrow}
-use Rattle.yw_task.specs.Due.{entry_checks}
+use Rattle.yw_task.specs.Due.{AreDue}
 use Rattle.yw_task.specs.Items.{NothingFrom}
 use Rattle.yw_tree.proofs.Keys.{ids_are, kids, kids-append}
 use Rattle.yw_tree.proofs.NetAt.{net_here}
@@ -78,7 +78,7 @@ nothing_from s numbers i = λ n l.
     (λ none. none)
     (λ x some. let below = number_drawn s numbers i n (ap is_some some) in absurd (omega arith))
 
-pub may_get : (s : State) → NumbersFit s → HoldsWithin s → (i : Ident) (n : NetAt) (task : Task) (due : Checks) → net_at s i ≡ Some n → due ≡ entry_checks s n.part.spec n.net task → MayGetItems n.net i s.next due task s
+pub may_get : (s : State) → NumbersFit s → HoldsWithin s → (i : Ident) (n : NetAt) (task : Task) (due : Checks) → net_at s i ≡ Some n → AreDue s i task.name due → MayGetItems n.net i s.next due task s
 may_get s numbers holds i n task due at checks = record { net_is = net_is s holds i n at; next = refl; fresh = nothing_from s numbers i; due_are = checks }
 
 -- ---- the items of a task are among those of the net
@@ -172,7 +172,7 @@ module _ (names : ℕ → List ℕ) (f : Forest) (s : State) (h : StandsWell nam
           there = x;
           known = known;
           net_is = refl;
-          few = subst (λ (z : Task). length (items_of s (parent j) x.part.task) ≤ most_items z.many) t (subst (λ n. length (items_of s (parent j) n) ≤ most_items the_task.0.many) k few);
+          few = subst (λ (z : Task). length (items_of s (parent j) x.part.task) ≤ item_limit z.many) t (subst (λ n. length (items_of s (parent j) n) ≤ item_limit the_task.0.many) k few);
         }
 
 -- ---- where the event is allowed

@@ -5,7 +5,6 @@ mod NetFound
 mod EnterLaw
 mod AddLaw
 mod PostLaw
-mod SpecKept
 mod ExitLaw
 mod Gathered
 mod CompleteLaw

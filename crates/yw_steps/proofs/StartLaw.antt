@@ -19,19 +19,19 @@ use Rattle.yw_steps.proofs.ItemFound.{bare_state, it_stands, its_id}
 use Rattle.yw_steps.specs.Starts.{StartBreaks, StartIsAllowed, Starts}
 use Rattle.yw_task.specs.Asked.{AsksStart, start_shown}
 use Rattle.yw_task.specs.Standing.{ItemDoes}
-use Rattle.yw_tree.specs.Forest.{IsForest, item_of, placed, sites_of}
+use Rattle.yw_tree.specs.Forest.{IsForest, item_of, item_replaced, sites_of}
 use Rattle.yw_tree.specs.declared.Forest.{Forest}
 use Rattle.yw_tree.specs.declared.Node.{Node}
 
 module _ (f : Forest) (boxed : IsForest f) (j : Ident) (identity : is_identity j ≡ true) (old : Node) (found : item_of f j ≡ Some old) where
-  pub starts : (who : List ℕ) (new : Node) → ItemDoes (λ k. events.Start k who) old new → Starts j who f (placed f j new)
+  pub starts : (who : List ℕ) (new : Node) → ItemDoes (λ k. events.Start k who) old new → Starts j who f (item_replaced f j new)
   starts who new does =
       let id = its_id f boxed j identity old found in
       let names : ℕ → List ℕ = λ k. [] in
       record {
         leads = λ names s said sites needs.
-            subst (λ k. after s (events.Start k who) said ≡ with_sites s (sites_of names (placed f k new))) id ((does names f s said (it_stands f boxed j identity old found names s sites)).map);
-        boxed = subst (λ k. IsForest (placed f k new)) id ((does names f (bare_state names f) nothing (it_stands f boxed j identity old found names (bare_state names f) (λ i. sites_of names f))).kept);
+            subst (λ k. after s (events.Start k who) said ≡ with_sites s (sites_of names (item_replaced f k new))) id ((does names f s said (it_stands f boxed j identity old found names s sites)).map);
+        boxed = subst (λ k. IsForest (item_replaced f k new)) id ((does names f (bare_state names f) nothing (it_stands f boxed j identity old found names (bare_state names f) (λ i. sites_of names f))).kept);
       }
 
   pub breaks : (rule : Option Rule) → AsksStart old rule → StartBreaks f j rule

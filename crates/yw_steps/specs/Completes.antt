@@ -12,12 +12,12 @@ use Rattle.yw_state.specs.Allowed.{Allowed}
 use Rattle.yw_state.specs.Broken.{First}
 use Rattle.yw_state.specs.Given.{made_values, misfit}
 use Rattle.yw_state.specs.Identity.{Ident, parent, same}
-use Rattle.yw_state.specs.Judged.{has_rule}
+use Rattle.yw_state.specs.Judged.{has_rules, task_place}
 use Rattle.yw_state.specs.Passing.{row_fits}
 use Rattle.yw_state.specs.State.{ItemAt, State, item_at, items_of, net_part}
 use Rattle.yw_state.specs.Texts.{Said}
 use Rattle.yw_state.specs.Values.{Row}
-use Rattle.yw_state.specs.Well.{most_items}
+use Rattle.yw_state.specs.Well.{item_limit}
 use Rattle.yw_state.specs.Words.{clear}
 use Rattle.yw_state.specs.declared.command.Given.{Given}
 use Rattle.yw_state.specs.declared.event.Event.TheVariants as events
@@ -49,12 +49,12 @@ pub record ItemIs (s : State) (j : Ident) (net : Net) : Type 0 where
   pub there : ItemAt
   pub known : item_at s j ≡ Some there
   pub net_is : there.of_task.within.net ≡ net
-  pub few : length (items_of s (parent j) there.part.task) ≤ most_items there.of_task.task.many
+  pub few : length (items_of s (parent j) there.part.task) ≤ item_limit there.of_task.task.many
 
 -- and the check after it is due if its tree has a rule
 pub record MayComplete (net : Net) (j : Ident) (due : Checks) (s : State) : Type 0 where
   pub item_is : ItemIs s j net
-  pub rule : due.post ≡ has_rule s j Post
+  pub rule : due.post ≡ has_rules s (task_place item_is.there.of_task Post)
 
 -- ---- what the items of its task make together, once it has made these values
 

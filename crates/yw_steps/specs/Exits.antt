@@ -7,7 +7,7 @@ use Rattle.yw_spec.specs.declared.task.Task.{Task}
 use Rattle.yw_state.specs.After.{due_where}
 use Rattle.yw_state.specs.Allowed.{Allowed, place_numbers}
 use Rattle.yw_state.specs.Identity.{Ident, case_number, is_case_ident}
-use Rattle.yw_state.specs.Judged.{has_rule}
+use Rattle.yw_state.specs.Judged.{case_place, has_rules}
 use Rattle.yw_state.specs.Nets.{is_among}
 use Rattle.yw_state.specs.State.{State}
 use Rattle.yw_state.specs.Texts.{nothing}
@@ -26,7 +26,7 @@ use Rattle.yw_tree.specs.declared.NetState.{NetState}
 pub record MayExit (net : Net) (i : Ident) (task : Task) (places : List Place) (due_post : Bool) (s : State) : Type 0 where
   pub net_is : NetIs s i net
   pub allowed : Allowed s (events.Exit i task.name places) nothing
-  pub rule : is_case_ident i ≡ true → due_post ≡ has_rule s i Post
+  pub rule : is_case_ident i ≡ true → due_post ≡ has_rules s (case_place net_is.there.part.spec Post)
 
 -- the task with number t exits, and a token comes to each of these places
 abbrev pub Exits : Net → Ident → ℕ → Bool → Forest → Forest → Type 0

@@ -9,7 +9,7 @@ use Rattle.yw_state.specs.Identity.{Ident}
 use Rattle.yw_state.specs.State.{NetAt, State, net_at}
 use Rattle.yw_state.specs.declared.event.Event.{Event}
 use Rattle.yw_state.specs.declared.part.Checks.{Checks}
-use Rattle.yw_task.specs.Due.{entry_checks}
+use Rattle.yw_task.specs.Due.{AreDue}
 use Rattle.yw_task.specs.Items.{AreBefore, NothingFrom, row_of}
 use Rattle.yw_tree.specs.Forest.{sites_of}
 use Rattle.yw_tree.specs.Places.{net_at as net_found}
@@ -48,4 +48,4 @@ pub record MayGetItems (net : Net) (i : Ident) (first : ℕ) (due : Checks) (tas
   pub net_is : NetIs s i net
   pub next : s.next ≡ first
   pub fresh : NothingFrom s.sites i first
-  pub due_are : due ≡ entry_checks s net_is.there.part.spec net task
+  pub due_are : AreDue s i task.name due

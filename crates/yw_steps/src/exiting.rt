@@ -11,6 +11,7 @@ ghost use Rattle.yw_tree.specs.Places.{net_at};
 
 use std::alloc::{AllocError, Global};
 use yw_base::Ident;
+use yw_mark::is_among;
 use yw_spec::{IndexList, Net};
 use yw_state::Checks;
 use yw_tree::Forest;
@@ -39,13 +40,6 @@ fn case_number(id: &[u64]) -> u64
     ensures { result ≡ case_number id.now }
 {
     id[0]
-}
-
-/// It is one of these.
-fn is_among(places: &[usize], c: usize) -> bool
-    ensures { result ≡ is_among places.now c }
-{
-    places.iter().any(|place| c == *place)
 }
 
 /// A token came to the output of the case's own net.

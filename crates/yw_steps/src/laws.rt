@@ -13,7 +13,7 @@ ghost use Rattle.yw_state.specs.declared.event.Event.TheVariants as events;
 ghost use Rattle.yw_state.specs.declared.part.Checks.{Checks};
 ghost use Rattle.yw_steps.specs.Completes.{IsItemIn, ItemIs};
 ghost use Rattle.yw_steps.specs.Stands.{ComeBefore, MayGetItems, NetIs, TaskMayGrow};
-ghost use Rattle.yw_task.specs.Due.{entry_checks};
+ghost use Rattle.yw_task.specs.Due.{AreDue};
 ghost use Rattle.yw_tree.specs.Forest.{item_of};
 ghost use Rattle.yw_tree.specs.Places.{net_at as net_found};
 ghost use Rattle.yw_tree.specs.declared.Forest.{Forest};
@@ -52,6 +52,6 @@ pub fn task_may_grow()
     ensures before { (names : ℕ → List ℕ) (f : Forest) (s : State) → StandsWell names f s
         → (i : Ident) (n : NetAt) (t : ℕ) → net_at s i ≡ Some n → ComeBefore f i t s.next }
     ensures needs { (names : ℕ → List ℕ) (f : Forest) (s : State) → StandsWell names f s → HoldsWithin s
-        → (i : Ident) (n : NetAt) (task : Task) (due : Checks) → net_at s i ≡ Some n → due ≡ entry_checks s n.part.spec n.net task
+        → (i : Ident) (n : NetAt) (task : Task) (due : Checks) → net_at s i ≡ Some n → AreDue s i task.name due
         → MayGetItems n.net i s.next due task s }
 {}

@@ -1,7 +1,6 @@
 -- An urgent case isn't quiet: a check that is due passes or begins something, and a run that doesn't wait takes a primitive.
-use Rattle.std.specs.Prelude.{◌≡◌, ◌≤◌, ◌⊎◌, ℕ, ◌+◌, ◌-◌, ◌==◌, ◌&&◌, ◌||◌, Bool, true, false, not, List, [], ◌∷◌, length, Some, None, is_none, nat_le, nat_lt, option_and_then, option_map, slice_get, unwrap_or, refl, if◌then◌else◌}
+use Rattle.std.specs.Prelude.{◌≡◌, ◌≤◌, ◌⊎◌, ℕ, ◌+◌, ◌-◌, ◌==◌, ◌&&◌, ◌||◌, Bool, true, false, not, List, [], ◌∷◌, length, Some, is_none, nat_le, nat_lt, option_and_then, option_map, slice_get, unwrap_or, refl, if◌then◌else◌}
 use Rattle.std.specs.List.{All}
-use Rattle.std.specs.Str.{bytes_eq}
 use Rattle.std.proofs.Common.{sym, ◌∙◌, ap, subst, arith, inl, inr}
 use Rattle.std.proofs.lemmas.Bool.{and_parts, and_from, eq-eqb, eqb-false, eqb-true, le-leb, leb-false, lt-ltb, not-true, or_cases, or_right, or_left}
 use Rattle.std.proofs.lemmas.List.Elements.{All-get_or}
@@ -13,9 +12,9 @@ use Rattle.yw_state.proofs.MapLemmas.{by_name}
 use Rattle.yw_state.proofs.RuleNumbers.{rule_concluded}
 use Rattle.yw_state.proofs.Tests.{by_option, by_test, map_some, never, nowhere, then_some, there_and}
 use Rattle.yw_state.proofs.TreePlaces.{one_place}
-use Rattle.yw_state.specs.Allowed.{allows, begins_exlet, comes_next, depth_end, is_next, same_primitive}
+use Rattle.yw_state.specs.Allowed.{allows, begins_exlet, cannot_begin, comes_next, depth_end, is_first, is_next, is_too_deep, is_worklet, none_is_left, same_primitive}
 use Rattle.yw_state.specs.Identity.{Ident, case_number, is_case_ident}
-use Rattle.yw_state.specs.Judged.{Question, conclusion_at, is_select, item_row, judged, place_key, question, rules_at, task_place}
+use Rattle.yw_state.specs.Judged.{Question, case_place, conclusion_at, is_select, item_values, judged, place_key, question, rules_at, task_place}
 use Rattle.yw_state.specs.Map.{entries, get}
 use Rattle.yw_state.specs.NewRule.{may_conclude}
 use Rattle.yw_state.specs.Options.{is_some_and}
@@ -87,10 +86,6 @@ module _ (reader : Reader) (s : State) (well : IsWell reader s) where
       let some = and_parts (not (is_select p.kind)) _ (and_parts (not (is_select p.kind) && nat_lt 0 (length ps)) _ (and_parts _ _ may).0).0 in
       never (sym (ap (λ k. not (is_select k)) is) ∙ some.0)
 
-  -- as `question` has it
-  abbrev case_place : NetPart → TreePlace
-  case_place n = record { spec = n.spec; net = None; task = None; kind = Select }
-
   -- the tree that is asked is one that chooses worklets
   abbrev AsksSelect : Question → Type 0
   AsksSelect q = (p : TreePlace) × (p.kind ≡ Select) × (q.rules ≡ rules_at s p)
@@ -98,9 +93,9 @@ module _ (reader : Reader) (s : State) (well : IsWell reader s) where
   asks_select : (j : Ident) (q : Question) → question s j Select ≡ Some q → AsksSelect q
   asks_select j q is = by (is_case_ident j) is
     where
-      by : (b : Bool) → (if b then option_map (λ n. record { rules = rules_at s (case_place n); row = n.vals }) (net_part s j)
-          else option_map (λ x. record { rules = rules_at s (task_place x.of_task Select); row = item_row x }) (item_at s j)) ≡ Some q → AsksSelect q
-      by true is = let (n, at, made) = map_some _ (net_part s j) q is in (case_place n, refl, sym (ap (λ (u : Question). u.rules) made))
+      by : (b : Bool) → (if b then option_map (λ (n : NetPart). record { rules = rules_at s (case_place n.spec Select); row = n.vals }) (net_part s j)
+          else option_map (λ x. record { rules = rules_at s (task_place x.of_task Select); row = item_values x }) (item_at s j)) ≡ Some q → AsksSelect q
+      by true is = let (n, at, made) = map_some _ (net_part s j) q is in (case_place n.spec Select, refl, sym (ap (λ (u : Question). u.rules) made))
       by false is = let (x, at, made) = map_some _ (item_at s j) q is in (task_place x.of_task Select, refl, sym (ap (λ (u : Question). u.rules) made))
 
   worklet_chosen : (j : Ident) (node : ℕ) → judged s j Select ≡ Some node → (name : List ℕ) × (conclusion_at s j Select node ≡ Some (Worklet name))
@@ -117,12 +112,7 @@ module _ (reader : Reader) (s : State) (well : IsWell reader s) where
   module _ (j : Ident) where
     -- ---- a check that is due
 
-    -- as `allows` has it
-    abbrev cannot_begin : Bool → Bool
-    cannot_begin true = nat_le depth_end (length j)
-    cannot_begin false = s.next == number_end
-
-    passes : (k : TreeKind) → comes_next s j k ≡ true → (is_none (judged s j k) || cannot_begin (is_select k)) ≡ true → SomethingComes s (case_number j)
+    passes : (k : TreeKind) → comes_next s j k ≡ true → (is_none (judged s j k) || cannot_begin s j k) ≡ true → SomethingComes s (case_number j)
     unfolding allows
     passes k next may = (events.Pass j k, record { here = refl; automatic = refl; allowed = (and_from _ _ next may, tt) })
 
@@ -132,7 +122,7 @@ module _ (reader : Reader) (s : State) (well : IsWell reader s) where
         by_option (judged s j k)
         (λ none. passes k next (or_left _ _ (ap (λ o. is_none o) none)))
         (λ node is. by_test (s.next == number_end)
-        (λ spent. passes k next (or_right _ _ (ap cannot_begin other ∙ spent)))
+        (λ spent. passes k next (or_right _ _ (ap (λ b. if b then is_too_deep j else none_is_left s) other ∙ spent)))
         (λ left.
         let concludes_it = ap (λ o. is_some_and o (λ m. m == node)) is ∙ eq-eqb node node refl in
         let drawn = number_left s (room well.numbers.most (eqb-false s.next number_end left)) in
@@ -153,11 +143,6 @@ module _ (reader : Reader) (s : State) (well : IsWell reader s) where
         let chosen = ap (λ o. is_some_and (option_and_then (conclusion_at s j Select) o) (is_worklet name)) is ∙ ap (λ o. is_some_and o (is_worklet name)) concludes_it
         ∙ (bytes_eq-Decides name name).1 refl in
         (events.Substitute j name, record { here = refl; automatic = refl; allowed = (and_from _ _ (and_from _ _ next (lt-ltb (length j) depth_end (leb-false depth_end (length j) high))) chosen, tt) })))
-      where
-        -- as `allows` has it
-        is_worklet : List ℕ → Conclusion → Bool
-        is_worklet name (Worklet other) = bytes_eq other name
-        is_worklet name (Exlet ps) = false
 
     pub check_comes : check_waits s j ≡ true → SomethingComes s (case_number j)
     check_comes due =
@@ -179,11 +164,6 @@ module _ (reader : Reader) (s : State) (well : IsWell reader s) where
         let may = ap (λ o. is_some_and o (λ (y : RunPart). not y.waiting && is_first p y.rest)) is ∙ and_from _ _ at_work first in
         (events.Prim j p, record { here = refl; automatic = refl; allowed = (may, tt) })
       where
-        -- as `allows` has it
-        is_first : Primitive → List Primitive → Bool
-        is_first p [] = false
-        is_first p (q ∷ qs) = same_primitive p q
-
         some_first : (ps : List Primitive) → nat_lt 0 (length ps) ≡ true → (p : Primitive) × (is_first p ps ≡ true)
         some_first [] some = never some
         some_first (p ∷ ps) some = (p, primitive_itself p)

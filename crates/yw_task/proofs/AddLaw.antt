@@ -15,7 +15,7 @@ use Rattle.yw_state.specs.Values.{Row}
 use Rattle.yw_state.specs.declared.part.Checks.{Checks}
 use Rattle.yw_task.proofs.EnterAsk.{here, net_with, shown, task_stands}
 use Rattle.yw_task.proofs.Placing.{items_placed}
-use Rattle.yw_task.proofs.RoomLaw.{roomy_boxed, roomy_ids, roomy_part, roomy_shows}
+use Rattle.yw_task.proofs.RoomLaw.{roomy_boxed, roomy_ids, roomy_shows}
 use Rattle.yw_task.specs.Adds.{Adds, GivesRow}
 use Rattle.yw_task.specs.Enters.{PlacesNet}
 use Rattle.yw_task.specs.Room.{GetsListAndItems}
@@ -34,7 +34,7 @@ adds net old new i t u at value n due given boxed gives gets = λ names f s said
     let roomy : NetState = gets.roomy in
     let shows = roomy_shows t old roomy gets.room names s.sites i ((here names f s i net old h.stands).beside names) (shown names f s i net old h.stands) in
     let own : get s.sites i ≡ option_map (with_part (λ _. net_part names roomy)) (get s.sites i) = sym (same_part (net_part names roomy) (get s.sites i) shows.part) in
-    let placed = items_placed names f s i net old t n due task h roomy (out-NetState old).marks (roomy_part t old roomy gets.room names) s.sites (roomy_boxed t old roomy gets.room boxed) (roomy_ids t old roomy gets.room)
+    let placed = items_placed names f s i net old t n due task h roomy s.sites (roomy_boxed t old roomy gets.room boxed) (roomy_ids t old roomy gets.room)
     shows own (λ q off. refl) h.fresh one new (n + 1) gets.items in
     let of_task : GivesRow task vals value given = subst (λ (z : Task). GivesRow z vals value given) (some_same u task (sym at ∙ h.task_is)) gives in
     let given_is : given_values task vals (Some element) ≡ Some given =

@@ -1,13 +1,9 @@
 -- The first rule that an addition breaks, of those that the net and the values show.
-use Rattle.std.proofs.Common.{Bool, List, None, Option, Some, [], ap, cond, false, length, refl, subst, sym, true, ℕ, ◌+◌, ◌∙◌, ◌∷◌, ◌≡◌, ◌↔◌, ℤ}
+use Rattle.std.proofs.Common.{Bool, List, None, Option, Some, [], ap, cond, false, length, refl, subst, sym, true, ℕ, ◌+◌, ◌∙◌, ◌∷◌, ◌≡◌}
 use Rattle.std.specs.Option.{option_or}
-use Rattle.std.specs.Prelude.{IsTrue, drop, find, is_none, map, nat_lt, not, option_and_then, option_map, slice_get, if◌then◌else◌}
+use Rattle.std.specs.Prelude.{drop, find, is_none, map, nat_lt, not, option_and_then, option_map, slice_get, if◌then◌else◌}
 use Rattle.yw_base.specs.Identity.{number_end}
-use Rattle.yw_base.specs.Values.{may_hold}
-use Rattle.yw_base.specs.declared.value.Sort.{Sort}
-use Rattle.yw_base.specs.declared.value.Sort.TheVariants as sorts
 use Rattle.yw_base.specs.declared.value.Value.{Value}
-use Rattle.yw_base.specs.declared.value.Value.TheVariants as values
 use Rattle.yw_expr.specs.Meaning.{val}
 use Rattle.yw_expr.specs.Tree.{Tree}
 use Rattle.yw_spec.specs.declared.spec.Net.{Net}
@@ -15,7 +11,6 @@ use Rattle.yw_spec.specs.declared.task.Param.{Param}
 use Rattle.yw_spec.specs.declared.task.Task.{Task}
 use Rattle.yw_state.proofs.Tests.{by_test, nowhere, some_same}
 use Rattle.yw_state.specs.Broken.{First, checks, is_spent, placed, placeless, test, test_at, undefined_in}
-use Rattle.yw_state.specs.Given.{as_sort}
 use Rattle.yw_state.specs.Identity.{Ident}
 use Rattle.yw_state.specs.Options.{all_of, is_some_and}
 use Rattle.yw_state.specs.Passing.{given_values}
@@ -27,7 +22,7 @@ use Rattle.yw_state.specs.declared.command.Command.TheVariants as commands
 use Rattle.yw_state.specs.declared.rule.Refusal.{Refusal}
 use Rattle.yw_state.specs.declared.rule.Rule.TheVariants as rules
 use Rattle.yw_task.proofs.EnterAsk.{its_active, its_items, length_parts, task_stands}
-use Rattle.yw_task.specs.Adds.{AddBreaks, add_table, element_place, is_empty_list, is_full, meant, room_rule, value_fault}
+use Rattle.yw_task.specs.Adds.{AddBreaks, add_table, element_place, is_full, room_rule, value_fault}
 use Rattle.yw_task.specs.Asked.{is_active}
 use Rattle.yw_task.specs.Completes.{or_else}
 use Rattle.yw_task.specs.Giving.{given_value, lacks_value, undefined_param, value_or}
@@ -107,23 +102,3 @@ is_given task vals v e = all_there vals v task.ins (none_found (find (lacks_valu
     none_found : (o : Option Param) → option_map (λ (p : Param). p.name) o ≡ None → o ≡ None
     none_found None e = refl
     none_found (Some p) e = nowhere (sym e)
-
--- ---- the value
-
-pub as_sort_is : (sort : Sort) (v : Value) → as_sort sort (Some v) ≡ (if may_hold sort (meant sort v) then Some (meant sort v) else None)
-as_sort_is sorts.Bool v = refl
-as_sort_is sorts.Int v = refl
-as_sort_is sorts.Text v = refl
-as_sort_is sorts.Ints v = refl
-as_sort_is sorts.Texts (values.Ints []) = refl
-as_sort_is sorts.Texts (values.Ints (x ∷ xs)) = refl
-as_sort_is sorts.Texts (values.Bool b) = refl
-as_sort_is sorts.Texts (values.Int n) = refl
-as_sort_is sorts.Texts (values.Text t) = refl
-as_sort_is sorts.Texts (values.Texts ts) = refl
-
-pub empty_is : (b : Bool) (ns : List ℤ) → IsTrue b ↔ (ns ≡ []) → b ≡ is_empty_list (values.Ints ns)
-empty_is true [] h = refl
-empty_is false [] h = h.1 refl
-empty_is true (x ∷ xs) h = let e : (x ∷ xs) ≡ [] = h.0 refl in cc
-empty_is false (x ∷ xs) h = refl

@@ -5,19 +5,15 @@ use Rattle.yw_expr.specs.Meaning.{val}
 use Rattle.yw_spec.specs.declared.spec.Net.{Net}
 use Rattle.yw_spec.specs.declared.task.Assign.{Assign}
 use Rattle.yw_spec.specs.declared.task.Task.{Task}
-use Rattle.yw_state.proofs.Alike.{asked_of}
-use Rattle.yw_state.proofs.ChangeWell.{read_kept}
-use Rattle.yw_state.proofs.MapLemmas.{by_name, get-update_same}
 use Rattle.yw_state.proofs.Tests.{map_some, nowhere, some_same}
-use Rattle.yw_state.specs.After.{change, completed, due_where, with_item}
+use Rattle.yw_state.specs.After.{change, complete, completed, due_where, where_some, with_item, with_sites}
 use Rattle.yw_state.specs.Broken.{First, placed, test, test_at}
 use Rattle.yw_state.specs.Events.{after}
 use Rattle.yw_state.specs.Given.{made_values, misfit}
 use Rattle.yw_state.specs.Identity.{Ident, parent}
-use Rattle.yw_state.specs.Judged.{has_rule}
 use Rattle.yw_state.specs.Options.{is_some_and}
 use Rattle.yw_state.specs.Passing.{made_rows_with, set_row}
-use Rattle.yw_state.specs.State.{ItemAt, ItemPart, NetAt, NetPart, Site, State, item_at, item_part, items_of, net_at, net_of, net_part, task_in}
+use Rattle.yw_state.specs.State.{ItemAt, ItemPart, NetAt, Site, State, item_at, item_part, items_of, net_at, task_in}
 use Rattle.yw_state.specs.Values.{Row}
 use Rattle.yw_state.specs.Words.{busy, is_executing}
 use Rattle.yw_state.specs.declared.command.Given.{Given}
@@ -25,10 +21,9 @@ use Rattle.yw_state.specs.declared.part.Checks.{Checks}
 use Rattle.yw_state.specs.declared.part.Stage.TheVariants.{Completed}
 use Rattle.yw_state.specs.declared.rule.Refusal.{Refusal}
 use Rattle.yw_state.specs.declared.rule.Rule.TheVariants as rules
-use Rattle.yw_state.specs.declared.tree.TreeKind.{TreeKind}
 use Rattle.yw_state.specs.declared.tree.TreeKind.TheVariants.{Post}
-use Rattle.yw_task.proofs.ItemLaw.{its_busy, its_change, its_site, known_part, no_case, with_task}
-use Rattle.yw_task.proofs.Maps.{updated_twice}
+use Rattle.yw_task.proofs.ItemLaw.{its_busy, its_change, its_site, known_part, with_task}
+use Rattle.yw_sites.proofs.Twice.{updated_twice}
 use Rattle.yw_task.proofs.Started.{site_of}
 use Rattle.yw_task.specs.Asked.{complete_fault, is_others}
 use Rattle.yw_task.specs.Completes.{CompleteBreaks, Completes, MayComplete, complete_rest, completion_fault, first_undefined, made_of, mapping_fault, name_of, or_else}
@@ -115,39 +110,6 @@ completes_first net task vals so_far n who out at = λ names f s x gs h.
 
 -- ---- what it does
 
-renewed_there : (p q : ItemPart) → q.task ≡ p.task → (o : Option NetAt) (x : ItemAt) → option_and_then (with_task p) o ≡ Some x → option_and_then (with_task q) o ≡ Some (record x { part = q })
-renewed_there p q same None x e = nowhere e
-renewed_there p q same (Some w) x e =
-    let m = map_some (λ t. record { part = p; of_task = t }) (task_in w p.task) x e in
-    ap (λ k. option_map (λ t. record { part = q; of_task = t }) (task_in w k)) same
-    ∙ ap (option_map (λ t. record { part = q; of_task = t })) m.1
-    ∙ ap (λ (z : ItemAt). Some (record z { part = q })) m.2
-
-module _ (names : ℕ → List ℕ) (f : Forest) (s : State) (n : Node) (h : ItemStands names f s n) (x : ItemAt) (known : item_at s (out-Node n).id ≡ Some x) (out : Row) where
-  abbrev g : Site → Site
-  g = with_item (completed out)
-
-  abbrev t : State
-  t = change s (out-Node n).id (with_item (completed out))
-
-  known_then : item_at t (out-Node n).id ≡ Some (record x { part = completed out (item_part_of n) })
-  known_then =
-      let i = (out-Node n).id in
-      let g : Site → Site = with_item (completed out) in
-      let there : item_part t i ≡ Some (completed out (item_part_of n)) = ap (option_and_then (λ (y : Site). y.item)) (get-update_same by_name s.sites i g ∙ ap (option_map g) (its_site names f s n h)) in
-      let around : net_at t (parent i) ≡ net_at s (parent i) = ap (option_and_then (λ (p : NetPart). option_map (λ (w : Net). record { part = p; net = w }) (net_of s p))) (read_kept s.sites i g (λ (y : Site). y.net) (λ y. refl) (parent i)) in
-      ap (option_and_then (λ (p : ItemPart). option_and_then (with_task p) (net_at t (parent i)))) there
-      ∙ ap (option_and_then (with_task (completed out (item_part_of n)))) around
-      ∙ renewed_there (item_part_of n) (completed out (item_part_of n)) refl (net_at s (parent i)) x (known_with names f s n h x known)
-
-  rule_kept : (kind : TreeKind) → has_rule t (out-Node n).id kind ≡ has_rule s (out-Node n).id kind
-  rule_kept kind =
-      let i = (out-Node n).id in
-      ap (λ b. asked_of b t (net_part t i) (item_at t i) kind) (no_case names f s n h)
-      ∙ ap (λ o. asked_of false t (net_part t i) o kind) known_then
-      ∙ sym (ap (λ o. asked_of false s (net_part s i) o kind) known)
-      ∙ sym (ap (λ b. asked_of b s (net_part s i) (item_at s i) kind) (no_case names f s n h))
-
 abbrev Level : Type 0
 Level = Node-F NetState Node Run
 
@@ -157,11 +119,9 @@ completes old new out due e =
     λ names f s x said h known is_due.
     let i = (out-Node old).id in
     let g : Site → Site = with_item (completed out) in
-    let t : State = change s i g in
     let keeps : Keeps old new = record { id = ap (λ (l : Level). l.id) e; task = ap (λ (l : Level). l.task) e; net = ap (λ (l : Level). l.net) e; run = ap (λ (l : Level). l.run) e } in
     let by : Bool → Site → Site = λ b y. record y { due = due_where b Post y.due } in
     let own : item_site names new ≡ by due.post (g (item_site names old)) = ap (site_of names) e in
-    let rule : has_rule t i Post ≡ due.post = rule_kept names f s old h x known out Post ∙ sym is_due in
-    let whole : change t i (by (has_rule t i Post)) ≡ change s i (λ y. by due.post (g y)) =
-    ap (λ b. change t i (by b)) rule ∙ ap (λ m. record s { sites = m }) (updated_twice s.sites i g (by due.post)) in
+    let whole : where_some (item_at s i) s (complete s i out) ≡ change s i (λ y. by due.post (g y)) =
+    ap (λ o. where_some o s (complete s i out)) known ∙ ap (λ b. change (change s i g) i (by b)) (sym is_due) ∙ ap (with_sites s) (updated_twice s.sites i g (by due.post)) in
     subst (λ (u : State). Places names f s u old new) (sym whole) (its_change names f s old h new (λ y. by due.post (g y)) keeps own)

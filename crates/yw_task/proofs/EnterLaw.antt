@@ -6,7 +6,7 @@ use Rattle.yw_base.specs.Identity.{under}
 use Rattle.yw_mark.specs.Taking.{taken_places}
 use Rattle.yw_mark.specs.declared.join.Taken.{Taken}
 use Rattle.yw_sites.proofs.Prefix.{under_refl}
-use Rattle.yw_spec.specs.Net.{before}
+use Rattle.yw_spec.specs.Net.{places_before}
 use Rattle.yw_spec.specs.declared.spec.Net.{Net}
 use Rattle.yw_spec.specs.declared.task.Task.{Task}
 use Rattle.yw_state.proofs.MapLemmas.{by_name, get-update_other, get-update_same}
@@ -22,7 +22,7 @@ use Rattle.yw_task.proofs.EnterAsk.{here, net_with, shown, task_stands}
 use Rattle.yw_task.proofs.ItemPut.{not_child}
 use Rattle.yw_task.proofs.OwnPart.{overwritten, same_ids, shows_changed, still_boxed}
 use Rattle.yw_task.proofs.Placing.{items_placed}
-use Rattle.yw_task.proofs.RoomLaw.{roomy_boxed, roomy_ids, roomy_part, roomy_shows}
+use Rattle.yw_task.proofs.RoomLaw.{roomy_boxed, roomy_ids, roomy_shows}
 use Rattle.yw_task.specs.Enters.{Enters, PlacesNet}
 use Rattle.yw_task.specs.Giving.{entry_rows}
 use Rattle.yw_task.specs.Items.{LosesTokens, NothingFrom}
@@ -35,11 +35,11 @@ use Rattle.yw_tree.specs.declared.Node.{Node}
 use Rattle.yw_tree.specs.declared.Run.{Run}
 
 -- the input places of the task with this number
-before_is : (net : Net) (t : ℕ) (task : Task) → slice_get net.tasks t ≡ Some task → before net t ≡ task.before
+before_is : (net : Net) (t : ℕ) (task : Task) → slice_get net.tasks t ≡ Some task → places_before net t ≡ task.before
 before_is net t task at = ap (λ (o : Option Task). option_map_or (λ (u : Task). u.before) o []) at
 
 pub enters : (net : Net) (old mid new : NetState) (i : Ident) (t : ℕ) (u : Task) → slice_get net.tasks t ≡ Some u → (taken : Taken) (first : ℕ) (due : Checks) (rows : List Row) (count : ℕ) → IsBoxedNet old
-    → LosesTokens (taken_places (out-NetState old).marks (before net t) taken) old mid → rows ≡ entry_rows u (out-NetState old).vals → count ≡ length rows → GetsListAndItems i t due first rows mid new
+    → LosesTokens (taken_places (out-NetState old).marks (places_before net t) taken) old mid → rows ≡ entry_rows u (out-NetState old).vals → count ≡ length rows → GetsListAndItems i t due first rows mid new
     → Enters net old i t taken first due new count
 unfolding after
 enters net old mid new i t u at taken first due rows count boxed loses rows_are count_is gets = λ names f s said task places h places_are.
@@ -60,7 +60,7 @@ enters net old mid new i t u at taken first due rows count boxed loses rows_are 
     let elsewhere : (q : Ident) → under q i ≡ false → get m q ≡ get s.sites q =
     λ q off. get-update_other by_name s.sites i (with_part less) q (λ same. never (sym off ∙ ap (λ z. under z i) same ∙ under_refl i)) in
     let fresh : NothingFrom m i first = λ n l. get-update_other by_name s.sites i (with_part less) (child i n) (λ same. not_child i n (sym same)) ∙ h.fresh n l in
-    let placed = items_placed names f s i net old t first due task h roomy (fold one_less marks cs) (roomy_part t mid roomy gets.room names ∙ is_less) m (roomy_boxed t mid roomy gets.room (still_boxed old mid items boxed))
+    let placed = items_placed names f s i net old t first due task h roomy m (roomy_boxed t mid roomy gets.room (still_boxed old mid items boxed))
     (roomy_ids t mid roomy gets.room ∙ same_ids old mid items) shows own elsewhere fresh rows new (first + length rows) gets.items in
     let vals = (out-NetState old).vals in
     let same : entry_rows task vals ≡ rows = ap (λ (z : Task). entry_rows z vals) (some_same task u (sym h.task_is ∙ at)) ∙ sym rows_are in

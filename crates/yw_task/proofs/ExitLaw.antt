@@ -149,7 +149,7 @@ module _ (net : Net) (t : ℕ) (old new : NetState) (task : Task) (vals : Row) (
       let few = few_then s i (part_of names old) (its_net_part names f s i net old h) t vals task numbers room in
       has_net names f s i net old h _ new (left names i k.others (k.beside names) s s (its_beside names f s i net old h) (it_stands names f s i net old h) few)
 
-  exit_there : (places : List Place) (said : Said) → Allowed s (events.Exit i task.name places) said → ExitsTo names f s i net task places said new numbers
+  exit_there : (places : List Place) (said : Said) → Allowed s (events.Exit i task.name places) said → ExitsTo names f s i (net_with names net old) task places said new numbers
   unfolding allows after
   exit_there places said allowed =
       let y : TaskAt = x in
@@ -166,20 +166,20 @@ module _ (net : Net) (t : ℕ) (old new : NetState) (task : Task) (vals : Row) (
         map =
             ap (λ o. where_some o s (exit s i places)) stands
             ∙ ap (λ o. exits (unwrap_or o [])) is
-            ∙ ap (λ (v : Row). post_at_output (produce (emptied i s t v task) i numbers) i net numbers) values_are
-            ∙ ap (λ (z : State). post_at_output z i net numbers) n.map;
+            ∙ ap (λ (v : Row). post_at_output (produce (emptied i s t v task) i numbers) i (net_with names net old) numbers) values_are
+            ∙ ap (λ (z : State). post_at_output z i (net_with names net old) numbers) n.map;
         kept = n.kept;
       }
     where
       -- as `exit` does
       exits : List ℕ → State
-      exits cs = post_at_output (produce (emptied i s t (exit_values s i (record { number = t; task = task; within = net_with names net old })) task) i cs) i net cs
+      exits cs = post_at_output (produce (emptied i s t (exit_values s i (record { number = t; task = task; within = net_with names net old })) task) i cs) i (net_with names net old) cs
 
 pub exits : (net : Net) (t : ℕ) (old new : NetState) (task : Task) (vals : Row) (numbers : List ℕ) → slice_get net.tasks t ≡ Some task → vals ≡ kept_values task (rows_made (items_in old t)) (out-NetState old).vals → numbers ≡ split_places task vals
     → Leaves task t vals numbers old new → Exits net t old new numbers
 exits net t old new task vals numbers at kept split left = λ names f s i spec u places said h within is allowed.
     let same : task ≡ u = some_same task u (sym at ∙ is) in
-    subst (λ (v : Task). Allowed s (events.Exit i v.name places) said → ExitsTo names f s i net v places said new numbers) same
+    subst (λ (v : Task). Allowed s (events.Exit i v.name places) said → ExitsTo names f s i (net_with names net old) v places said new numbers) same
     (exit_there net t old new task vals numbers kept split left names f s i spec h within at places said) allowed
 
 -- whether it is allowed or not

@@ -24,7 +24,7 @@ use Rattle.yw_tree.specs.declared.Node.{out-Node}
 
 module _ (names : ℕ → List ℕ) (i : Ident) (beside : Entries) (t : ℕ) (due : Checks) (others : List Ident) where
   abbrev pub coming : Row → Site
-  coming given = record (new_item t given) { due = due }
+  coming given = new_item t given due
 
   -- an item of each number from first on may come
   abbrev pub HasRoom : NetState → ℕ → Type 0

@@ -3,7 +3,6 @@ pub mod ItemLaw
 pub mod Started
 pub mod AskLaw
 pub mod EnterAsk
-pub mod Maps
 pub mod CompleteLaw
 pub mod TokenCounts
 pub mod MadeLaw

@@ -1,8 +1,8 @@
 -- Items come to a net that stands in a state: the state then has the map of the forest with the new net.
-use Rattle.std.proofs.Common.{List, Some, [], ap, arith, false, length, refl, subst, sym, true, ℕ, ◌++◌, ◌+◌, ◌∙◌, ◌∷◌, ◌≡◌, ◌≤◌}
+use Rattle.std.proofs.Common.{List, [], ap, arith, false, length, refl, subst, sym, true, ℕ, ◌++◌, ◌+◌, ◌∙◌, ◌∷◌, ◌≡◌, ◌≤◌}
 use Rattle.std.specs.FinMap.Entries.{find}
 use Rattle.std.specs.List.{range_with_len, zip}
-use Rattle.std.specs.Prelude.{fold, is_some, option_and_then, option_map}
+use Rattle.std.specs.Prelude.{fold, is_some, option_map}
 use Rattle.yw_base.specs.Identity.{under}
 use Rattle.yw_sites.proofs.Children.{children_ends}
 use Rattle.yw_sites.proofs.Prefix.{child_strictly, is_child_of}
@@ -11,22 +11,20 @@ use Rattle.yw_sites.specs.Idents.{AreChildren, IsChild}
 use Rattle.yw_spec.specs.declared.spec.Net.{Net}
 use Rattle.yw_spec.specs.declared.task.Task.{Task}
 use Rattle.yw_state.proofs.Tests.{never}
-use Rattle.yw_state.specs.After.{add_item, new_item, with_net as with_part, with_next, with_sites}
+use Rattle.yw_state.specs.After.{add_item, item_checks, with_net as with_part, with_next, with_sites}
 use Rattle.yw_state.specs.Identity.{Ident, child}
 use Rattle.yw_state.specs.Map.{get, lexical}
-use Rattle.yw_state.specs.State.{NetPart, Sites, State, TaskAt, net_at, net_of}
+use Rattle.yw_state.specs.State.{Sites, State, TaskAt}
 use Rattle.yw_state.specs.Values.{Row}
 use Rattle.yw_state.specs.declared.part.Checks.{Checks}
-use Rattle.yw_task.proofs.EnterAsk.{here, net_with, shown}
+use Rattle.yw_task.proofs.EnterAsk.{here, net_with, shown, task_stands}
 use Rattle.yw_task.proofs.ItemPut.{items_put, put_all}
 use Rattle.yw_task.proofs.ItemsCome.{HasRoom, HaveCome, all_come, coming}
 use Rattle.yw_task.proofs.OwnPart.{overwritten}
-use Rattle.yw_task.specs.Due.{entry_checks}
 use Rattle.yw_task.specs.Enters.{MayGet, PlacesNet}
 use Rattle.yw_task.specs.Items.{GetsItems, NothingFrom}
 use Rattle.yw_tree.proofs.ItemAdded.{children_more}
 use Rattle.yw_tree.proofs.NetHere.{NetHere, same_part}
-use Rattle.yw_tree.proofs.Parents.{identity_long}
 use Rattle.yw_tree.proofs.Stand.{all_known, each_with}
 use Rattle.yw_tree.specs.Boxed.{IsBoxedNet, ids}
 use Rattle.yw_tree.specs.Entries.{net_entries, net_part}
@@ -34,7 +32,7 @@ use Rattle.yw_tree.specs.Forest.{IsForest, sites_of}
 use Rattle.yw_tree.specs.Places.{placed_net}
 use Rattle.yw_tree.specs.Shows.{ShowsNet}
 use Rattle.yw_tree.specs.declared.Forest.{Forest}
-use Rattle.yw_tree.specs.declared.NetState.{NetState, out-NetState}
+use Rattle.yw_tree.specs.declared.NetState.{NetState}
 
 module _ (names : ℕ → List ℕ) (f : Forest) (s : State) (i : Ident) (net : Net) (old : NetState) (t first : ℕ) (due : Checks) (task : Task) (h : MayGet names f s i net old t first due task) where
   abbrev its : NetHere f i old (placed_net f i)
@@ -52,16 +50,10 @@ module _ (names : ℕ → List ℕ) (f : Forest) (s : State) (i : Ident) (net : 
       never (sym (ap is_some (h.fresh n l)) ∙ ap (λ z. is_some (get s.sites z)) e ∙ ap is_some (shows.below k (child_strictly k i (is_child_of k i c))) ∙ stands))
       (ids old ++ at.others) at.here.0 (all_known names old (at.beside names) at.others (at.known names)))
 
-  -- a net with other tokens and these items stands there, and more items come to it
-  module _ (mid : NetState) (marks : List ℕ) (other : net_part names mid ≡ record (net_part names old) { tokens = marks }) (m : Sites) (boxed : IsBoxedNet mid) (same_ids : ids mid ≡ ids old) (shows : ShowsNet names m i ((here names f s i net old h.stands).beside names) mid) (own : get m i ≡ option_map (with_part (λ _. net_part names mid)) (get s.sites i)) (elsewhere : (q : Ident) → under q i ≡ false → get m q ≡ get s.sites q) (fresh : NothingFrom m i first) where
+  -- a net with these items stands there, and more items come to it
+  module _ (mid : NetState) (m : Sites) (boxed : IsBoxedNet mid) (same_ids : ids mid ≡ ids old) (shows : ShowsNet names m i ((here names f s i net old h.stands).beside names) mid) (own : get m i ≡ option_map (with_part (λ _. net_part names mid)) (get s.sites i)) (elsewhere : (q : Ident) → under q i ≡ false → get m q ≡ get s.sites q) (fresh : NothingFrom m i first) where
     abbrev x : TaskAt
     x = record { number = t; task = task; within = net_with names net old }
-
-    mid_known : net_at (with_sites s m) i ≡ Some (net_with names net mid)
-    mid_known =
-        let known : net_of s (net_part names mid) ≡ Some net = ap (net_of s) other ∙ h.stands.known in
-        ap (option_and_then (λ (n : NetPart). option_map (λ (w : Net). record { part = n; net = w }) (net_of s n))) shows.part
-        ∙ ap (option_map (λ (w : Net). record { part = net_part names mid; net = w })) known
 
     have_come : (rows : List Row) (new : NetState) → GetsItems i t due first rows mid new → HaveCome names i ((here names f s i net old h.stands).beside names) t due (here names f s i net old h.stands).others m rows first new
     have_come rows new gets =
@@ -89,12 +81,12 @@ module _ (names : ℕ → List ℕ) (f : Forest) (s : State) (i : Ident) (net : 
 
     -- the definitions' items are put in the map one after another
     pub items_placed : (rows : List Row) (new : NetState) (next : ℕ) → GetsItems i t due first rows mid new
-        → PlacesNet names f s (with_next (fold (add_item x i) (with_sites s m) (zip (range_with_len first (length rows)) rows)) next) i new next
+        → PlacesNet names f s (with_next (fold (add_item x i (item_checks s x)) (with_sites s m) (zip (range_with_len first (length rows)) rows)) next) i new next
     items_placed rows new next gets =
         let placed = placed_map rows new gets in
-        let put : fold (add_item x i) (with_sites s m) (zip (range_with_len first (length rows)) rows)
-        ≡ with_sites s (put_all i (λ given. record (new_item t given) { due = entry_checks s (names (out-NetState old).spec) net task }) first rows m) =
-        items_put i (identity_long i h.stands.identity) x h.task_is (net_with names net mid) (ap (λ (n : NetPart). n.spec) other) refl rows first (with_sites s m) mid_known in
-        let with_due : put_all i (λ given. record (new_item t given) { due = entry_checks s (names (out-NetState old).spec) net task }) first rows m ≡ sites_of names (placed_net f i new) =
-        ap (λ (d : Checks). put_all i (λ given. record (new_item t given) { due = d }) first rows m) (sym h.due_are) ∙ sym placed.0 in
-        record { map = ap (λ u. with_next u next) (put ∙ ap (with_sites s) with_due); kept = placed.1 }
+        let checks : due ≡ item_checks s x = h.due_are x (task_stands names f s i net old h.stands h.spec h.within t task h.task_is) in
+        record {
+          map = ap (λ (d : Checks). with_next (fold (add_item x i d) (with_sites s m) (zip (range_with_len first (length rows)) rows)) next) (sym checks)
+              ∙ ap (λ u. with_next u next) (items_put x i due rows first (with_sites s m) ∙ ap (with_sites s) (sym placed.0));
+          kept = placed.1;
+        }

@@ -1,11 +1,8 @@
 -- What an item that is added finds first, and what it does.
-use Rattle.std.specs.Prelude.{◌≡◌, ◌+◌, ◌&&◌, ℕ, Bool, true, false, List, [], ◌∷◌, Option, Some, None, codes, is_none, length, nat_le, nat_lt, not, option_and_then, option_map, slice_get, if◌then◌else◌}
+use Rattle.std.specs.Prelude.{◌≡◌, ◌+◌, ℕ, Bool, List, [], ◌∷◌, Option, Some, None, codes, is_none, length, nat_le, nat_lt, not, option_and_then, option_map, slice_get, if◌then◌else◌}
 use Rattle.std.specs.Option.{option_or}
 use Rattle.yw_base.specs.Identity.{number_end}
-use Rattle.yw_base.specs.declared.value.Sort.{Sort}
-use Rattle.yw_base.specs.declared.value.Sort.TheVariants as sorts
 use Rattle.yw_base.specs.declared.value.Value.{Value}
-use Rattle.yw_base.specs.declared.value.Value.TheVariants as values
 use Rattle.yw_spec.specs.declared.spec.Net.{Net}
 use Rattle.yw_spec.specs.declared.spec.Spec.{Spec}
 use Rattle.yw_spec.specs.declared.task.Task.{Task}
@@ -77,18 +74,6 @@ value_fault task vals value n =
     (option_or (option_map (placed rules.Mapping) (undefined_param task vals)) (option_map placeless (number_rule n)))
 
 -- ---- the value
-
-abbrev pub is_texts : Sort → Bool
-is_texts sorts.Texts = true
-is_texts sort = false
-
-abbrev pub is_empty_list : Value → Bool
-is_empty_list (values.Ints []) = true
-is_empty_list v = false
-
--- an empty list stands for one of texts too
-abbrev pub meant : Sort → Value → Value
-meant sort v = if is_texts sort && is_empty_list v then values.Texts [] else v
 
 -- the value stands for an element, and an item is given this for it
 pub record GivesRow (task : Task) (vals : Row) (value : Value) (row : Row) : Type 0 where

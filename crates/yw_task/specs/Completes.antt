@@ -10,7 +10,7 @@ use Rattle.yw_state.specs.Broken.{Check, First, complete_checks, placed, placele
 use Rattle.yw_state.specs.Events.{after}
 use Rattle.yw_state.specs.Given.{made_values, misfit}
 use Rattle.yw_state.specs.Identity.{Ident, parent}
-use Rattle.yw_state.specs.Judged.{has_rule}
+use Rattle.yw_state.specs.Judged.{has_rules, task_place}
 use Rattle.yw_state.specs.Passing.{made_rows_with, set_row}
 use Rattle.yw_state.specs.State.{ItemAt, State, item_at, items_of}
 use Rattle.yw_state.specs.Texts.{Said}
@@ -89,8 +89,8 @@ AnswersFirst P (Err Memory) = Unit {0}
 
 -- ---- what it does
 
--- wherever the item stands with its task, if the check after it is due as is said
+-- wherever the item stands with its task, if the check after it is due where its tree has a rule
 abbrev pub Completes : Node → Row → Checks → Node → Type 0
 Completes old out due new =
     (names : ℕ → List ℕ) (f : Forest) (s : State) (x : ItemAt) (said : Said) → ItemStands names f s old → item_at s (out-Node old).id ≡ Some x
-    → due.post ≡ has_rule s (out-Node old).id Post → Places names f s (after s (events.Complete (out-Node old).id out) said) old new
+    → due.post ≡ has_rules s (task_place x.of_task Post) → Places names f s (after s (events.Complete (out-Node old).id out) said) old new

@@ -24,7 +24,7 @@ use Rattle.yw_state.specs.declared.rule.Refusal.{Refusal}
 use Rattle.yw_state.specs.declared.rule.Rule.{Rule}
 use Rattle.yw_state.specs.declared.rule.Rule.TheVariants as rules
 use Rattle.yw_task.specs.Asked.{AsksEnter}
-use Rattle.yw_task.specs.Due.{entry_checks}
+use Rattle.yw_task.specs.Due.{AreDue}
 use Rattle.yw_task.specs.Items.{NothingFrom}
 use Rattle.yw_task.specs.Standing.{NetStands}
 use Rattle.yw_task.specs.declared.fault.StepFault.{StepFault}
@@ -84,7 +84,7 @@ pub record MayGet (names : ℕ → List ℕ) (f : Forest) (s : State) (i : Ident
   pub task_is : slice_get net.tasks t ≡ Some task
   pub next : s.next ≡ first
   pub fresh : NothingFrom s.sites i first
-  pub due_are : due ≡ entry_checks s (names (out-NetState state).spec) net task
+  pub due_are : AreDue s i task.name due
 
 -- The state has the map of the forest with the net new at i, and this number is drawn next; and that forest is well boxed.
 pub record PlacesNet (names : ℕ → List ℕ) (f : Forest) (s t : State) (i : Ident) (new : NetState) (next : ℕ) : Type 0 where

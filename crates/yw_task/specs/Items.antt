@@ -20,7 +20,7 @@ LosesTokens cs old new = out-NetState new ≡ record (out-NetState old) { marks 
 pub record IsReady (j : Ident) (t : ℕ) (due : Checks) (given : Row) (n : Node) : Type 0 where
   pub id : (out-Node n).id ≡ j
   pub task : (out-Node n).task ≡ t
-  pub site : (names : ℕ → List ℕ) → item_site names n ≡ record (new_item t given) { due = due }
+  pub site : (names : ℕ → List ℕ) → item_site names n ≡ new_item t given due
   pub without_net : (out-Node n).net ≡ None
   pub without_run : (out-Node n).run ≡ None
 

@@ -9,11 +9,12 @@ use Rattle.yw_state.specs.Allowed.{Allowed, place_numbers}
 use Rattle.yw_state.specs.Events.{after}
 use Rattle.yw_state.specs.Identity.{Ident}
 use Rattle.yw_state.specs.Passing.{kept_values, split_places}
-use Rattle.yw_state.specs.State.{State}
+use Rattle.yw_state.specs.State.{NetAt, State}
 use Rattle.yw_state.specs.Texts.{Said}
 use Rattle.yw_state.specs.declared.event.Event.TheVariants as events
 use Rattle.yw_task.specs.Making.{rows_made}
 use Rattle.yw_task.specs.Standing.{NetStands}
+use Rattle.yw_tree.specs.Entries.{net_part}
 use Rattle.yw_tree.specs.Forest.{IsForest, sites_of}
 use Rattle.yw_tree.specs.Places.{placed_net}
 use Rattle.yw_tree.specs.Shows.{items_in}
@@ -40,10 +41,10 @@ SplitsTo net t old numbers =
 
 -- The exit, which puts a token on each of these places, leads to the state that has the map of the forest with the net new, but for the check
 -- of the case after it: that is due then if a token came to the output of the case's own net.
-pub record ExitsTo (names : ℕ → List ℕ) (f : Forest) (s : State) (i : Ident) (net : Net) (task : Task) (places : List Place) (said : Said) (new : NetState)
+pub record ExitsTo (names : ℕ → List ℕ) (f : Forest) (s : State) (i : Ident) (n : NetAt) (task : Task) (places : List Place) (said : Said) (new : NetState)
     (numbers : List ℕ) : Type 0 where
-  pub put : place_numbers net places ≡ Some numbers
-  pub map : after s (events.Exit i task.name places) said ≡ post_at_output (with_sites s (sites_of names (placed_net f i new))) i net numbers
+  pub put : place_numbers n.net places ≡ Some numbers
+  pub map : after s (events.Exit i task.name places) said ≡ post_at_output (with_sites s (sites_of names (placed_net f i new))) i n numbers
   pub kept : IsForest (placed_net f i new)
 
 -- wherever the net stands and the exit of its task with this number is allowed
@@ -51,4 +52,4 @@ abbrev pub Exits : Net → ℕ → NetState → NetState → List ℕ → Type 0
 Exits net t old new numbers =
     (names : ℕ → List ℕ) (f : Forest) (s : State) (i : Ident) (spec : Spec) (task : Task) (places : List Place) (said : Said)
     → NetStands names f s i net old → NetIsWithin spec net → slice_get net.tasks t ≡ Some task → Allowed s (events.Exit i task.name places) said
-    → ExitsTo names f s i net task places said new numbers
+    → ExitsTo names f s i (record { part = net_part names old; net = net }) task places said new numbers

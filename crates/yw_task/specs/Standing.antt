@@ -9,7 +9,7 @@ use Rattle.yw_state.specs.State.{State, net_of}
 use Rattle.yw_state.specs.Texts.{Said}
 use Rattle.yw_state.specs.declared.event.Event.{Event}
 use Rattle.yw_tree.specs.Entries.{net_part}
-use Rattle.yw_tree.specs.Forest.{IsForest, item_of, placed, sites_of}
+use Rattle.yw_tree.specs.Forest.{IsForest, item_of, item_replaced, sites_of}
 use Rattle.yw_tree.specs.Places.{net_at}
 use Rattle.yw_tree.specs.declared.Forest.{Forest}
 use Rattle.yw_tree.specs.declared.NetState.{NetState}
@@ -24,8 +24,8 @@ pub record ItemStands (names : ℕ → List ℕ) (f : Forest) (s : State) (n : N
 
 -- The event leads to the state that has the map of the forest with the item new in the place of old, and that forest is well boxed.
 pub record Places (names : ℕ → List ℕ) (f : Forest) (s t : State) (old new : Node) : Type 0 where
-  pub map : t ≡ with_sites s (sites_of names (placed f (out-Node old).id new))
-  pub kept : IsForest (placed f (out-Node old).id new)
+  pub map : t ≡ with_sites s (sites_of names (item_replaced f (out-Node old).id new))
+  pub kept : IsForest (item_replaced f (out-Node old).id new)
 
 -- wherever the item stands, the event at it puts the other in its place
 abbrev pub ItemDoes : (Ident → Event) → Node → Node → Type 0

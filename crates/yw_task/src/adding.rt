@@ -1,13 +1,8 @@
 // An item is added to a task.
 ghost use Rattle.std.specs.Prelude.{◌≡◌, ◌<◌, ◌≤◌, [], ◌∷◌, IfOk, None, OnOk, Some, length};
-ghost use Rattle.std.specs.List.{list_all};
-ghost use Rattle.std.specs.Option.{option_copied};
 ghost use Rattle.yw_base.specs.Identity.{most_numbers, number_end};
-ghost use Rattle.yw_base.specs.Values.{is_short, is_small};
-ghost use Rattle.yw_state.specs.Allowed.{element_param};
-ghost use Rattle.yw_state.specs.Given.{as_sort, element_value};
 ghost use Rattle.yw_state.specs.Passing.{given_values};
-ghost use Rattle.yw_task.specs.Adds.{AddBreaks, Adds, GivesRow, is_empty_list, is_full, is_texts, meant, room_rule, value_fault};
+ghost use Rattle.yw_task.specs.Adds.{AddBreaks, Adds, GivesRow, is_full, room_rule, value_fault};
 ghost use Rattle.yw_task.specs.Completes.{AnswersFirst};
 ghost use Rattle.yw_task.specs.Enters.{OnRefusal};
 ghost use Rattle.yw_task.specs.Giving.{undefined_param};
@@ -21,103 +16,11 @@ use crate::fault::StepFault;
 use crate::giving::{given_row, undefined_param};
 use crate::waits::is_active;
 use std::alloc::{AllocError, Global};
-use yw_base::{Ident, Items, Row, Sort, Text, Value};
-use yw_spec::{Net, Param, Task};
+use yw_base::{Ident, NUMBER_END, Row, Text, Value};
+use yw_given::element_value;
+use yw_spec::{Net, Task};
 use yw_state::{Checks, Refusal, Rule};
 use yw_tree::NetState;
-
-/// The most bytes of a text, and the most elements of a list: our own limits on values.
-const MOST_TEXT_BYTES: usize = 4096;
-
-const MOST_ELEMENTS: usize = 1000;
-
-/// The first number that is too large, 2^48.
-const NUMBER_END: u64 = 0x1_0000_0000_0000;
-
-fn is_short(text: &Text) -> bool
-    ensures { result ≡ is_short text.now }
-{
-    text.as_str().len() <= MOST_TEXT_BYTES
-}
-
-fn are_short(texts: &[Text]) -> bool
-    ensures { result ≡ list_all is_short texts.now }
-{
-    texts.iter().all(|text| is_short(text))
-}
-
-/// It is within the limits of values.
-fn is_small(value: &Value) -> bool
-    ensures { result ≡ is_small value.now }
-{
-    match value {
-        Value::Bool(_) | Value::Int(_) => true,
-        Value::Text(text) => is_short(text),
-        Value::Ints(ints) => ints.len() <= MOST_ELEMENTS,
-        Value::Texts(texts) => { texts.len() <= MOST_ELEMENTS && are_short(texts.as_slice()) }
-    }
-}
-
-fn is_texts(sort: Sort) -> bool
-    ensures { result ≡ is_texts sort }
-{
-    match sort {
-        Sort::Texts => true,
-        Sort::Bool | Sort::Int | Sort::Text | Sort::Ints => false,
-    }
-}
-
-/// It is the empty list, which comes as one of numbers.
-fn is_empty_list(value: &Value) -> bool
-    ensures { result ≡ is_empty_list value.now }
-{
-    match value {
-        Value::Ints(ints) => ints.is_empty(),
-        _ => false,
-    }
-}
-
-/// What a value means where one of this sort is wanted.
-fn meant(alloc: Global, sort: Sort, value: Value) -> Value
-    ensures { result ≡ meant sort value }
-{
-    if is_texts(sort) && is_empty_list(&value) {
-        return Value::Texts(Items::new(alloc));
-    }
-    value
-}
-
-/// The value as one of this sort, if it is one and within the limits.
-fn as_sort(alloc: Global, sort: Sort, value: Value) -> Option<Value>
-    ensures { result ≡ as_sort sort (Some value) }
-{
-    let value = meant(alloc, sort, value);
-    if value.has_sort(sort) && is_small(&value) {
-        Some(value)
-    } else {
-        None
-    }
-}
-
-/// The parameter that is given an element.
-fn element_param(task: &Task) -> Option<&Param>
-    ensures { option_copied result ≡ element_param task.now }
-{
-    match &task.many {
-        Some(many) => task.ins.get(many.item),
-        None => None,
-    }
-}
-
-/// The element for which a value stands.
-fn element_of(alloc: Global, task: &Task, value: Value) -> Option<Value>
-    ensures { result ≡ element_value task.now (Some value) }
-{
-    match element_param(task) {
-        Some(param) => as_sort(alloc, param.sort, value),
-        None => None,
-    }
-}
 
 /// How many items of the task stand in the net.
 fn item_count(state: &NetState, t: usize) -> usize
@@ -173,7 +76,7 @@ fn row_to_add(
     ensures number { OnOk result (n < number_end) }
     ensures breaks { AnswersFirst (λ found. found ≡ value_fault task.now vals.now value n) result }
 {
-    let Some(element) = element_of(alloc, task, value) else {
+    let Some(element) = element_value(alloc, task, Some(value)) else {
         return Err(StepFault::Refused(Refusal {
             rule: Rule::BadData,
             at: Text::copy_of(alloc, "value")?,

@@ -2,7 +2,7 @@
 ghost use Rattle.std.specs.Prelude.{◌≡◌, ◌+◌, ◌<◌, ◌≤◌, ◌++◌, ◌∷◌, [], IfOk, None, OnOk, length, true};
 ghost use Rattle.yw_base.specs.Identity.{is_number, most_numbers, number_end};
 ghost use Rattle.yw_mark.specs.Taking.{taken_places};
-ghost use Rattle.yw_spec.specs.Net.{before};
+ghost use Rattle.yw_spec.specs.Net.{places_before};
 ghost use Rattle.yw_state.specs.Identity.{child};
 ghost use Rattle.yw_task.specs.Items.{AreBefore, GetsItems, IsReady, LosesTokens, PutsItem, row_of};
 ghost use Rattle.yw_task.specs.Room.{GetsListAndItems};
@@ -22,7 +22,7 @@ use yw_tree::{NetState, Node};
 /// Takes a token from each of the places that a choice of a task's join stands for.
 pub fn take_tokens(net: &Net, state: &mut NetState, t: usize, taken: Taken)
     requires { t < length net.now.tasks }
-    ensures { LosesTokens (taken_places (out-NetState state.old).marks (before net.now t) taken) state.old state.new }
+    ensures { LosesTokens (taken_places (out-NetState state.old).marks (places_before net.now t) taken) state.old state.new }
 {
     take(net, &mut state.marks, t, taken);
 }

@@ -2,7 +2,6 @@
 ghost use Rattle.std.specs.Prelude.{◌≡◌, ◌<◌, ◌≤◌, IfOk, None, false, length};
 ghost use Rattle.yw_base.specs.Identity.{most_numbers};
 ghost use Rattle.yw_path.specs.Upstream.{IsUpstreamOf};
-ghost use Rattle.yw_state.specs.Nets.{is_among};
 ghost use Rattle.yw_task.specs.Asked.{is_active};
 ghost use Rattle.yw_task.specs.Completes.{AnswersFirst};
 ghost use Rattle.yw_task.specs.Enters.{Chooses, EnterBreaks, Enters, OnRefusal, by_choice, is_choice};
@@ -16,18 +15,11 @@ use crate::fault::StepFault;
 use crate::giving::rows_to_enter;
 use std::alloc::Global;
 use yw_base::{Gate, Ident};
-use yw_mark::{Taken, is_marked};
+use yw_mark::{Taken, is_among, is_marked};
 use yw_path::Upstream;
 use yw_spec::{Net, Task};
 use yw_state::{Checks, Marks, Rule};
 use yw_tree::NetState;
-
-/// It is one of these.
-fn is_among(places: &[usize], c: usize) -> bool
-    ensures { result ≡ is_among places.now c }
-{
-    places.iter().any(|place| c == *place)
-}
 
 /// The choice is of the kind of the task's join, and names no place but a marked input place.
 fn is_choice(task: &Task, marks: &Marks, taken: Taken) -> bool

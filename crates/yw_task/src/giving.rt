@@ -11,13 +11,10 @@ ghost use Rattle.yw_task.specs.Giving.{count_rule, elements, entry_fault, entry_
 use crate::done::placeless;
 use crate::fault::StepFault;
 use std::alloc::{AllocError, Global};
-use yw_base::{Items, Row, Text, Val};
+use yw_base::{Items, NUMBER_END, Row, Text, Val};
 use yw_expr::view;
 use yw_spec::{Param, Task};
 use yw_state::{Refusal, Rule};
-
-/// The first number that is too large, 2^48.
-const NUMBER_END: u64 = 0x1_0000_0000_0000;
 
 /// The parameter has an expression, which is undefined over these values.
 fn lacks_value(param: &Param, vals: &Row) -> bool

@@ -2,6 +2,7 @@
 // document order, and then the implicit places in the order of their flows.
 use std::alloc::Global;
 use yw_check::check;
+use yw_documents::seq;
 use yw_read::read_spec;
 use yw_spec::{Net, Spec};
 
@@ -31,7 +32,7 @@ pub enum Doc {
 /// Its text. The call promises nothing, so that no proof of a test holds its letters.
 pub fn text_of(doc: Doc) -> &'static str {
     match doc {
-        Doc::Seq => SEQ,
+        Doc::Seq => seq(),
         Doc::Xor => XOR,
         Doc::Waits => WAITS,
         Doc::Many => MANY,
@@ -42,19 +43,6 @@ pub fn text_of(doc: Doc) -> &'static str {
         Doc::Sums => SUMS,
     }
 }
-
-const SEQ: &str = r#"name = "seq"
-top = "main"
-[[net]]
-name = "main"
-input = "i"
-output = "o"
-flows = [["i","a"],["a","b"],["b","o"]]
-[[net.task]]
-name = "a"
-[[net.task]]
-name = "b"
-"#;
 
 const XOR: &str = r#"name = "xj"
 top = "main"

@@ -1,21 +1,21 @@
 -- Two entries that may answer one command are the same where the texts of their steps are.
-use Rattle.std.specs.Prelude.{◌≡◌, ◌+◌, ℕ, true, List, [], ◌∷◌, length, map, Option, Some, None, Result, Ok, IsTrue, refl}
+use Rattle.std.specs.Prelude.{◌≡◌, ◌+◌, ℕ, true, List, [], ◌∷◌, length, map, Option, Some, None, Result, Ok, refl}
 use Rattle.std.proofs.Common.{sym, ◌∙◌, ap, subst}
 use Rattle.yw_invariant.proofs.EventsWell.{event_keeps_well}
 use Rattle.yw_sound.specs.Sound.{ReadsSound}
 use Rattle.yw_lines.specs.EventTexts.{step_text}
-use Rattle.yw_spec.specs.declared.spec.Place.{Place}
 use Rattle.yw_spec.specs.declared.spec.Spec.{Spec}
 use Rattle.yw_state.proofs.LeadsOne.{leads_one}
-use Rattle.yw_state.proofs.Tests.{some_same}
+use Rattle.yw_state.proofs.Tests.{map_some, some_same}
 use Rattle.yw_state.specs.Allowed.{allows}
-use Rattle.yw_state.specs.Automatic.{ComeAll, Comes, after_each, case_of, is_automatic}
+use Rattle.yw_state.specs.Automatic.{ComeAll, Comes, after_each, case_of}
+use Rattle.yw_state.specs.Broken.{entry_count}
 use Rattle.yw_state.specs.Events.{Leads, after}
 use Rattle.yw_state.specs.Identity.{Ident}
 use Rattle.yw_state.specs.Judged.{rules_at}
 use Rattle.yw_state.specs.Legal.{Follow, IsAsked}
-use Rattle.yw_state.specs.State.{State}
-use Rattle.yw_state.specs.Texts.{EventText, IsOne, Reader, TextSays, no_text, nothing, text_of}
+use Rattle.yw_state.specs.State.{State, TaskAt, task_at}
+use Rattle.yw_state.specs.Texts.{EventText, IsOne, Reader, TextSays, nothing}
 use Rattle.yw_state.specs.Well.{IsWell}
 use Rattle.yw_state.specs.declared.command.Command.{Command}
 use Rattle.yw_state.specs.declared.command.Command.TheVariants as commands
@@ -71,12 +71,14 @@ module _ (reader : Reader) (sound : ReadsSound reader) (within : ReadsWithin rea
 
   module _ (one : IsOne reader) (s : State) (well : IsWell reader s) where
     -- an Enter that is asked is read from its text
-    asked_enter : (i : Ident) (t : List ℕ) (places : List Place) (count : ℕ) (e : Event) (m : State)
-        → e ≡ events.Enter i t places s.next count → Leads reader s e m → event_in s 0 (step_text e) ≡ e
-    asked_enter i t places count e m is leads =
+    asked_enter : (who : List ℕ) (i : Ident) (t : List ℕ) (e : Event) (m : State)
+        → IsAsked reader s (commands.Enter who i t) e → Leads reader s e m → event_in s 0 (step_text e) ≡ e
+    unfolding IsAsked
+    asked_enter who i t e m asked leads =
         let holds = well_holds_within reader s within well in
         let IsRead : Event → Type 0 = λ d. allows s d leads.said ≡ true → event_in s 0 (step_text d) ≡ d in
-        subst IsRead (sym is) (enter_told s well.numbers holds 0 i t places leads.said s.next count) leads.allowed.0
+        let (x, there, made) = map_some (λ (y : TaskAt). events.Enter i t asked.0 s.next (entry_count y)) (task_at s i t) e (sym asked.1) in
+        subst IsRead made (enter_told s well.numbers holds 0 i t asked.0 leads.said s.next (entry_count x)) leads.allowed.0
 
     first_told : (c : Command) (e f : Event) (m k : State) → IsAsked reader s c e → IsAsked reader s c f
         → Leads reader s e m → Leads reader s f k → step_text e ≡ step_text f → e ≡ f
@@ -89,7 +91,7 @@ module _ (reader : Reader) (sound : ReadsSound reader) (within : ReadsWithin rea
         asked.2 ∙ ap (λ (p : TreePlace). events.AddRule p at side when conclusion (length (rules_at s p) + 1)) (asked.1 ∙ sym other.1) ∙ sym other.2
     first_told (commands.Launch spec gs) e f m k asked other leads goes same = some_same e f (asked ∙ sym other)
     first_told (commands.Enter who i t) e f m k asked other leads goes same =
-        sym (asked_enter i t asked.0 asked.1 e m asked.2 leads) ∙ ap (event_in s 0) same ∙ asked_enter i t other.0 other.1 f k other.2 goes
+        sym (asked_enter who i t e m asked leads) ∙ ap (event_in s 0) same ∙ asked_enter who i t f k other goes
     first_told (commands.Start who j) e f m k asked other leads goes same = asked ∙ sym other
     first_told (commands.Complete who j gs) e f m k asked other leads goes same = some_same e f (asked ∙ sym other)
     first_told (commands.Add who i t value) e f m k asked other leads goes same = some_same e f (asked ∙ sym other)

@@ -11,7 +11,7 @@ use Rattle.serde_json.specs.Data.{Data, boolean, number, string, array, unsigned
 use Rattle.serde_json.specs.View.{items_of}
 use Rattle.serde_json.specs.Written.{comma_if, compact_text, items_text, members_text}
 use Rattle.yw_lines.specs.EventTexts.{step_text}
-use Rattle.yw_lines.specs.Replies.{done, done_data}
+use Rattle.yw_lines.specs.Replies.{done_line, done_data}
 use Rattle.yw_state.proofs.Tests.{some_same}
 use Rattle.yw_state.specs.declared.event.Event.{Event}
 
@@ -93,8 +93,8 @@ flag_member q es = member (codes "quiet") (boolean q) (steps_member es)
 abbrev ok_member : Bool → List Event → Members
 ok_member q es = member (codes "ok") (boolean true) (flag_member q es)
 
-pub line_tells : (n : ℕ) (es fs : List Event) (q p : Bool) → done n es q ≡ done n fs p → (map step_text es ≡ map step_text fs) × (q ≡ p)
-unfolding done
+pub line_tells : (n : ℕ) (es fs : List Event) (q p : Bool) → done_line n es q ≡ done_line n fs p → (map step_text es ≡ map step_text fs) × (q ≡ p)
+unfolding done_line
 line_tells n es fs q p e =
     let line = append_cancel_right (compact_text (done_data n es q)) (compact_text (done_data n fs p)) (10 ∷ []) e in
     let ok = rest_tells false (codes "n") (number (unsigned n)) (ok_member q es) (ok_member p fs) (ap (drop 1) line) in

@@ -1,15 +1,16 @@
 -- The event that comes of itself in a case, from the state and the text of its step: a kind and an identity are read from the text, and so
 -- are a task's name and the place from which an XOR-join takes. All else is fixed by the state.
-use Rattle.std.specs.Prelude.{ℕ, List, [], ◌∷◌, map, length, filter, Option, Some, None, codes, get_or, option_and_then, unwrap_or, if◌then◌else◌}
+use Rattle.std.specs.Prelude.{ℕ, List, [], ◌∷◌, map, filter, Option, Some, None, codes, get_or, option_and_then, unwrap_or, if◌then◌else◌}
 use Rattle.std.specs.Str.{bytes_eq}
 use Rattle.yw_base.specs.declared.gate.Gate.{Gate}
 use Rattle.yw_base.specs.declared.gate.Gate.TheVariants.{And, Xor, Or}
 use Rattle.yw_spec.specs.declared.spec.Place.{Place}
 use Rattle.yw_state.specs.Allowed.{exit_values}
+use Rattle.yw_state.specs.Broken.{entry_count}
 use Rattle.yw_state.specs.Identity.{Ident}
 use Rattle.yw_state.specs.Joins.{marked}
 use Rattle.yw_state.specs.Judged.{conclusion_at, judged}
-use Rattle.yw_state.specs.Passing.{entry_values, split_places}
+use Rattle.yw_state.specs.Passing.{split_places}
 use Rattle.yw_state.specs.State.{State, RunPart, TaskAt, due_at, run_part, task_at}
 use Rattle.yw_state.specs.declared.event.Event.{Event}
 use Rattle.yw_state.specs.declared.event.Event.TheVariants as events
@@ -28,13 +29,9 @@ places_taken And s i x said = map (numbered x.within.net) x.task.before
 places_taken Xor s i x said = place_read said ∷ []
 places_taken Or s i x said = map (numbered x.within.net) (filter (marked s i) x.task.before)
 
--- how many items are made
-abbrev pub items_made : TaskAt → ℕ
-items_made x = length (unwrap_or (entry_values x.task x.within.part.vals) [])
-
 abbrev pub entered : State → Ident → List ℕ → List ℕ → Option TaskAt → Event
 entered s i t said None = events.Enter i t [] 0 0
-entered s i t said (Some x) = events.Enter i t (places_taken x.task.join s i x said) s.next (items_made x)
+entered s i t said (Some x) = events.Enter i t (places_taken x.task.join s i x said) s.next (entry_count x)
 
 abbrev pub exited : State → Ident → List ℕ → Option TaskAt → Event
 exited s i t None = events.Exit i t []

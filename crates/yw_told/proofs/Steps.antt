@@ -18,6 +18,7 @@ use Rattle.yw_state.proofs.Standing.{Standing}
 use Rattle.yw_state.proofs.Tests.{and_left, and_right, by_option, never, some_same, there_and}
 use Rattle.yw_state.specs.Allowed.{allows, exit_values, place_numbers}
 use Rattle.yw_state.specs.Automatic.{Comes}
+use Rattle.yw_state.specs.Broken.{entry_count}
 use Rattle.yw_state.specs.Identity.{Ident, child}
 use Rattle.yw_state.specs.Joins.{joins, marked}
 use Rattle.yw_state.specs.Judged.{conclusion_at, judged}
@@ -37,7 +38,7 @@ use Rattle.yw_state.specs.declared.tree.TreeKind.{TreeKind}
 use Rattle.yw_state.specs.declared.tree.TreeKind.TheVariants as kinds
 use Rattle.yw_told.proofs.Fixed.{all_numbered, first_due_is, first_primitive, first_primitive_is, first_within, numbered, places_named, task_is_named, worklet_in_is}
 use Rattle.yw_told.proofs.Parts.{Lacks, all_lack, first_word, following, leading_word, words_in}
-use Rattle.yw_told.proofs.Reading.{entered, event_at, event_in, event_of, exited, items_made, node_at, places_taken, rest_of}
+use Rattle.yw_told.proofs.Reading.{entered, event_at, event_in, event_of, exited, node_at, places_taken, rest_of}
 use Rattle.yw_told.proofs.Written.{ident_is_read, name_lacks, no_blank_in_identity, no_blank_in_place, place_is_read, place_read}
 use Rattle.yw_within.specs.Within.{HoldsWithin, is_named_place}
 
@@ -150,9 +151,9 @@ module _ (s : State) (fit : NumbersFit s) (holds : HoldsWithin s) (n : ℕ) (i :
       kind_told s n (codes "enter") i (t ∷ codes "from" ∷ shown ∷ codes "as" ∷ last) refl (of_task s fit i t x is)
       ∙ ap (event_at s n (codes "enter") i) words
       ∙ ap (entered s i t (first_place places (codes "as" ∷ last))) is
-      ∙ ap (λ (ps : List Place). events.Enter i t ps s.next (items_made x))
+      ∙ ap (λ (ps : List Place). events.Enter i t ps s.next (entry_count x))
       (gate_told s i x places cs numbers named (codes "as") last x.task.join joined)
-      ∙ ap (λ (k : ℕ). events.Enter i t places k (items_made x)) (sym next)
+      ∙ ap (λ (k : ℕ). events.Enter i t places k (entry_count x)) (sym next)
       ∙ ap (events.Enter i t places first) (ap (λ (o : Option (List Row)). length (unwrap_or o [])) are ∙ eqb-true (length row) count made)
 
   pub exit_told : allows s (events.Exit i t places) said ≡ true → event_in s n (step_text (events.Exit i t places)) ≡ events.Exit i t places

@@ -1,6 +1,6 @@
 -- What the line of an accepted command tells of what was done. Our own.
 use Rattle.std.specs.Prelude.{◌≡◌, ℕ, List, Bool}
-use Rattle.yw_lines.specs.Replies.{done}
+use Rattle.yw_lines.specs.Replies.{done_line}
 use Rattle.yw_state.specs.Legal.{IsLegal}
 use Rattle.yw_state.specs.State.{State}
 use Rattle.yw_state.specs.Texts.{Reader}
@@ -17,4 +17,4 @@ pub record AreSame (es fs : List Event) (q p : Bool) (t u : State) : Type 0 wher
 abbrev pub LinesTellEntries : Reader → State → Type 0
 LinesTellEntries reader s =
     (c : Command) (n : ℕ) (es fs : List Event) (q p : Bool) (t u : State)
-    → IsLegal reader s c es q t → IsLegal reader s c fs p u → done n es q ≡ done n fs p → AreSame es fs q p t u
+    → IsLegal reader s c es q t → IsLegal reader s c fs p u → done_line n es q ≡ done_line n fs p → AreSame es fs q p t u

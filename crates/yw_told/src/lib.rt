@@ -5,7 +5,7 @@
 
 ghost use Rattle.std.specs.Prelude.{map, ◌≡◌, ℕ, Bool, List};
 ghost use Rattle.yw_lines.specs.EventTexts.{step_text};
-ghost use Rattle.yw_lines.specs.Replies.{done};
+ghost use Rattle.yw_lines.specs.Replies.{done_line};
 ghost use Rattle.yw_model.specs.Texts.{reader};
 ghost use Rattle.yw_sound.specs.Sound.{ReadsSound};
 ghost use Rattle.yw_state.specs.Automatic.{Comes};
@@ -21,7 +21,7 @@ use yw_state::laws::reads::Reads;
 
 /// Equal lines under one number have equal texts of steps, and the same flag, whatever bytes the texts have.
 pub fn lines_tell_steps()
-    ensures { (n : ℕ) (es fs : List Event) (q p : Bool) → done n es q ≡ done n fs p → (map step_text es ≡ map step_text fs) × (q ≡ p) }
+    ensures { (n : ℕ) (es fs : List Event) (q p : Bool) → done_line n es q ≡ done_line n fs p → (map step_text es ≡ map step_text fs) × (q ≡ p) }
 {}
 
 /// In a state whose numbers fit, and whose specifications are within, the text of a step that comes of itself in a case tells the

@@ -12,7 +12,7 @@ use Rattle.yw_state.specs.State.{Site, no_checks}
 use Rattle.yw_state.proofs.Tests.{nowhere}
 use Rattle.yw_tree.specs.Boxed.{AtNet, AtNode, AtRun, IsBoxedNet, IsBoxedNode, IsBoxedRun, head, ids, net_ids, run_ids}
 use Rattle.yw_tree.specs.Entries.{below_net, below_run, flat, net_entries, net_part, net_part_of, node_entries, nodes, run_entries, run_site}
-use Rattle.yw_tree.specs.Forest.{IsForest, entries, item_of, placed, sites_of}
+use Rattle.yw_tree.specs.Forest.{IsForest, entries, item_of, item_replaced, sites_of}
 use Rattle.yw_tree.specs.Places.{placed_run, run_of}
 use Rattle.yw_tree.specs.Ways.{net_in}
 use Rattle.yw_tree.specs.declared.Forest.{Forest}
@@ -58,7 +58,7 @@ module _ (f : Forest) (b : IsForest f) (id : Ident) (net : Box NetState Global) 
     w_head : head w ≡ head old
     w_head = ap (λ (z : Level). (z.id, z.task)) is
 
-    pub item_attached : ((names : ℕ → List ℕ) → sites_of names (placed f id w) ≡ update (sites_of names f) id (stands (net_part names net.value))) × IsForest (placed f id w)
+    pub item_attached : ((names : ℕ → List ℕ) → sites_of names (item_replaced f id w) ≡ update (sites_of names f) id (stands (net_part names net.value))) × IsForest (item_replaced f id w)
     item_attached = (
       λ names. item_own names f id old b within e w w_head w_boxed (stands (net_part names net.value))
           (ap (λ (z : Level). below_net names z.net ++ below_run names z.run) is ∙ ap (λ z. z ++ below_run names (out-Node old).run) (none_below names net.value empty) ∙ ap (λ z. below_net names z ++ below_run names (out-Node old).run) (sym none))

@@ -23,7 +23,7 @@ use Rattle.yw_tree.proofs.NetLaw.{placing, site_open, under_is, under_was}
 use Rattle.yw_tree.proofs.RunLaw.{run_found, run_placed}
 use Rattle.yw_tree.specs.Boxed.{AtNet, AtNode, AtRun, Held, IsBoxedNet, IsBoxedNode, IsBoxedRun, head, net_ids, run_ids}
 use Rattle.yw_tree.specs.Entries.{below_net, below_run, item_site, net_part_of, run_entries, run_site}
-use Rattle.yw_tree.specs.Forest.{IsForest, entries, item_of, placed, sites_of}
+use Rattle.yw_tree.specs.Forest.{IsForest, entries, item_of, item_replaced, sites_of}
 use Rattle.yw_tree.specs.Places.{placed_run, run_of}
 use Rattle.yw_tree.specs.declared.Forest.{Forest}
 use Rattle.yw_tree.specs.declared.NetState.{NetState}
@@ -87,7 +87,7 @@ module _ (f : Forest) (b : IsForest f) (id : Ident) (within : InCase id) (old w 
   w_head : head w ≡ head old
   w_head = ap (λ (z : Level). (z.id, z.task)) is
 
-  pub bared_but : (names : ℕ → List ℕ) → (sites_of names (placed f id w) ≡ bare_but (sites_of names f) id (out-Run y.value).id) × IsForest (placed f id w)
+  pub bared_but : (names : ℕ → List ℕ) → (sites_of names (item_replaced f id w) ≡ bare_but (sites_of names f) id (out-Run y.value).id) × IsForest (item_replaced f id w)
   bared_but names =
       let o = out-Node old in
       let r = (out-Run y.value).id in
@@ -99,7 +99,7 @@ module _ (f : Forest) (b : IsForest f) (id : Ident) (within : InCase id) (old w 
       let strict : IsTrue (strictly_under r id) = child_strictly r id (is_child_of r id (subst (λ z. IsChild z r) g.0 child)) in
       let its : below_run names o.run ≡ one = ap (below_run names) hung ∙ run_entries_is names y.value ∙ ap (λ z. (r, run_site names y.value) ∷ below_net names z) alone in
       let none : find lexical r (below_net names o.net) ≡ None = at_apart r r (below_net names o.net) (held_off names o.id o.net down.0 r child here) (under_refl r) in (
-        is_bared_but id (item_site names old) (item_site names w) (below_net names o.net ++ below_run names o.run) (below_net names (out-Node w).net ++ below_run names (out-Node w).run) (entries names f) (entries names (placed f id w))
+        is_bared_but id (item_site names old) (item_site names w) (below_net names o.net ++ below_run names o.run) (below_net names (out-Node w).net ++ below_run names (out-Node w).run) (entries names f) (entries names (item_replaced f id w))
             p.0 (under_was names f id old b within e w w_head w_boxed) (under_is names f id old b within e w w_head w_boxed)
             r (run_site names y.value) (below_net names o.net) strict (ap (λ z. below_net names o.net ++ z) its) none
             (ap (λ (z : Level). below_net names z.net ++ below_run names z.run) is ∙ its) (ap (site_open names) is),

@@ -22,7 +22,7 @@ use Rattle.yw_tree.proofs.Table.{in_table, table_placed}
 use Rattle.yw_tree.specs.Boxed.{IsBoxedCase, IsBoxedNet, IsNetAt, ids, run_ids}
 use Rattle.yw_tree.specs.Cases.{case_at, with_case}
 use Rattle.yw_tree.specs.Entries.{below_run, case_entries, case_site, net_entries, net_part}
-use Rattle.yw_tree.specs.Forest.{IsForest, entries, placed_top, sites_of, top_of, with_top}
+use Rattle.yw_tree.specs.Forest.{IsForest, entries, top_replaced, sites_of, top_of, with_top}
 use Rattle.yw_tree.specs.Shows.{ShowsNet, StandsBeside}
 use Rattle.yw_tree.specs.declared.Case.{Case}
 use Rattle.yw_tree.specs.declared.Forest.{Forest}
@@ -107,7 +107,7 @@ module _ (f : Forest) (b : IsForest f) (n : ℕ) (s w : NetState) (e : top_of f 
 
   pub top_cut : IsBoxedNet w → ((i : Ident) (js : List Ident) → AreChildren i (ids s ++ js) → AreChildren i (ids w ++ js)) → (names : ℕ → List ℕ) (js : List Ident) → Each (IsChild (case_ident n)) js
       → ((beside : Entries) → StandsBeside (case_ident n) (ids s) beside → ShowsNet names (sites_of names f) (case_ident n) beside s → ShowsNet names (drop_all (sites_of names f) js) (case_ident n) beside w)
-      → (sites_of names (placed_top f n w) ≡ drop_all (sites_of names f) js) × IsForest (placed_top f n w)
+      → (sites_of names (top_replaced f n w) ≡ drop_all (sites_of names f) js) × IsForest (top_replaced f n w)
   top_cut wb fewer names js ch shows =
       let c = map_some (λ (c : Case). c.net) (case_at n f.cases) s e in
       let id = case_ident n in

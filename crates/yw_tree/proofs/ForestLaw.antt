@@ -23,7 +23,7 @@ use Rattle.yw_tree.proofs.Table.{CasePlaced, in_table, table_placed}
 use Rattle.yw_tree.specs.Boxed.{IsBoxedCase, IsBoxedNet, IsBoxedNode, IsNetAt, head, ids, ids_of, run_ids}
 use Rattle.yw_tree.specs.Cases.{case_at}
 use Rattle.yw_tree.specs.Entries.{below_run, case_entries, case_site, net_entries, node_entries}
-use Rattle.yw_tree.specs.Forest.{IsForest, entries, item_of, item_of_case, levels, over_case_inner, placed, placed_at, placed_in_case, sites_of}
+use Rattle.yw_tree.specs.Forest.{IsForest, entries, item_of, item_of_case, levels, over_case_inner, item_replaced, item_replaced_at, item_replaced_in_case, sites_of}
 use Rattle.yw_tree.specs.Ways.{case_inner, item_in, net_in_run, placed_in, run_leads, run_with_net, with_case_inner}
 use Rattle.yw_tree.specs.declared.Case.{Case}
 use Rattle.yw_tree.specs.declared.Forest.{Forest}
@@ -90,7 +90,7 @@ module _ (names : ℕ → List ℕ) (id : Ident) (w old : Node) (head_is : head 
         subst (λ (z : Bool). Goes (cond z (record c { run = run_with_net c.run x }) (record c { net = x }))) (sym u)
         (by_net x u (subst (λ z. NetPlaced names id w old c.id z x) (sym g) (law c.id s (subst IsBoxedNet g b.net) (subst (IsNetAt c.id) g (children_front c.id (ids c.net) (run_ids c.run) b.here)) f))))
 
-    pub case_law : item_of_case id c ≡ Some old → Goes (placed_in_case id w c)
+    pub case_law : item_of_case id c ≡ Some old → Goes (item_replaced_in_case id w c)
     case_law f =
         by_option (case_inner id c)
         (λ (e : case_inner id c ≡ None). nowhere (sym (ap (option_and_then (item_in levels id)) e) ∙ f))
@@ -99,12 +99,12 @@ module _ (names : ℕ → List ℕ) (id : Ident) (w old : Node) (head_is : head 
 
   -- ---- over the whole forest
   pub forest_law : (f : Forest) → IsForest f → InCase id → item_of f id ≡ Some old
-      → Swaps id (ents old) (ents w) (entries names f) (entries names (placed f id w)) × IsForest (placed f id w)
+      → Swaps id (ents old) (ents w) (entries names f) (entries names (item_replaced f id w)) × IsForest (item_replaced f id w)
   forest_law f b within e =
       let n = case_number id in
       let r = then_some (item_of_case id) (case_at n f.cases) old e in
-      let p = table_placed names id n within (ents old) (ents w) f.cases r.0 (placed_in_case id w r.0) b r.1 (λ bc. case_law n within r.0 bc r.2) in
-      subst (λ (z : Forest). Swaps id (ents old) (ents w) (entries names f) (entries names z) × IsForest z) (sym (ap (placed_at f id w) r.1)) p
+      let p = table_placed names id n within (ents old) (ents w) f.cases r.0 (item_replaced_in_case id w r.0) b r.1 (λ bc. case_law n within r.0 bc r.2) in
+      subst (λ (z : Forest). Swaps id (ents old) (ents w) (entries names f) (entries names z) × IsForest z) (sym (ap (item_replaced_at f id w) r.1)) p
 
 pub item_found : (f : Forest) (id : Ident) (old : Node) → IsForest f → item_of f id ≡ Some old → IsFound id old
 item_found f id old b e =
@@ -127,7 +127,7 @@ pub record PlacedAt (names : ℕ → List ℕ) (f : Forest) (id : Ident) (old w 
   pub elsewhere : (q : Ident) → under q id ≡ false → get (sites_of names g) q ≡ get (sites_of names f) q
   pub boxed : IsForest g
 
-pub placed_law : (names : ℕ → List ℕ) (f : Forest) (id : Ident) (old w : Node) → IsForest f → InCase id → item_of f id ≡ Some old → head w ≡ head old → IsBoxedNode w → PlacedAt names f id old w (placed f id w)
+pub placed_law : (names : ℕ → List ℕ) (f : Forest) (id : Ident) (old w : Node) → IsForest f → InCase id → item_of f id ≡ Some old → head w ≡ head old → IsBoxedNode w → PlacedAt names f id old w (item_replaced f id w)
 placed_law names f id old w b within e h wb =
     let g = item_found f id old b e in
     let p = forest_law names id w old h wb f b within e in
@@ -136,8 +136,8 @@ placed_law names f id old w b within e h wb =
     let keys_new = subst (λ z. AllUnder z (node_entries names w)) (ap (λ z. z.0) h ∙ g.0) (node_keys names w wb) in
     record {
       stood = λ q u. look f q ∙ old_at id _ _ _ _ p.0 q u;
-      stands = λ q u. look (placed f id w) q ∙ new_at id _ _ _ _ p.0 q u;
-      elsewhere = λ q u. look (placed f id w) q ∙ else_at id _ _ _ _ p.0 q keys_old keys_new u ∙ sym (look f q);
+      stands = λ q u. look (item_replaced f id w) q ∙ new_at id _ _ _ _ p.0 q u;
+      elsewhere = λ q u. look (item_replaced f id w) q ∙ else_at id _ _ _ _ p.0 q keys_old keys_new u ∙ sym (look f q);
       boxed = p.1;
     }
 

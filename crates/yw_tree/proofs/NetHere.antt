@@ -17,7 +17,7 @@ use Rattle.yw_state.proofs.Tests.{map_some, nowhere, some_same}
 use Rattle.yw_tree.specs.Boxed.{AtNet, AtNode, AtRun, Held, IsBoxedNet, IsBoxedRun, IsNetAt, ids, net_ids, run_ids}
 use Rattle.yw_tree.specs.Cases.{case_at}
 use Rattle.yw_tree.specs.Entries.{below_net, below_run, net_entries, net_part, net_part_of, run_entries, run_site}
-use Rattle.yw_tree.specs.Forest.{IsForest, entries, item_of, placed_part, placed_item_net, placed_top, sites_of, top_of, with_top}
+use Rattle.yw_tree.specs.Forest.{IsForest, entries, item_of, item_part_replaced, item_net_replaced, top_replaced, sites_of, top_of, with_top}
 use Rattle.yw_tree.specs.Places.{over_run_net, placed_run, run_of}
 use Rattle.yw_tree.specs.Shows.{ShowsNet, StandsBeside}
 use Rattle.yw_tree.specs.Ways.{net_in, with_net, with_net_in_run}
@@ -55,12 +55,12 @@ pub record NetHere (f : Forest) (i : Ident) (s : NetState) (placed : NetState �
       → (sites_of names (placed w) ≡ m) × IsForest (placed w)
 
 -- ---- of a case
-pub top_here : (f : Forest) (n : ℕ) (s : NetState) → IsForest f → top_of f n ≡ Some s → NetHere f (case_ident n) s (placed_top f n)
+pub top_here : (f : Forest) (n : ℕ) (s : NetState) → IsForest f → top_of f n ≡ Some s → NetHere f (case_ident n) s (top_replaced f n)
 top_here f n s b e =
     let c = map_some (λ (c : Case). c.net) (case_at n f.cases) s e in
-    subst (λ z. NetHere f (case_ident n) z (placed_top f n)) c.2 (of_case c.0 c.1)
+    subst (λ z. NetHere f (case_ident n) z (top_replaced f n)) c.2 (of_case c.0 c.1)
   where
-    of_case : (c : Case) → case_at n f.cases ≡ Some c → NetHere f (case_ident n) c.net (placed_top f n)
+    of_case : (c : Case) → case_at n f.cases ≡ Some c → NetHere f (case_ident n) c.net (top_replaced f n)
     of_case c at =
         let i = its (λ k. []) f b n c at in
         let children : AreChildren (case_ident n) (ids c.net ++ run_ids c.run) = subst (λ z. AreChildren z (ids c.net ++ run_ids c.run)) i.0 i.1.here in
@@ -78,7 +78,7 @@ top_here f n s b e =
         }
 
 -- ---- of an item
-pub item_net_here : (f : Forest) (id : Ident) (n : Node) (s : NetState) → IsForest f → InCase id → item_of f id ≡ Some n → net_in (out-Node n).net ≡ Some s → NetHere f id s (placed_item_net f id)
+pub item_net_here : (f : Forest) (id : Ident) (n : Node) (s : NetState) → IsForest f → InCase id → item_of f id ≡ Some n → net_in (out-Node n).net ≡ Some s → NetHere f id s (item_net_replaced f id)
 item_net_here f id n s b within e at =
     let g = item_found f id n b e in
     let children = its_children f id n s s b within e at in
@@ -92,7 +92,7 @@ item_net_here f id n s b within e at =
       shows = λ names. shown names f id n b within e s at;
       known = λ names. run_known names id (out-Node n).run;
       lift = λ w wb fits names m shows own outside.
-          subst (λ (o : Option Node). (sites_of names (placed_part f id w o) ≡ m) × IsForest (placed_part f id w o)) (sym e) (net_lifted names f id n b within e s w at wb fits m shows own outside);
+          subst (λ (o : Option Node). (sites_of names (item_part_replaced f id w o) ≡ m) × IsForest (item_part_replaced f id w o)) (sym e) (net_lifted names f id n b within e s w at wb fits m shows own outside);
     }
 
 -- ---- of a run

@@ -22,7 +22,7 @@ use Rattle.yw_tree.proofs.Keys.{node_keys}
 use Rattle.yw_tree.proofs.Made.{made_node}
 use Rattle.yw_tree.specs.Boxed.{AtNet, AtNode, AtRun, Held, IsBoxedNet, IsBoxedNode, head, ids, net_ids, run_ids}
 use Rattle.yw_tree.specs.Entries.{below_net, below_run, item_site, net_entries, net_part, net_part_of, node_entries}
-use Rattle.yw_tree.specs.Forest.{IsForest, entries, item_of, placed, sites_of}
+use Rattle.yw_tree.specs.Forest.{IsForest, entries, item_of, item_replaced, sites_of}
 use Rattle.yw_tree.specs.Shows.{ShowsNet}
 use Rattle.yw_tree.specs.Ways.{net_in, renewed, with_net}
 use Rattle.yw_tree.specs.declared.Forest.{Forest}
@@ -51,13 +51,13 @@ module _ (names : ℕ → List ℕ) where
 
     -- ---- another item in its place
     module _ (w : Node) (same_head : head w ≡ head old) (wb : IsBoxedNode w) where
-      pub placing : Swaps id ((id, item_site names old) ∷ below old) ((id, item_site names w) ∷ below w) (entries names f) (entries names (placed f id w)) × IsForest (placed f id w)
+      pub placing : Swaps id ((id, item_site names old) ∷ below old) ((id, item_site names w) ∷ below w) (entries names f) (entries names (item_replaced f id w)) × IsForest (item_replaced f id w)
       placing =
           let p = forest_law names id w old same_head wb f b within e in
           let first : node_entries names old ≡ (id, item_site names old) ∷ below old = node_entries_is names old ∙ ap (λ z. (z, item_site names old) ∷ below old) own_id in
           let second : node_entries names w ≡ (id, item_site names w) ∷ below w = node_entries_is names w ∙ ap (λ z. (z, item_site names w) ∷ below w) (ap (λ z. z.0) same_head ∙ own_id) in (
-            subst (λ z. Swaps id z ((id, item_site names w) ∷ below w) (entries names f) (entries names (placed f id w))) first
-                (subst (λ z. Swaps id (node_entries names old) z (entries names f) (entries names (placed f id w))) second p.0),
+            subst (λ z. Swaps id z ((id, item_site names w) ∷ below w) (entries names f) (entries names (item_replaced f id w))) first
+                (subst (λ z. Swaps id (node_entries names old) z (entries names f) (entries names (item_replaced f id w))) second p.0),
             p.1,
           )
 
@@ -70,8 +70,8 @@ module _ (names : ℕ → List ℕ) where
       pub under_is : AllUnder id (below w)
       under_is = below_under w wb (ap (λ z. z.0) same_head ∙ own_id)
 
-      pub item_own : (h : Site → Site) → below w ≡ below old → item_site names w ≡ h (item_site names old) → sites_of names (placed f id w) ≡ update (sites_of names f) id h
-      item_own h rest own = own_changes id (item_site names old) (item_site names w) (below old) (below w) (entries names f) (entries names (placed f id w)) placing.0 under_was under_is h rest own
+      pub item_own : (h : Site → Site) → below w ≡ below old → item_site names w ≡ h (item_site names old) → sites_of names (item_replaced f id w) ≡ update (sites_of names f) id h
+      item_own h rest own = own_changes id (item_site names old) (item_site names w) (below old) (below w) (entries names f) (entries names (item_replaced f id w)) placing.0 under_was under_is h rest own
 
     -- ---- another net at the item
     module _ (s w : NetState) (at : net_in (out-Node old).net ≡ Some s) (wb : IsBoxedNet w) (fits : AreChildren id (ids w ++ run_ids (out-Node old).run)) where
@@ -104,9 +104,9 @@ module _ (names : ℕ → List ℕ) where
 
       -- A map that shows the new net, has at the item what was there with that net, and elsewhere what was, is the one of the forest with it.
       pub net_lifted : (m : Sites) → ShowsNet names m id (below_run names (out-Node old).run) w → get m id ≡ option_map (with_part (λ _. net_part names w)) (get (sites_of names f) id)
-          → ((q : Ident) → under q id ≡ false → get m q ≡ get (sites_of names f) q) → (sites_of names (placed f id (renewed old w)) ≡ m) × IsForest (placed f id (renewed old w))
+          → ((q : Ident) → under q id ≡ false → get m q ≡ get (sites_of names f) q) → (sites_of names (item_replaced f id (renewed old w)) ≡ m) × IsForest (item_replaced f id (renewed old w))
       net_lifted m shows own outside = (
-        net_changes id (item_site names old) (item_site names (renewed old w)) (below old) (below (renewed old w)) (entries names f) (entries names (placed f id (renewed old w)))
+        net_changes id (item_site names old) (item_site names (renewed old w)) (below old) (below (renewed old w)) (entries names f) (entries names (item_replaced f id (renewed old w)))
             (placing (renewed old w) renewed_head renewed_boxed).0 (under_was (renewed old w) renewed_head renewed_boxed) (under_is (renewed old w) renewed_head renewed_boxed)
             names (below_run names (out-Node old).run) s w was_below renewed_below (held (out-Node old).net at).4 renewed_site m shows own outside,
         (placing (renewed old w) renewed_head renewed_boxed).1,
@@ -117,7 +117,7 @@ module _ (names : ℕ → List ℕ) where
     shown s at =
         let g = item_found f id old b e in
         let h = is (out-Node old).net at in
-        net_shown id (item_site names old) (item_site names old) (below old) (below old) (entries names f) (entries names (placed f id old)) (placing old refl g.1).0 (under_was old refl g.1) (under_is old refl g.1)
+        net_shown id (item_site names old) (item_site names old) (below old) (below old) (entries names f) (entries names (item_replaced f id old)) (placing old refl g.1).0 (under_was old refl g.1) (under_is old refl g.1)
         names (below_run names (out-Node old).run) s s (ap (λ z. z ++ below_run names (out-Node old).run) h.1) (ap (λ z. z ++ below_run names (out-Node old).run) h.1) h.0 (λ j. record (item_site names old) { net = h.0 j })
       where
         is : (o : Option (Box NetState Global)) → net_in o ≡ Some s → (net_part_of names o ≡ Some (net_part names s)) × (below_net names o ≡ (net_entries names s).1)
@@ -134,9 +134,9 @@ module _ (names : ℕ → List ℕ) where
       bared_head : head w ≡ head old
       bared_head = ap (λ (z : Level). (z.id, z.task)) is
 
-      pub bared : (sites_of names (placed f id w) ≡ bare (sites_of names f) id) × IsForest (placed f id w)
+      pub bared : (sites_of names (item_replaced f id w) ≡ bare (sites_of names f) id) × IsForest (item_replaced f id w)
       bared = (
-        is_bared id (item_site names old) (item_site names w) (below old) (below w) (entries names f) (entries names (placed f id w)) (placing w bared_head bared_boxed).0 (under_was w bared_head bared_boxed) (under_is w bared_head bared_boxed)
+        is_bared id (item_site names old) (item_site names w) (below old) (below w) (entries names f) (entries names (item_replaced f id w)) (placing w bared_head bared_boxed).0 (under_was w bared_head bared_boxed) (under_is w bared_head bared_boxed)
             (ap (λ (z : Level). below_net names z.net ++ below_run names z.run) is) (ap site_open is),
         (placing w bared_head bared_boxed).1,
       )

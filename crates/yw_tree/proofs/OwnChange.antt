@@ -10,7 +10,7 @@ use Rattle.yw_tree.proofs.Made.{made_node}
 use Rattle.yw_tree.proofs.NetLaw.{item_own}
 use Rattle.yw_tree.specs.Boxed.{AtNet, AtNode, AtRun, Held, IsBoxedNet, IsBoxedNode, IsBoxedRun, head, net_ids, run_ids}
 use Rattle.yw_tree.specs.Entries.{below_net, below_run, item_site}
-use Rattle.yw_tree.specs.Forest.{IsForest, item_of, placed, sites_of}
+use Rattle.yw_tree.specs.Forest.{IsForest, item_of, item_replaced, sites_of}
 use Rattle.yw_tree.specs.declared.Forest.{Forest}
 use Rattle.yw_tree.specs.declared.NetState.{NetState}
 use Rattle.yw_tree.specs.declared.Node.{Node, Node-F, every_here-Node, out-Node, roll-out-Node}
@@ -35,7 +35,7 @@ keeps_boxed old w k b =
 
 -- the whole forest then means what it did, with that entry changed
 pub own_changed : (f : Forest) (id : Ident) (old w : Node) → IsForest f → InCase id → item_of f id ≡ Some old → Keeps old w
-    → ((names : ℕ → List ℕ) (h : Site → Site) → item_site names w ≡ h (item_site names old) → sites_of names (placed f id w) ≡ update (sites_of names f) id h) × IsForest (placed f id w)
+    → ((names : ℕ → List ℕ) (h : Site → Site) → item_site names w ≡ h (item_site names old) → sites_of names (item_replaced f id w) ≡ update (sites_of names f) id h) × IsForest (item_replaced f id w)
 own_changed f id old w b within e k =
     let g = item_found f id old b e in
     let heads : head w ≡ head old = λ j. (k.id j, k.task j) in

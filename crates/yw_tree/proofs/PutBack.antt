@@ -7,7 +7,7 @@ use Rattle.yw_tree.proofs.SameCase.{same_case, same_table}
 use Rattle.yw_tree.proofs.Split.{place_there}
 use Rattle.yw_tree.proofs.Steps.{below_found, below_none, below_placed, found_is, here_found, here_placed, none_found, placed_is}
 use Rattle.yw_tree.specs.Cases.{case_at, with_case}
-use Rattle.yw_tree.specs.Forest.{item_of, item_of_case, levels, over_case_inner, placed, placed_at, placed_in_case}
+use Rattle.yw_tree.specs.Forest.{item_of, item_of_case, levels, over_case_inner, item_replaced, item_replaced_at, item_replaced_in_case}
 use Rattle.yw_tree.specs.Ways.{case_inner, inner_of, item_below, item_in, over_node, place_of, placed_in, with_case_inner, with_inner, with_node}
 use Rattle.yw_tree.specs.declared.Case.{Case}
 use Rattle.yw_tree.specs.declared.Forest.{Forest}
@@ -34,12 +34,12 @@ module _ (id : Ident) (n : Node) where
       let k = place_there id s p e in
       placed_is d id s p k.0 e k.1 n ∙ ap (with_node s p.0 p.1) (item_back d (net_back d) k.0 (sym (found_is d id s p k.0 e k.1) ∙ f)) ∙ same_node s p.0 p.1 k.0 k.1)
 
-  case_back : (c : Case) → item_of_case id c ≡ Some n → placed_in_case id n c ≡ c
+  case_back : (c : Case) → item_of_case id c ≡ Some n → item_replaced_in_case id n c ≡ c
   case_back c f =
       let s = then_some (item_in levels id) (case_inner id c) n f in
       ap (over_case_inner id n c) s.1 ∙ ap (with_case_inner id c) (net_back levels s.0 s.2) ∙ same_case id c s.0 s.1
 
-  pub put_back : (f : Forest) → item_of f id ≡ Some n → placed f id n ≡ f
+  pub put_back : (f : Forest) → item_of f id ≡ Some n → item_replaced f id n ≡ f
   put_back f e =
       let c = then_some (item_of_case id) (case_at (case_number id) f.cases) n e in
-      ap (placed_at f id n) c.1 ∙ (λ j. record { cases = (ap (with_case (case_number id) f.cases) (case_back c.0 c.2) ∙ same_table (case_number id) f.cases c.0 c.1) j })
+      ap (item_replaced_at f id n) c.1 ∙ (λ j. record { cases = (ap (with_case (case_number id) f.cases) (case_back c.0 c.2) ∙ same_table (case_number id) f.cases c.0 c.1) j })

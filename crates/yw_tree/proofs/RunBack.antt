@@ -5,7 +5,7 @@ use Rattle.std.specs.declared.alloc.Global.{Global}
 use Rattle.yw_state.specs.Identity.{Ident, case_number, is_case_ident, parent, same}
 use Rattle.yw_state.proofs.Tests.{by_test, never, nowhere, some_same, then_some}
 use Rattle.yw_tree.specs.Cases.{case_at, with_case}
-use Rattle.yw_tree.specs.Forest.{item_of, placed}
+use Rattle.yw_tree.specs.Forest.{item_of, item_replaced}
 use Rattle.yw_tree.specs.Places.{has_run, over_case_run, over_item_run, placed_run, run_at, run_of, run_of_case, run_of_item}
 use Rattle.yw_tree.specs.Ways.{run_in, with_run}
 use Rattle.yw_tree.specs.declared.Case.{Case}
@@ -58,8 +58,8 @@ run_back f id r e =
     let same : ◌≡◌ {A = Node} (roll-Node (record (out-Node n) { run = with_run (out-Node n).run r })) n = (λ j. roll-Node (record (out-Node n) { run = same_hung (out-Node n).run r (run_here id (out-Node n).run r h).1 j })) ∙ roll-out-Node n in
     placed_in_its_item f id r u ∙ ap (over_item_run f (parent id) r) at ∙ put_it f (parent id) n at _ same)
   where
-    put_it : (f : Forest) (j : Ident) (n : Node) → item_of f j ≡ Some n → (w : Node) → w ≡ n → placed f j w ≡ f
-    put_it f j n at w s = ap (λ z. placed f j z) s ∙ put_back j n f at
+    put_it : (f : Forest) (j : Ident) (n : Node) → item_of f j ≡ Some n → (w : Node) → w ≡ n → item_replaced f j w ≡ f
+    put_it f j n at w s = ap (λ z. item_replaced f j z) s ∙ put_back j n f at
 
 pub hung_there : (id : Ident) (o : Option (Box Run Global)) → has_run id o ≡ true → (r : Run) × (run_at id o ≡ Some r)
 hung_there id None h = never h

@@ -24,7 +24,7 @@ use Rattle.yw_tree.proofs.Stand.{each_map, items_known}
 use Rattle.yw_tree.specs.Boxed.{AtNet, AtNode, AtRun, Held, IsBoxedCase, IsBoxedNet, IsBoxedNode, IsBoxedRun, head, ids, net_ids, run_ids}
 use Rattle.yw_tree.specs.Cases.{case_at}
 use Rattle.yw_tree.specs.Entries.{below_net, below_run, case_site, item_site, net_entries, run_entries, run_site}
-use Rattle.yw_tree.specs.Forest.{IsForest, entries, item_of, placed, sites_of}
+use Rattle.yw_tree.specs.Forest.{IsForest, entries, item_of, item_replaced, sites_of}
 use Rattle.yw_tree.specs.Places.{hung_at, placed_case}
 use Rattle.yw_tree.specs.Spots.{part_at}
 use Rattle.yw_tree.specs.declared.Case.{Case}
@@ -148,7 +148,7 @@ module _ (f : Forest) (b : IsForest f) (id : Ident) (short : length id ≤ 40) (
         let g = item_found f id old b e in
         let below = below_net names (out-Node old).net ++ below_run names (out-Node old).run in
         sym (ap (find lexical (out-Run run.value).id) (item_below_is names))
-        ∙ sym (below_was id (item_site names old) (item_site names old) below below (entries names f) (entries names (placed f id old)) (item_placing names f id old b within e old refl g.1).0 (item_was_under names f id old b within e old refl g.1) (item_is_under names f id old b within e old refl g.1)
+        ∙ sym (below_was id (item_site names old) (item_site names old) below below (entries names f) (entries names (item_replaced f id old)) (item_placing names f id old b within e old refl g.1).0 (item_was_under names f id old b within e old refl g.1) (item_is_under names f id old b within e old refl g.1)
         (out-Run run.value).id strict)
         ∙ nothing_there names
 
@@ -165,12 +165,12 @@ module _ (f : Forest) (b : IsForest f) (id : Ident) (short : length id ≤ 40) (
         (made_node AtNet AtNode AtRun m (one_more l.id (out-Run run.value).id (net_ids l.net) alone its_child (differ (out-Run run.value).id (below_net names l.net) (net_ids l.net) (none_below_item names) (held_known names l.net)))
         (below_every_node AtNet AtNode AtRun old g.1).0 (run_alone_boxed run.value no_net))
 
-    pub run_comes_to_item : (names : ℕ → List ℕ) → (sites_of names (placed f id w) ≡ insert (sites_of names f) (out-Run run.value).id (run_site names run.value)) × IsForest (placed f id w)
+    pub run_comes_to_item : (names : ℕ → List ℕ) → (sites_of names (item_replaced f id w) ≡ insert (sites_of names f) (out-Run run.value).id (run_site names run.value)) × IsForest (item_replaced f id w)
     run_comes_to_item names =
         let net = below_net names (out-Node old).net in
         let one : Entries = ((out-Run run.value).id, run_site names run.value) ∷ [] in
         let p = item_placing names f id old b within e w item_head item_boxed in
-        let g : Forest = placed f id w in
+        let g : Forest = item_replaced f id w in
         let x = item_site names old in
         let own : item_site names w ≡ x = ap (site_open names) is in
         let was = item_below_is names in

@@ -10,7 +10,7 @@ use Rattle.yw_state.specs.State.{drop}
 use Rattle.yw_tree.specs.Boxed.{AtNet, AtNode, AtRun, ids, net_ids, run_ids}
 use Rattle.yw_tree.specs.Cases.{case_at}
 use Rattle.yw_tree.specs.Entries.{run_entries}
-use Rattle.yw_tree.specs.Forest.{IsForest, entries, item_of, placed, sites_of}
+use Rattle.yw_tree.specs.Forest.{IsForest, entries, item_of, item_replaced, sites_of}
 use Rattle.yw_tree.specs.Places.{placed_case, run_at, run_of}
 use Rattle.yw_tree.specs.declared.Case.{Case}
 use Rattle.yw_tree.specs.declared.Forest.{Forest}
@@ -35,11 +35,11 @@ module _ (names : ℕ → List ℕ) (f : Forest) (b : IsForest f) (id : Ident) (
       (drop_law id (run_entries names r) (entries names f) (entries names (placed_case f (case_number id) (record c { run = None }))) p.0 keys, p.1)
 
   pub run_cut_from_item : 1 ≤ length id → is_case_ident id ≡ false → (n : Node) → item_of f (parent id) ≡ Some n → run_at id (out-Node n).run ≡ Some r
-      → (sites_of names (placed f (parent id) (roll-Node (record (out-Node n) { run = None }))) ≡ drop (sites_of names f) id) × IsForest (placed f (parent id) (roll-Node (record (out-Node n) { run = None })))
+      → (sites_of names (item_replaced f (parent id) (roll-Node (record (out-Node n) { run = None }))) ≡ drop (sites_of names f) id) × IsForest (item_replaced f (parent id) (roll-Node (record (out-Node n) { run = None })))
   run_cut_from_item long t n at h =
       let l = out-Node n in
       let g = item_found f (parent id) n b at in
       let children : AreChildren l.id (net_ids l.net ++ run_ids l.run) = every_here-Node AtNet AtNode AtRun n g.1 in
       let alone : AreChildren (parent id) (net_ids l.net ++ []) = subst (AreChildren (parent id)) (sym (nil_right (net_ids l.net))) (subst (λ z. AreChildren z (net_ids l.net)) g.0 (children_front l.id (net_ids l.net) (run_ids l.run) children)) in
       let p = item_host names f b id r None tt (parent id) (in_case (parent id) (parent_there id long t)) n at h alone in
-      (drop_law id (run_entries names r) (entries names f) (entries names (placed f (parent id) (roll-Node (record (out-Node n) { run = None })))) p.0 keys, p.1)
+      (drop_law id (run_entries names r) (entries names f) (entries names (item_replaced f (parent id) (roll-Node (record (out-Node n) { run = None })))) p.0 keys, p.1)

@@ -14,7 +14,7 @@ use Rattle.yw_state.proofs.Tests.{nowhere, some_same}
 use Rattle.yw_tree.specs.Boxed.{AtNet, AtNode, AtRun, Held, IsBoxedCase, IsBoxedNode, IsBoxedRun, ids, net_ids, run_ids}
 use Rattle.yw_tree.specs.Cases.{case_at}
 use Rattle.yw_tree.specs.Entries.{below_net, below_run, case_entries, case_site, item_site, net_entries, node_entries, run_entries}
-use Rattle.yw_tree.specs.Forest.{IsForest, entries, item_of, placed}
+use Rattle.yw_tree.specs.Forest.{IsForest, entries, item_of, item_replaced}
 use Rattle.yw_tree.specs.Places.{over_case_run, over_item_run, placed_case, placed_run, run_at, run_of}
 use Rattle.yw_tree.specs.Ways.{run_in, with_run}
 use Rattle.yw_tree.specs.declared.Case.{Case}
@@ -77,7 +77,7 @@ module _ (names : ℕ → List ℕ) (f : Forest) (b : IsForest f) (id : Ident) (
     abbrev pub at_item : Node
     at_item = roll-Node (record (out-Node n) { run = u })
 
-    pub item_host : Swaps id (run_entries names r) (below_run names u) (entries names f) (entries names (placed f p (roll-Node (record (out-Node n) { run = u })))) × IsForest (placed f p (roll-Node (record (out-Node n) { run = u })))
+    pub item_host : Swaps id (run_entries names r) (below_run names u) (entries names f) (entries names (item_replaced f p (roll-Node (record (out-Node n) { run = u })))) × IsForest (item_replaced f p (roll-Node (record (out-Node n) { run = u })))
     item_host =
         let g = item_found f p n b e in
         let l = out-Node n in
@@ -97,8 +97,8 @@ module _ (names : ℕ → List ℕ) (f : Forest) (b : IsForest f) (id : Ident) (
         let off : NoneUnder (out-Run r).id xs = (strictly (out-Run r).id l.id (out-Run r).id child (under_refl (out-Run r).id), held_off names l.id l.net down.0 (out-Run r).id child here) in
         let above : under id p ≡ true = subst (λ z. under z p ≡ true) its_id (subst (λ z. under (out-Run r).id z ≡ true) g.0 (child_under l.id (out-Run r).id child)) in (
           swaps_within p id above xs (run_entries names r) (below_run names u) _ _ (subst (λ z. NoneUnder z xs) its_id off)
-              (subst (λ z. Swaps p z (xs ++ below_run names u) (entries names f) (entries names (placed f p (roll-Node m)))) first
-              (subst (λ z. Swaps p (node_entries names n) z (entries names f) (entries names (placed f p (roll-Node m)))) second law.0)),
+              (subst (λ z. Swaps p z (xs ++ below_run names u) (entries names f) (entries names (item_replaced f p (roll-Node m)))) first
+              (subst (λ z. Swaps p (node_entries names n) z (entries names f) (entries names (item_replaced f p (roll-Node m)))) second law.0)),
           law.1,
         )
 
@@ -145,7 +145,7 @@ module _ (names : ℕ → List ℕ) (f : Forest) (b : IsForest f) (id : Ident) (
       let fits : AreChildren (parent id) (net_ids l.net ++ run_ids (with_run l.run w)) = subst (λ z. AreChildren z (net_ids l.net ++ run_ids (with_run l.run w))) g.0 (subst (λ z. AreChildren l.id (net_ids l.net ++ z)) (ids_hung l.run r hung ∙ sym (q.same_ids ∙ ap (λ z. z ∷ []) same_id)) children) in
       let p = item_host names f b id r (with_run l.run w) q.boxed (parent id) (in_case (parent id) (parent_there id long t)) n at h fits in
       subst (λ (z : Forest). Swaps id (run_entries names r) (run_entries names w) (entries names f) (entries names z) × IsForest z) (sym (placed_in_its_item f id w v ∙ ap (over_item_run f (parent id) w) at))
-      (subst (λ z. Swaps id (run_entries names r) z (entries names f) (entries names (placed f (parent id) (roll-Node (record (out-Node n) { run = with_run (out-Node n).run w }))))) (q.below names) p.0, p.1))
+      (subst (λ z. Swaps id (run_entries names r) z (entries names f) (entries names (item_replaced f (parent id) (roll-Node (record (out-Node n) { run = with_run (out-Node n).run w }))))) (q.below names) p.0, p.1))
 
 -- ---- a run that stands is well boxed, and has its identity
 pub run_found : (f : Forest) (id : Ident) (r : Run) → IsForest f → run_of f id ≡ Some r → ((out-Run r).id ≡ id) × IsBoxedRun r

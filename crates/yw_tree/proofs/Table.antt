@@ -54,6 +54,18 @@ in_table n (x ∷ cs) c e =
       gone = ap (λ (b : Bool). cond b cs (x ∷ without_case n cs)) t ∙ ap (λ z. x ∷ z) r.gone;
     })
 
+-- which is the one of its number then
+pub case_put : (n : ℕ) (cs : CaseList) (c d : Case) → case_at n cs ≡ Some c → case_at n (with_case n cs d) ≡ Some d
+case_put n [] c d e = nowhere e
+case_put n (x ∷ cs) c d e =
+    by_test (is_at (nat_cmp n) x.0)
+    (λ (t : is_at (nat_cmp n) x.0 ≡ true).
+    ap (λ (b : Bool). case_at n (cond b ((x.0, d) ∷ cs) (x ∷ with_case n cs d))) t ∙ ap (λ (b : Bool). cond b (Some d) (case_at n cs)) t)
+    (λ (t : is_at (nat_cmp n) x.0 ≡ false).
+    ap (λ (b : Bool). case_at n (cond b ((x.0, d) ∷ cs) (x ∷ with_case n cs d))) t
+    ∙ ap (λ (b : Bool). cond b (Some x.1) (case_at n (with_case n cs d))) t
+    ∙ case_put n cs c d (ap (λ (b : Bool). cond b (Some x.1) (case_at n cs)) (sym t) ∙ e))
+
 -- ---- the order of the numbers
 pub not_both : (o : Ordering) → is_eq o ≡ true → T (is_lt o) → ⊥
 not_both Less e h = never e

@@ -19,7 +19,7 @@ use Rattle.yw_tree.proofs.NetLaw.{net_lifted, shown}
 use Rattle.yw_tree.proofs.Rows.{if_task, item_if, picks}
 use Rattle.yw_tree.specs.Boxed.{AtNet, AtNode, AtRun, IsBoxedNet, ids, net_ids, run_ids}
 use Rattle.yw_tree.specs.Entries.{below_run, net_part}
-use Rattle.yw_tree.specs.Forest.{IsForest, item_of, placed_item_net, placed_part, sites_of}
+use Rattle.yw_tree.specs.Forest.{IsForest, item_of, item_net_replaced, item_part_replaced, sites_of}
 use Rattle.yw_tree.specs.Shows.{ShowsNet, StandsBeside}
 use Rattle.yw_tree.specs.Ways.{net_in, net_of_item}
 use Rattle.yw_tree.specs.declared.Forest.{Forest}
@@ -46,7 +46,7 @@ module _ (f : Forest) (id : Ident) (old : Node) (s w : NetState) (b : IsForest f
   -- a net that shows what the restriction leaves is the one of the forest that means it
   pub task_cut : IsBoxedNet w → ((i : Ident) (js : List Ident) → AreChildren i (ids s ++ js) → AreChildren i (ids w ++ js)) → (names : ℕ → List ℕ) (js : List Ident) → Each (IsChild id) js
       → (StandsBeside id (ids s) (below_run names (out-Node old).run) → ShowsNet names (sites_of names f) id (below_run names (out-Node old).run) s → ShowsNet names (drop_all (sites_of names f) js) id (below_run names (out-Node old).run) w)
-      → (sites_of names (placed_item_net f id w) ≡ drop_all (sites_of names f) js) × IsForest (placed_item_net f id w)
+      → (sites_of names (item_net_replaced f id w) ≡ drop_all (sites_of names f) js) × IsForest (item_net_replaced f id w)
   task_cut wb fewer names js c shows =
       let g = item_found f id old b e in
       let m = sites_of names f in
@@ -55,7 +55,7 @@ module _ (f : Forest) (id : Ident) (old : Node) (s w : NetState) (b : IsForest f
       let now = shows beside was in
       let same_at : get (drop_all m js) id ≡ get m id = get-drop_all m js id ∙ ap (λ z. cond z None (get m id)) (above id js c) in
       let part : option_and_then (λ (x : Site). x.net) (get m id) ≡ Some (net_part names w) = ap (option_and_then (λ (x : Site). x.net)) (sym same_at) ∙ now.part in
-      subst (λ (o : Option Node). (sites_of names (placed_part f id w o) ≡ drop_all m js) × IsForest (placed_part f id w o)) (sym e)
+      subst (λ (o : Option Node). (sites_of names (item_part_replaced f id w o) ≡ drop_all m js) × IsForest (item_part_replaced f id w o)) (sym e)
       (net_lifted names f id old b within e s w at wb (fewer id (run_ids (out-Node old).run) its_children) (drop_all m js) now
       (same_at ∙ sym (same_part (get m id) part))
       (λ q u. get-drop_all m js q ∙ ap (λ z. cond z None (get m q)) (untouched id q js c u)))

@@ -2,6 +2,7 @@
 use Rattle.std.specs.Prelude.{◌≡◌, List, None, [], length, ℕ}
 use Rattle.yw_state.specs.After.{new_item, new_run}
 use Rattle.yw_state.specs.Identity.{Ident}
+use Rattle.yw_state.specs.State.{no_checks}
 use Rattle.yw_state.specs.Values.{Row}
 use Rattle.yw_state.specs.declared.tree.Primitive.{Primitive}
 use Rattle.yw_tree.specs.Boxed.{IsBoxedNet}
@@ -17,11 +18,11 @@ pub record BeginsNet (spec net : ℕ) (marks : List ℕ) (vals : Row) (tasks : �
   pub empty : nodes s ≡ []
   pub boxed : IsBoxedNet s
 
--- An item of a task that is ready, given this, with no net and no run.
+-- An item of a task that is ready, given this, with nothing due at it, no net and no run.
 pub record BeginsItem (j : Ident) (k : ℕ) (given : Row) (n : Node) : Type 0 where
   pub id : (out-Node n).id ≡ j
   pub task : (out-Node n).task ≡ k
-  pub site : (names : ℕ → List ℕ) → item_site names n ≡ new_item k given
+  pub site : (names : ℕ → List ℕ) → item_site names n ≡ new_item k given no_checks
   pub without_net : (out-Node n).net ≡ None
   pub without_run : (out-Node n).run ≡ None
 

@@ -38,24 +38,24 @@ abbrev pub over_case_inner : Ident → Node → Case → Option NetState → Cas
 over_case_inner id w c None = c
 over_case_inner id w c (Some s) = with_case_inner id c (placed_in levels id w s)
 
-abbrev pub placed_in_case : Ident → Node → Case → Case
-placed_in_case id w c = over_case_inner id w c (case_inner id c)
+abbrev pub item_replaced_in_case : Ident → Node → Case → Case
+item_replaced_in_case id w c = over_case_inner id w c (case_inner id c)
 
-abbrev pub placed_at : Forest → Ident → Node → Option Case → Forest
-placed_at f id w None = f
-placed_at f id w (Some c) = record { cases = with_case (case_number id) f.cases (placed_in_case id w c) }
+abbrev pub item_replaced_at : Forest → Ident → Node → Option Case → Forest
+item_replaced_at f id w None = f
+item_replaced_at f id w (Some c) = record { cases = with_case (case_number id) f.cases (item_replaced_in_case id w c) }
 
 -- the item at an identity is w, and all else is as in f
-abbrev pub placed : Forest → Ident → Node → Forest
-placed f id w = placed_at f id w (case_at (case_number id) f.cases)
+abbrev pub item_replaced : Forest → Ident → Node → Forest
+item_replaced f id w = item_replaced_at f id w (case_at (case_number id) f.cases)
 
-abbrev pub placed_part : Forest → Ident → NetState → Option Node → Forest
-placed_part f id w None = f
-placed_part f id w (Some n) = placed f id (renewed n w)
+abbrev pub item_part_replaced : Forest → Ident → NetState → Option Node → Forest
+item_part_replaced f id w None = f
+item_part_replaced f id w (Some n) = item_replaced f id (renewed n w)
 
 -- the net of the item at an identity is w, and all else is as in f
-abbrev pub placed_item_net : Forest → Ident → NetState → Forest
-placed_item_net f id w = placed_part f id w (item_of f id)
+abbrev pub item_net_replaced : Forest → Ident → NetState → Forest
+item_net_replaced f id w = item_part_replaced f id w (item_of f id)
 
 abbrev pub top_of : Forest → ℕ → Option NetState
 top_of f n = option_map (λ (c : Case). c.net) (case_at n f.cases)
@@ -65,5 +65,5 @@ with_top f n w None = f
 with_top f n w (Some c) = record { cases = with_case n f.cases (record c { net = w }) }
 
 -- the net of case n is w, and all else is as in f
-abbrev pub placed_top : Forest → ℕ → NetState → Forest
-placed_top f n w = with_top f n w (case_at n f.cases)
+abbrev pub top_replaced : Forest → ℕ → NetState → Forest
+top_replaced f n w = with_top f n w (case_at n f.cases)

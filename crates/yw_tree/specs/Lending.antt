@@ -2,7 +2,7 @@
 use Rattle.std.specs.Borrow.{Fml, Lends, LendsIf, MutBor}
 use Rattle.std.specs.Prelude.{Option, ℕ}
 use Rattle.yw_state.specs.Identity.{Ident}
-use Rattle.yw_tree.specs.Forest.{placed, placed_item_net, placed_top}
+use Rattle.yw_tree.specs.Forest.{item_replaced, item_net_replaced, top_replaced}
 use Rattle.yw_tree.specs.Places.{case_with_run, item_with_run, placed_case, over_run_net, placed_net, placed_run, run_of}
 use Rattle.yw_tree.specs.Ways.{placed_in, with_case_inner, with_inner, with_net, with_net_in_run, with_node, with_run}
 use Rattle.yw_tree.specs.contracts.Case.{the_row as case_row}
@@ -45,13 +45,13 @@ abbrev pub LendsCaseRun : MutBor Case → MutBor Run → Fml
 LendsCaseRun s r = Lends case_row run_row s r (λ w. record s.now { run = with_run s.now.run w })
 
 abbrev pub LendsItem : MutBor Forest → Ident → Option (MutBor Node) → Fml
-LendsItem s id r = LendsIf forest_row node_row s r (placed s.now id) s.now
+LendsItem s id r = LendsIf forest_row node_row s r (item_replaced s.now id) s.now
 
 abbrev pub LendsItemNet : MutBor Forest → Ident → Option (MutBor NetState) → Fml
-LendsItemNet s id r = LendsIf forest_row net_row s r (placed_item_net s.now id) s.now
+LendsItemNet s id r = LendsIf forest_row net_row s r (item_net_replaced s.now id) s.now
 
 abbrev pub LendsTop : MutBor Forest → ℕ → Option (MutBor NetState) → Fml
-LendsTop s n r = LendsIf forest_row net_row s r (placed_top s.now n) s.now
+LendsTop s n r = LendsIf forest_row net_row s r (top_replaced s.now n) s.now
 
 abbrev pub LendsCase : MutBor Forest → ℕ → Option (MutBor Case) → Fml
 LendsCase s n r = LendsIf forest_row case_row s r (placed_case s.now n) s.now

@@ -3,7 +3,7 @@ use Rattle.std.specs.Prelude.{◌≡◌, ◌||◌, ℕ, Bool, false, Option, Som
 use Rattle.std.specs.declared.alloc.Global.{Global}
 use Rattle.yw_state.specs.Identity.{Ident, case_number, is_case_ident, parent, same}
 use Rattle.yw_tree.specs.Cases.{case_at, with_case}
-use Rattle.yw_tree.specs.Forest.{item_of, placed, placed_item_net, placed_top, top_of}
+use Rattle.yw_tree.specs.Forest.{item_of, item_replaced, item_net_replaced, top_replaced, top_of}
 use Rattle.yw_tree.specs.Ways.{net_in, net_of_item, place_of, run_in, with_net_in_run, with_run}
 use Rattle.yw_tree.specs.declared.Case.{Case}
 use Rattle.yw_tree.specs.declared.Forest.{Forest}
@@ -58,7 +58,7 @@ over_case_run f n w (Some c) = placed_case f n (case_with_run c w)
 
 abbrev pub over_item_run : Forest → Ident → Run → Option Node → Forest
 over_item_run f j w None = f
-over_item_run f j w (Some n) = placed f j (item_with_run n w)
+over_item_run f j w (Some n) = item_replaced f j (item_with_run n w)
 
 -- the run at an identity is w, and all else is as in f
 abbrev pub placed_run : Forest → Ident → Run → Forest
@@ -84,8 +84,8 @@ over_run_net f id w (Some r) = placed_run f id (with_net_in_run r w)
 -- the net at an identity is w, and all else is as in f
 abbrev pub placed_net : Forest → Ident → NetState → Forest
 placed_net f id w =
-    if is_case_ident id then placed_top f (case_number id) w else
-    (if is_some (item_of f id) then placed_item_net f id w else over_run_net f id w (run_of f id))
+    if is_case_ident id then top_replaced f (case_number id) w else
+    (if is_some (item_of f id) then item_net_replaced f id w else over_run_net f id w (run_of f id))
 
 -- ---- whether something stands at an identity
 

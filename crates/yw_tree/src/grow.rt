@@ -89,6 +89,22 @@ fn add_run_by(forest: &mut Forest, id: &[u64], run: Box<Run>)
     }
 }
 
+/// A net without items comes to the item at an identity, which has none.
+fn attach_to_item(forest: &mut Forest, id: &[u64], net: Box<NetState>)
+    requires boxed { IsForest forest.old }
+    requires identity { is_identity id.now ≡ true }
+    requires well { IsBoxedNet net.value }
+    requires empty { nodes net.value ≡ [] }
+    requires stands { IsSome (item_of forest.old id.now) }
+    requires vacant { net_of_item (item_of forest.old id.now) ≡ None }
+    ensures sites { GetsNet forest.old forest.new id.now net.value }
+    ensures kept { IsForest forest.new }
+{
+    if let Some(item) = item_by(forest, id) {
+        set_item_net(item, net);
+    }
+}
+
 impl Forest {
     /// One case more, with all that stands in it, in order of its number. An `Err` says that no memory was left, and then
     /// all is as it was.
@@ -117,9 +133,7 @@ impl Forest {
         ensures sites { GetsNet self.old self.new id.now net.value }
         ensures kept { IsForest self.new }
     {
-        if let Some(node) = self.item_mut(id) {
-            set_item_net(node, net);
-        }
+        attach_to_item(self, id.numbers(), net);
     }
 
     /// A net without items comes to the run at an identity, which has none. It takes no memory.

@@ -8,7 +8,7 @@ ghost use Rattle.yw_state.specs.State.{Site, Sites};
 ghost use Rattle.yw_tree.specs.Changes.{ChangesItem, ChangesNet};
 ghost use Rattle.yw_tree.specs.Coming.{AreDrawn, ComesAfter};
 ghost use Rattle.yw_tree.specs.Entries.{item_site};
-ghost use Rattle.yw_tree.specs.Forest.{IsForest, placed, sites_of};
+ghost use Rattle.yw_tree.specs.Forest.{IsForest, item_replaced, sites_of};
 ghost use Rattle.yw_tree.specs.Places.{net_at, placed_net};
 ghost use Rattle.yw_tree.specs.declared.Forest.{Forest};
 ghost use Rattle.yw_tree.specs.declared.NetState.{NetState};
@@ -17,8 +17,8 @@ ghost use Rattle.yw_tree.specs.declared.Node.{Node};
 /// Where an item keeps its identity, its task, its net and its run, the map changes at its identity alone.
 pub fn item_changes()
     ensures site { (names : ℕ → List ℕ) (f : Forest) (id : Ident) (old w : Node) (h : Site → Site) → ChangesItem f id old w
-        → item_site names w ≡ h (item_site names old) → sites_of names (placed f id w) ≡ update (sites_of names f) id h }
-    ensures kept { (f : Forest) (id : Ident) (old w : Node) → ChangesItem f id old w → IsForest (placed f id w) }
+        → item_site names w ≡ h (item_site names old) → sites_of names (item_replaced f id w) ≡ update (sites_of names f) id h }
+    ensures kept { (f : Forest) (id : Ident) (old w : Node) → ChangesItem f id old w → IsForest (item_replaced f id w) }
 {}
 
 /// Where a net changes and no item comes, the forest's map is each that shows the new net (`ChangesNet`).

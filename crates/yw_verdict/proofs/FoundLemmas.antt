@@ -15,6 +15,7 @@ use Rattle.yw_state.specs.declared.rule.Refusal.{Refusal}
 use Rattle.yw_state.specs.declared.rule.Rule.TheVariants.{SpecText}
 use Rattle.yw_verdict.specs.Found.{text_limit, FindsSaid, IsFoundBy}
 use Rattle.yw_verdict.specs.declared.finding.Finding.{Finding}
+use Rattle.yw_verdict.specs.declared.finding.TheConstants.{TEXT_LIMIT}
 use Rattle.yw_verdict.specs.declared.finding.Finding.TheVariants.{Accepted, Refused}
 
 same_ok : (said : Result RawSpec ReadFault) (raw other : RawSpec) → said ≡ Ok raw → said ≡ Ok other → raw ≡ other
@@ -49,7 +50,7 @@ pub no_text : (said : Result RawSpec ReadFault) (f : Finding) → said ≡ Err N
 no_text said f is e =
     subst (λ (g : Finding). FindsSaid said g) (sym e) (subst (λ (s : Result RawSpec ReadFault). FindsSaid s (Refused (placeless SpecText))) (sym is) refl)
 
-pub limit_is : text_limit ≡ 1048576
+pub limit_is : text_limit ≡ TEXT_LIMIT
 unfolding text_limit
 limit_is = refl
 

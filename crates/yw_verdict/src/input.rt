@@ -1,13 +1,11 @@
 // The reading of a text.
-ghost use Rattle.std.specs.Prelude.{◌≡◌, ◌+◌, ◌<◌, ◌≤◌, ◌^◌, List, ℕ, take, length, Some, Err, IfOk, MatchResult, vec_len};
-ghost use Rattle.std.specs.Io.KnownBytes.{Consumes, Keeps, IsAtEnd};
-ghost use Rattle.yw_outside.specs.Causes.{HasCause};
+ghost use Rattle.std.specs.Prelude.{◌≡◌, ◌+◌, ◌<◌, ◌^◌, List, ℕ, take, Some, Err, IfOk};
 ghost use Rattle.yw_verdict.specs.Counts.{Reads};
 ghost use Rattle.yw_verdict.specs.Taken.{TakesAll, TakesSome};
 ghost use Rattle.yw_verdict.specs.declared.input.InputFault.TheVariants.{Memory, Unread};
 
 use std::alloc::{AllocError, Global};
-use yw_outside::{Failed, Source};
+use yw_outside::{Failed, Source, new_piece, read_piece};
 
 /// Why a text isn't read.
 #[derive(Clone, Copy, Debug, PartialEq, Eq)]
@@ -38,28 +36,6 @@ impl From<Failed> for InputFault {
     }
 }
 
-const PIECE: usize = 65_536;
-
-/// Room for a piece.
-fn new_piece(alloc: Global) -> Result<Vec<u8>, AllocError>
-    ensures { IfOk result (λ piece. vec_len piece ≡ 65536) }
-{
-    vec![in alloc; 0u8; PIECE]
-}
-
-/// The next bytes, at most so many.
-fn read_piece<S: Source>(source: &mut S, piece: &mut [u8], most: usize) -> Result<usize, Failed>
-    requires some { 0 < most }
-    requires room { 0 < length piece.old }
-    ensures count { IfOk result (λ n. (n ≤ most) × (n ≤ length piece.new)) }
-    ensures bytes { MatchResult result (λ n. Consumes (S.left source.old) (S.left source.new) (take n piece.new) × (n ≡ 0 → IsAtEnd (S.left source.new)))
-        (λ _. Keeps (S.left source.old) (S.left source.new)) }
-    ensures cause { HasCause (S.faults source.old) (S.faults source.new) result }
-{
-    let room = most.min(piece.len());
-    source.read(&mut piece[..room])
-}
-
 /// The bytes up to the end, or where there are more than the limit, one more than that. Reading ends there.
 pub fn read_text<S: Source>(
     alloc: Global,
@@ -70,7 +46,8 @@ pub fn read_text<S: Source>(
 
     ensures ok { IfOk result (λ text. (bytes : List ℕ) → S.left source.old ≡ Some bytes
         → (text.items ≡ take (limit + 1) bytes) × TakesAll limit bytes (S.left source.new)) }
-    ensures some { (bytes : List ℕ) → S.left source.old ≡ Some bytes → TakesSome limit bytes (S.left source.new) }
+    ensures some { (bytes : List ℕ) → S.left source.old ≡ Some bytes
+        → TakesSome limit bytes (S.left source.new) }
     ensures counts { Reads (S.faults source.old) (S.faults source.new) result }
 {
     let mut piece = new_piece(alloc)?;

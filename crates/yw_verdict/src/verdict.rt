@@ -32,7 +32,8 @@ pub enum Verdict {
 fn find<S: Source>(alloc: Global, source: &mut S) -> Result<Finding, InputFault>
     ensures ok { IfOk result (λ finding. (bytes : List ℕ) → S.left source.old ≡ Some bytes
         → IsFound bytes finding × TakesAll text_limit bytes (S.left source.new)) }
-    ensures some { (bytes : List ℕ) → S.left source.old ≡ Some bytes → TakesSome text_limit bytes (S.left source.new) }
+    ensures some { (bytes : List ℕ) → S.left source.old ≡ Some bytes
+        → TakesSome text_limit bytes (S.left source.new) }
     ensures counts { Reads (S.faults source.old) (S.faults source.new) result }
 {
     let text = read_text(alloc, TEXT_LIMIT, source)?;
@@ -53,7 +54,8 @@ fn verdict_of(finding: &Finding) -> Verdict
 /// Says what was found.
 fn tell<D: Desk>(alloc: Global, finding: &Finding, desk: &mut D) -> Verdict
     ensures says { IsTrue (D.tells desk.old) → Says D.Desk result finding.now desk.old desk.new }
-    ensures verdicts { (result ≡ verdict_of finding.now) ⊎ (result ≡ Verdict.Write) ⊎ ((result ≡ Verdict.Memory) × (desk.new ≡ desk.old)) }
+    ensures verdicts { (result ≡ verdict_of finding.now) ⊎ (result ≡ Verdict.Write)
+        ⊎ ((result ≡ Verdict.Memory) × (desk.new ≡ desk.old)) }
     ensures files { KeepsFiles D.Desk desk.old desk.new }
     ensures counts { CountsSay D.Desk result desk.old desk.new }
 {
@@ -82,15 +84,19 @@ pub fn judge_input<S: Source, D: Desk>(alloc: Global, source: &mut S, desk: &mut
         → Ends D.Desk result bytes desk.old desk.new }
 
     // Whatever may be found of the text is what was answered and said: nothing else is found.
-    ensures only { IsTrue (D.tells desk.old) → (bytes : List ℕ) (finding : Finding) → S.left source.old ≡ Some bytes → IsFound bytes finding
+    ensures only { IsTrue (D.tells desk.old) → (bytes : List ℕ) (finding : Finding)
+        → S.left source.old ≡ Some bytes → IsFound bytes finding
         → Says D.Desk result finding desk.old desk.new }
 
     // Also of a desk that doesn't tell what was said: the verdict is that of what may be found, or there is none.
-    ensures judges { (bytes : List ℕ) (finding : Finding) → S.left source.old ≡ Some bytes → IsFound bytes finding
-        → (result ≡ verdict_of finding) ⊎ (result ≡ Verdict.Memory) ⊎ (result ≡ Verdict.Read) ⊎ (result ≡ Verdict.Write) }
+    ensures judges { (bytes : List ℕ) (finding : Finding)
+        → S.left source.old ≡ Some bytes → IsFound bytes finding
+        → (result ≡ verdict_of finding) ⊎ (result ≡ Verdict.Memory)
+        ⊎ (result ≡ Verdict.Read) ⊎ (result ≡ Verdict.Write) }
 
     // How much of the input was taken.
-    ensures takes { (bytes : List ℕ) → S.left source.old ≡ Some bytes → Takes result bytes (S.left source.new) }
+    ensures takes { (bytes : List ℕ) → S.left source.old ≡ Some bytes
+        → Takes result bytes (S.left source.new) }
 
     // The files stay, and where nothing was said, so does the desk.
     ensures files { KeepsFiles D.Desk desk.old desk.new }
@@ -103,7 +109,8 @@ pub fn judge_input<S: Source, D: Desk>(alloc: Global, source: &mut S, desk: &mut
     ensures say_cause { CountsSay D.Desk result desk.old desk.new }
 
     // Where neither the source nor a say failed, the text is judged, or no memory was left.
-    ensures complete { ¬ (Rose (S.faults source.old) (S.faults source.new)) → ¬ (Rose (D.say_faults desk.old) (D.say_faults desk.new))
+    ensures complete { ¬ (Rose (S.faults source.old) (S.faults source.new))
+        → ¬ (Rose (D.say_faults desk.old) (D.say_faults desk.new))
         → (result ≡ Verdict.Accepted) ⊎ (result ≡ Verdict.Refused) ⊎ (result ≡ Verdict.Memory) }
 {
     match find(alloc, source) {

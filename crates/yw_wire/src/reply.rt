@@ -5,7 +5,7 @@ ghost use Rattle.serde_json.specs.Data.{Data, array, string};
 ghost use Rattle.serde_json.specs.Events.{SendsValue};
 ghost use Rattle.serde_json.specs.View.{items_of, view};
 ghost use Rattle.serde_json.specs.Written.{has_float};
-ghost use Rattle.yw_lines.specs.Replies.{done, done_data, line_of, refused, refused_data};
+ghost use Rattle.yw_lines.specs.Replies.{done_line, done_data, line_of, refused_line, refused_data};
 ghost use Rattle.yw_lines.specs.EventTexts.{step_text};
 
 use crate::steps::put_step;
@@ -69,7 +69,7 @@ impl Serialize for Refused<'_> {
 /// The reply to the refused line of this number: `{"at":..,"n":..,"ok":false,"rule":..}` and a newline. An `Err`
 /// says that no memory was left.
 pub fn reply_refused(alloc: Global, n: u64, refusal: &Refusal) -> Result<Bytes, AllocError>
-    ensures { IfOk result (λ line. line ≡ refused n refusal.now) }
+    ensures { IfOk result (λ line. line ≡ refused_line n refusal.now) }
 {
     sent_line(alloc, &Refused { n, refusal })
 }
@@ -133,7 +133,7 @@ pub fn reply_done(
     events: &EventList,
     quiet: bool,
 ) -> Result<Bytes, AllocError>
-    ensures { IfOk result (λ line. line ≡ done n events.now quiet) }
+    ensures { IfOk result (λ line. line ≡ done_line n events.now quiet) }
 {
     let events = events.as_slice();
     sent_line(

@@ -11,14 +11,8 @@ use crate::fault::FieldFault;
 use crate::fields::{FromValue, each_of};
 use serde_json::{Map, Value as JsonValue};
 use std::alloc::Global;
-use yw_base::{IntList, Items, Text, TextList, Value};
+use yw_base::{IntList, Items, MOST_ELEMENTS, MOST_TEXT_BYTES, Text, TextList, Value};
 use yw_state::{Given, GivenList};
-
-/// The most bytes of a text value.
-const MOST_TEXT_BYTES: usize = 4096;
-
-/// The most elements of a list value.
-const MOST_ELEMENTS: usize = 1000;
 
 impl FromValue for i64 {
     ghost kind = { int_of };

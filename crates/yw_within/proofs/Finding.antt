@@ -100,8 +100,8 @@ flows_below net flows None all c among = absurd (no_element c among)
 flows_below net flows (Some t) all c among = place_below net (flows t) c (all t refl) among
 
 module _ (spec : Spec) (net : Net) (within : NetIsWithin spec net) (t c : ℕ) where
-  pub before_within : Contains (flows.before net t) c → c < length net.places
+  pub before_within : Contains (flows.places_before net t) c → c < length net.places
   before_within among = flows_below net (λ (x : Task). x.before) (slice_get net.tasks t) (λ x at. (within.each_task t x at).before) c among
 
-  pub after_within : Contains (flows.after net t) c → c < length net.places
+  pub after_within : Contains (flows.places_after net t) c → c < length net.places
   after_within among = flows_below net (λ (x : Task). x.after) (slice_get net.tasks t) (λ x at. (within.each_task t x at).after) c among

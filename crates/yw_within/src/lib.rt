@@ -3,7 +3,7 @@
 #![tactic(auto)]
 
 ghost use Rattle.std.specs.Prelude.{Contains, length, ◌<◌, ◌≡◌, ℕ, List, Some, true};
-ghost use Rattle.yw_spec.specs.Net.{after, before};
+ghost use Rattle.yw_spec.specs.Net.{places_after, places_before};
 ghost use Rattle.yw_spec.specs.declared.spec.Net.{Net};
 ghost use Rattle.yw_spec.specs.declared.spec.Place.{Place};
 ghost use Rattle.yw_spec.specs.declared.spec.Spec.{Spec};
@@ -26,6 +26,6 @@ pub fn well_holds_within<R: Reads>()
 
 /// The flows to and from each task of a net that is within are of places of it.
 pub fn flows_have_places()
-    ensures before { (spec : Spec) (net : Net) (t c : ℕ) → NetIsWithin spec net → Contains (before net t) c → c < length net.places }
-    ensures after { (spec : Spec) (net : Net) (t c : ℕ) → NetIsWithin spec net → Contains (after net t) c → c < length net.places }
+    ensures before { (spec : Spec) (net : Net) (t c : ℕ) → NetIsWithin spec net → Contains (places_before net t) c → c < length net.places }
+    ensures after { (spec : Spec) (net : Net) (t c : ℕ) → NetIsWithin spec net → Contains (places_after net t) c → c < length net.places }
 {}

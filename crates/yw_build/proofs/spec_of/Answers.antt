@@ -1,4 +1,4 @@
-use Rattle.yw_build.proofs.VerdictLemmas.{is_ready}
+use Rattle.yw_accept.proofs.ReadyLemmas.{is_ready}
 use Rattle.yw_build.proofs.spec_of.Goals as goal
 
 pub spec_of_ready-requires : goal.spec_of_ready-requires

@@ -1,6 +1,5 @@
 //! Which events keep the invariant.
-ghost use Rattle.std.specs.Prelude.{ℕ, ◌<◌, Bool, List, length};
-ghost use Rattle.yw_base.specs.Identity.{most_numbers};
+ghost use Rattle.std.specs.Prelude.{ℕ, Bool, List};
 ghost use Rattle.yw_state.specs.Allowed.{Allowed};
 ghost use Rattle.yw_state.specs.Events.{after};
 ghost use Rattle.yw_state.specs.Identity.{Ident};
@@ -79,16 +78,4 @@ pub fn complete_keeps_well<R: Reads>()
 /// A state that is well stays so when a case is launched.
 pub fn launch_keeps_well<R: Reads>()
     ensures { (s : State) (n : ℕ) (name : List ℕ) (vals : Row) (said : Said) → IsWell R.reader s → Allowed s (events.Launch n name vals) said → IsWell R.reader (after s (events.Launch n name vals) said) }
-{}
-
-/// A state that is well stays so when an exlet begins for what happened outside, at a case or an item whose identity can
-/// have one number more.
-pub fn raise_keeps_well<R: Reads>()
-    ensures { (s : State) (j : Ident) (kind : TreeKind) (node n : ℕ) (said : Said) → length j < most_numbers → IsWell R.reader s → Allowed s (events.Raise j kind node n) said → IsWell R.reader (after s (events.Raise j kind node n) said) }
-{}
-
-/// A state that is well stays so when an exlet begins for a check that is due, at a case or an item whose identity can have
-/// one number more.
-pub fn except_keeps_well<R: Reads>()
-    ensures { (s : State) (j : Ident) (check : TreeKind) (node n : ℕ) (said : Said) → length j < most_numbers → IsWell R.reader s → Allowed s (events.Except j check node n) said → IsWell R.reader (after s (events.Except j check node n) said) }
 {}

@@ -1,7 +1,7 @@
 use Rattle.std.proofs.Common.{◌≡◌, true, List, All, sym, subst}
 use Rattle.yw_read.specs.declared.raw.RawVar.{RawVar}
 use Rattle.yw_accept.specs.Names.{is_usable}
-use Rattle.yw_build.proofs.ReadyLemmas.{usable_each}
+use Rattle.yw_accept.proofs.ReadyLemmas.{usable_each}
 use Rattle.yw_build.proofs.nets.net_of.Goals as goal
 
 pub vars_of-requires : goal.vars_of-requires

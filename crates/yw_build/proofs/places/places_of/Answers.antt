@@ -1,6 +1,7 @@
 use Rattle.std.proofs.Common.{List, All, sym, subst, ◌≡◌, true, ℕ}
 use Rattle.yw_accept.specs.Names.{is_usable}
-use Rattle.yw_build.proofs.ReadyLemmas.{usable_input, usable_output, usable_conditions, flows_named}
+use Rattle.yw_accept.proofs.Places.{ends_usable}
+use Rattle.yw_accept.proofs.ReadyLemmas.{usable_input, usable_output, usable_conditions}
 use Rattle.yw_build.proofs.places.places_of.Goals as goal
 
 pub push_named-requires : goal.push_named-requires
@@ -15,4 +16,4 @@ push_conditions-requires c =
     subst P (sym c.as_slice.ensures) (usable_conditions c.args.net.now c.requires.named)
 
 pub push_implicit-requires-clause-names : goal.push_implicit-requires-clause-names
-push_implicit-requires-clause-names c = flows_named c.args.net.now c.requires.named c.requires.leads
+push_implicit-requires-clause-names c = ends_usable c.args.net.now c.requires.named c.requires.leads

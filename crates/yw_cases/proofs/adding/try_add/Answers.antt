@@ -45,7 +45,7 @@ returns c =
     let old = c.args.standing.now in
     let is = c.in-Some.ensures in
     let grows = c.task_may_grow.ensures.needs (names_of old.known) old.forest (state_of old) (stands_well old c.requires) (holds_within old c.requires) c.args.at.now (as_net_at old.known is.net)
-    is.task no_checks is.here.at (checks_are old c.requires (as_net_at old.known is.net) is.task) in
+    is.task no_checks is.here.at (checks_are old c.requires c.args.at.now is.task.name) in
     added_by c.args.standing.now c.requires c.args.at.now c.args.name.now c.args.value.now c.args.n c.in-Some.t is c.in-Some-known_net.found (c.in-Some-known_net.ensures _ c.requires.held) c.add-step.new.forest
     c.in_ok-element.element c.in_ok-element.ensures c.add-step.result grows c.add-step.ensures.ok c.add-step.ensures.allowed
     (subst (IsAnswer c.add-step.result) c.if-not-branch.false c.in_ok-was_done.ensures)

@@ -50,6 +50,6 @@ returns c =
     let is = entry_found c.args.standing.now c.args.at.now c.args.name.now c.args.places.now c.args.first c.args.count c.in_ok-t.field-0 (c.in-Some.t, c.in-Some.taken) c.in-Some.is c.in_ok-t.ensures in
     let old = c.args.standing.now in
     let grows = c.task_may_grow.ensures.needs (names_of old.known) old.forest (state_of old) (stands_well old c.requires) (holds_within old c.requires) c.args.at.now (as_net_at old.known is.net)
-    is.task no_checks is.here.at (checks_are old c.requires (as_net_at old.known is.net) is.task) in
+    is.task no_checks is.here.at (checks_are old c.requires c.args.at.now is.task.name) in
     entered_by c.args.standing.now c.requires c.args.at.now c.args.name.now c.args.places.now c.args.first c.args.count c.in-Some.t c.in-Some.taken is c.in-Some-known_net.found (c.in-Some-known_net.ensures _ c.requires.held) c.enter-step.new.forest
     c.enter-step.result grows c.enter-step.ensures.ok c.enter-step.ensures.allowed (subst (IsAnswer c.enter-step.result) c.if-not-branch.false c.in_ok-was_entered.ensures)

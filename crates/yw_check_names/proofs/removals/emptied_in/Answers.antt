@@ -6,7 +6,7 @@ use Rattle.std.specs.Str.{bytes_eq}
 use Rattle.yw_read.specs.declared.raw.RawFlow.{RawFlow}
 use Rattle.yw_read.specs.declared.raw.RawTask.{RawTask}
 use Rattle.yw_read.specs.declared.raw.RawNet.{RawNet}
-use Rattle.yw_accept.specs.Nodes.{is_among, is_task, task_names, implicit_places}
+use Rattle.yw_accept.specs.Nodes.{is_name_among, is_task, task_names, implicit_places}
 use Rattle.yw_check_names.specs.Removals.{AreImplicit, MayBeEmptied}
 use Rattle.yw_check_names.specs.Seen.{NameSet, Knows, AddsAll}
 use Rattle.yw_check_names.proofs.removals.emptied_in.Goals as goal
@@ -18,7 +18,7 @@ emptied net tasks implicit more all knows are_implicit conditions_added tasks_ad
       let places = implicit_places net in
       (tasks_added.knows (places ++ net.conditions) (conditions_added.knows places (are_implicit.knows net knows))).has name
       ∙ list_any-append (bytes_eq name) (places ++ net.conditions) (task_names net.task)
-      ∙ ap (λ b. b || is_task net name) (list_any-append (bytes_eq name) places net.conditions ∙ or_comm (is_among places name) (is_among net.conditions name));
+      ∙ ap (λ b. b || is_task net name) (list_any-append (bytes_eq name) places net.conditions ∙ or_comm (is_name_among places name) (is_name_among net.conditions name));
 }
 
 pub returns : goal.returns

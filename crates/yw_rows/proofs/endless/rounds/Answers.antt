@@ -14,6 +14,6 @@ returns c =
       most = refl;
       automatic = refl;
       allowed = refl;
-      refused = inl (λ quiet. quiet complete_last (record { here = refl; automatic = refl; allowed = (refl, tt) }), refl);
+      refused = inl ((complete_last, record { here = refl; automatic = refl; allowed = (refl, tt) }), refl);
       suspended = refl;
     }

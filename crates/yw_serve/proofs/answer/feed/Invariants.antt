@@ -1,7 +1,6 @@
 use Rattle.std.proofs.Common.{◌≡◌, ◌≤◌, ◌+◌, ◌++◌, ℕ, List, length}
 use Rattle.yw_outside.specs.Since.{NoneFailed}
-use Rattle.yw_serve.specs.Desks.{ForTaken, KeepsJournal, Stands}
-use Rattle.yw_serve.specs.Session.{GoesOn}
+use Rattle.yw_serve.specs.Desks.{KeepsJournal, Stands, TakesPiece}
 use Rattle.yw_serve.proofs.answer.feed.Given as goal
 
 -- of the piece a prefix is taken, and the rest is left
@@ -13,7 +12,7 @@ invariant-loop-part g l =
       keeps : KeepsJournal D l.fn.session.server.journal l.session.server.journal l.fn.desk l.desk;
       none : NoneFailed D l.fn.desk l.desk;
       count : l.session.number + length l.rest ≤ l.fn.session.number + length l.piece;
-      went : (prefix : List ℕ) × (l.piece ≡ prefix ++ l.rest) × ForTaken D l.fn.session l.fn.desk (λ c taken. GoesOn D c l.fn.session l.session taken prefix l.fn.desk l.desk);
+      went : (prefix : List ℕ) × (l.piece ≡ prefix ++ l.rest) × TakesPiece D l.fn.session l.session prefix l.fn.desk l.desk;
     }
 
 abbrev pub decreases-loop-part : goal.decreases-loop-part

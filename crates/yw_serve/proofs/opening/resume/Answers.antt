@@ -7,10 +7,11 @@ use Rattle.yw_journal.specs.Journal.{IsCurrent}
 use Rattle.yw_journal.specs.declared.journal.Journal.{Journal}
 use Rattle.yw_engine.specs.Held as engine
 use Rattle.yw_state.specs.State.{State, opening}
-use Rattle.yw_serve.specs.Damage.{IsDamagedNow}
+use Rattle.yw_serve.specs.Damage.{HoldNow, IsDamagedNow}
+use Rattle.yw_serve.specs.Desks.{Stands}
 use Rattle.yw_serve.specs.Opening.{HasFaultCause, IsDamagedAt, IsReached, IsOpened}
 use Rattle.yw_serve.specs.declared.opening.OpenFault.{OpenFault}
-use Rattle.yw_serve.specs.declared.opening.Opened.{Opened}
+use Rattle.yw_serve.specs.declared.server.Server.{Server}
 use Rattle.yw_serve.proofs.OpenHeld.{chosen_start, content_of, current_records, damaged_within, held_records}
 use Rattle.yw_serve.proofs.OpenLooked.{fault_further, still_settled}
 use Rattle.yw_serve.proofs.opening.resume.Goals as goal
@@ -33,7 +34,7 @@ returns-in_err-tail-clause-fault g c =
     let chosen = c.requires.chosen tells in
     damaged_within i c.args.head.now chosen f place (all 0 tells (subst (λ (p : State). IsReached i.a 29 [] p) nobody (chosen_start i c.args.head.now chosen))))
     refl in
-    subst (λ (r : Result Opened OpenFault). IfErr r (HasFaultCause whole (D.disk_faults old) (D.disk_faults new))) (sym is) cause
+    subst (λ (r : Result Server OpenFault). IfErr r (HasFaultCause whole (D.disk_faults old) (D.disk_faults new))) (sym is) cause
 
 pub returns-clause-opened : goal.returns-clause-opened
 returns-clause-opened g c = λ tells.
@@ -48,12 +49,12 @@ returns-clause-opened g c = λ tells.
     let read = c.in_ok-tail.ensures.reached tells (subst (λ (p : State). IsReached i.a 29 [] p) nobody (chosen_start i head chosen)) in
     let records = read.1.0 in
     let journal : Journal = record { file = A; generation = c.u64_in.result; end = tail.gate + 1; limit = c.args.limit; number = c.u64_in-2.result + tail.records } in
-    let opened : Opened = record { journal = journal; engine = c.read_entries.new.engine } in
-    let held = held_records i head chosen tail.gate records s read.1.1 read.0 in
-    let current = current_records i head chosen journal tail.gate records s read.1.1 read.0 refl refl c.u64_in.ensures
-    (ap (λ (n : ℕ). n + tail.records) c.u64_in-2.ensures ∙ ap (λ (n : ℕ). count_of head.bytes + n) (sym read.1.2)) in
-    let here : IsOpened opened i i = record { before = content_of i.a records; held = held; now = content_of i.a records; holds = held; current = current; content = inl (refl, refl); other = refl; said = refl } in
-    subst (λ (j : Image). IsOpened opened i j) (sym looked.same) here
+    let server = c.new.result in
+    let held = subst (λ (t : State). HoldNow (content_of i.a records) t i) (sym c.new.ensures.state) (held_records i head chosen tail.gate records s read.1.1 read.0) in
+    let current = subst (λ (x : Journal). IsCurrent x (content_of i.a records) i) (sym c.new.ensures.journal) (current_records i head chosen journal tail.gate records s read.1.1 read.0 refl refl c.u64_in.ensures
+    (ap (λ (n : ℕ). n + tail.records) c.u64_in-2.ensures ∙ ap (λ (n : ℕ). count_of head.bytes + n) (sym read.1.2))) in
+    let here : IsOpened server i i = record { before = content_of i.a records; held = held; now = content_of i.a records; holds = held; current = current; content = inl (refl, refl); other = refl; said = refl } in
+    subst (λ (j : Image). IsOpened server i j) (sym looked.same) here
 
 pub returns-clause-stands : goal.returns-clause-stands
 returns-clause-stands g c =
@@ -69,7 +70,7 @@ returns-clause-stands g c =
     let few : c.u64_in-2.result ≤ greatest = subst (λ (n : ℕ). n ≤ greatest) (sym c.u64_in-2.ensures) c.requires.counted in
     let journal : Journal = record { file = A; generation = c.u64_in.result; end = tail.gate + 1; limit = c.args.limit; number = c.u64_in-2.result + tail.records } in
     let back = λ (t : IsTrue (D.tells c.read_entries.new.desk)). sym looked.telling ∙ t in
-    record {
+    subst (λ (x : Journal). Stands D x c.read_entries.new.desk) (sym c.new.ensures.journal) (record {
       ready = record { some = omega arith; within = omega (arith, c.requires.size); limited = c.requires.limit; counted = omega arith };
       current = λ telling.
           let tells = back telling in
@@ -79,4 +80,4 @@ returns-clause-stands g c =
           (ap (λ (n : ℕ). n + tail.records) c.u64_in-2.ensures ∙ ap (λ (n : ℕ). count_of head.bytes + n) (sym read.1.2)) in
           (content_of i.a read.1.0, subst (λ (j : Image). IsCurrent journal (content_of i.a read.1.0) j) (sym looked.same) current);
       settled = λ telling. still_settled D c.args.desk.now c.read_entries.new.desk looked (c.requires.settled (back telling));
-    }
+    })

@@ -2,14 +2,14 @@ use Rattle.std.proofs.Common.{Ok, ap, ◌∙◌}
 use Rattle.std.proofs.lemmas.Result.{IfOk-weaker}
 use Rattle.yw_engine.specs.Held as engine
 use Rattle.yw_wire.specs.Faults.{rule_of}
-use Rattle.yw_model.proofs.Answering.{as_written, can_be_asked}
+use Rattle.yw_model.proofs.Answering.{line_can_ask}
 use Rattle.yw_serve.proofs.Planning.{command_line, fault_line, query_line}
 use Rattle.yw_serve.proofs.plan.plan_line.Goals as goal
 
 pub plan_command-requires : goal.plan_command-requires
 plan_command-requires c =
     let command = c.in-Ok-Command.command in
-    can_be_asked command (as_written c.args.line.now command (c.in-Ok-Command.ensures.ok ∙ ap Ok c.in-Ok-Command.field-0-is))
+    line_can_ask c.args.line.now command (c.in-Ok-Command.ensures.ok ∙ ap Ok c.in-Ok-Command.field-0-is)
 
 pub returns-in-Ok-Command-clause-plan : goal.returns-in-Ok-Command-clause-plan
 returns-in-Ok-Command-clause-plan c =

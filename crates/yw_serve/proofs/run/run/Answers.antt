@@ -35,8 +35,8 @@ loop-taken-preserved g c =
     let made = c.in_default.ensures in
     let on = made.progress refl in
     record {
-      small = on.1;
-      number = on.2;
+      small = on.within;
+      number = on.counted;
       stands = made.stands refl;
       keeps = record {
         file = made.keeps.file ∙ inv.keeps.file;

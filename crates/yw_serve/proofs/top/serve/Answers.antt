@@ -10,7 +10,7 @@ use Rattle.yw_serve.specs.declared.top.Status.TheVariants as statuses
 use Rattle.yw_serve.specs.Headline.{HoldsPrefix, LeavesFromSyncs}
 use Rattle.yw_serve.specs.Served.{Ended, IsOfRun}
 use Rattle.yw_serve.specs.declared.top.Status.{Status}
-use Rattle.yw_serve.specs.declared.top.TheConstants.{INPUT_LIMIT}
+use Rattle.yw_serve.specs.declared.run.TheConstants.{INPUT_LIMIT}
 use Rattle.yw_serve.proofs.top.serve.Goals as goal
 
 pub returns-in-Some-clause-ends : goal.returns-in-Some-clause-ends

@@ -8,7 +8,7 @@ use Rattle.yw_steps.proofs.starting.start.Goals as goal
 use Rattle.yw_steps.specs.Starts.{StartBreaks, StartIsAllowed, Starts}
 use Rattle.yw_task.specs.Standing.{ItemDoes}
 use Rattle.yw_tree.proofs.PutBack.{put_back}
-use Rattle.yw_tree.specs.Forest.{item_of, placed}
+use Rattle.yw_tree.specs.Forest.{item_of, item_replaced}
 
 pub returns-clause-ok : goal.returns-clause-ok
 returns-clause-ok c =
@@ -17,7 +17,7 @@ returns-clause-ok c =
     let old = c.in-Some.node.now in
     let new = c.start.new.node in
     let found : item_of f j ≡ Some old = sym (rw c.in-Some.is at c.item_mut.ensures.value) in
-    if_ok c.start.result (λ _. ItemDoes (λ k. events.Start k c.args.who) old new) (λ _. Starts j c.args.who f (placed f j new)) c.start.ensures.ok
+    if_ok c.start.result (λ _. ItemDoes (λ k. events.Start k c.args.who) old new) (λ _. Starts j c.args.who f (item_replaced f j new)) c.start.ensures.ok
     (λ _ does. starts f c.requires.boxed j c.item_mut.ensures.identity old found c.args.who new does)
 
 pub returns-clause-first : goal.returns-clause-first
@@ -43,4 +43,4 @@ returns-clause-err c =
     let old = c.in-Some.node.now in
     let new = c.start.new.node in
     let found : item_of f j ≡ Some old = sym (rw c.in-Some.is at c.item_mut.ensures.value) in
-    on_err c.start.result (new ≡ old) (placed f j new ≡ f) c.start.ensures.err (λ same. ap (placed f j) same ∙ put_back j old f found)
+    on_err c.start.result (new ≡ old) (item_replaced f j new ≡ f) c.start.ensures.err (λ same. ap (item_replaced f j) same ∙ put_back j old f found)

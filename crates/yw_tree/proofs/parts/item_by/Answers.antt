@@ -3,7 +3,7 @@ use Rattle.std.specs.Prelude.{option_and_then}
 use Rattle.std.specs.Option.{ghost_name_of}
 use Rattle.yw_state.specs.Identity.{case_number}
 use Rattle.yw_tree.specs.Cases.{case_at, with_case}
-use Rattle.yw_tree.specs.Forest.{item_of, item_of_case, levels, over_case_inner, placed_at}
+use Rattle.yw_tree.specs.Forest.{item_of, item_of_case, levels, over_case_inner, item_replaced_at}
 use Rattle.yw_tree.specs.Ways.{case_inner, item_in, placed_in, with_case_inner}
 use Rattle.yw_tree.specs.declared.Case.{Case}
 use Rattle.yw_tree.specs.declared.Forest.{Forest}
@@ -39,7 +39,7 @@ returns c =
     let into : case_inner id case ≡ Some net = sym c.in_ok-net.ensures.value in
     let at_first : (d : Case) → ◌≡◌ {A = Forest} (record { cases = with_case (c.case_number.result) f.cases d }) (record { cases = with_case (case_number id) f.cases d }) = λ d j. record { cases = with_case (first j) f.cases d } in (
       same_loan (ghost_name_of c.item_within.result) _ _ _ _
-          (λ w. at_first (with_case_inner id case (placed_in levels id w net)) ∙ sym (ap (placed_at f id w) e ∙ (λ j. record { cases = with_case (case_number id) f.cases (ap (over_case_inner id w case) into j) })))
+          (λ w. at_first (with_case_inner id case (placed_in levels id w net)) ∙ sym (ap (item_replaced_at f id w) e ∙ (λ j. record { cases = with_case (case_number id) f.cases (ap (over_case_inner id w case) into j) })))
           (at_first (with_case_inner id case net) ∙ (λ j. record { cases = (ap (with_case (case_number id) f.cases) (same_case id case net into) ∙ same_table (case_number id) f.cases case e) j })),
       record { writes_back = tt; value = c.item_within.ensures.value ∙ sym (ap (option_and_then (item_of_case id)) e ∙ ap (option_and_then (item_in levels id)) into) },
     )

@@ -3,7 +3,7 @@ use Rattle.std.specs.Option.{ghost_name_of}
 use Rattle.std.specs.Prelude.{option_and_then}
 use Rattle.yw_state.specs.Identity.{case_number, is_case_ident, parent}
 use Rattle.yw_tree.specs.Cases.{case_at, with_case}
-use Rattle.yw_tree.specs.Forest.{item_of, placed}
+use Rattle.yw_tree.specs.Forest.{item_of, item_replaced}
 use Rattle.yw_tree.specs.Places.{case_with_run, item_with_run, over_case_run, over_item_run, run_of_case, run_of_item}
 use Rattle.yw_tree.specs.declared.Case.{Case}
 use Rattle.yw_tree.specs.declared.Forest.{Forest}
@@ -41,7 +41,7 @@ returns c =
     let top : is_case_ident (parent id) ≡ false = ap is_case_ident (sym c.parent-target.ensures) ∙ sym c.is_case-2.ensures ∙ c.if-is_case-2.false in
     let e : item_of f (parent id) ≡ Some node = ap (item_of f) (sym c.parent-target.ensures) ∙ sym c.in_ok-node.ensures.value in (
       same_loan (ghost_name_of c.run_of_item.result) _ _ _ _
-          (λ w. ap (λ j. placed f j (item_with_run node w)) c.parent-target.ensures ∙ sym (placed_in_its_item f id w top ∙ ap (over_item_run f (parent id) w) e))
-          (ap (λ j. placed f j node) c.parent-target.ensures ∙ put_back (parent id) node f e),
+          (λ w. ap (λ j. item_replaced f j (item_with_run node w)) c.parent-target.ensures ∙ sym (placed_in_its_item f id w top ∙ ap (over_item_run f (parent id) w) e))
+          (ap (λ j. item_replaced f j node) c.parent-target.ensures ∙ put_back (parent id) node f e),
       record { writes_back = tt; value = c.run_of_item.ensures.value ∙ sym (run_at_item f id below top ∙ ap (option_and_then (run_of_item id)) e) },
     )

@@ -1,7 +1,7 @@
 use Rattle.std.proofs.Common.{◌≡◌, ℕ, List, [], ◌∷◌, Bool, false, refl, subst}
 use Rattle.std.specs.Prelude.{IfOk}
 use Rattle.serde_json.specs.Written.{has_float, items_have_float}
-use Rattle.yw_lines.specs.Replies.{done, done_data, line_of}
+use Rattle.yw_lines.specs.Replies.{done_line, done_data, line_of}
 use Rattle.yw_state.specs.declared.event.Event.{Event}
 use Rattle.yw_wire.specs.Sent.{steps_data}
 use Rattle.yw_wire.proofs.reply.reply_done.Goals as goal
@@ -14,7 +14,7 @@ has_float-done_data : (n : ℕ) (es : List Event) (quiet : Bool) → has_float (
 has_float-done_data n es quiet = rw (no_step_floats es)
 
 pub returns : goal.returns
-unfolding done
+unfolding done_line
 returns c =
     let n = c.args.n in
     let quiet = c.args.quiet in
