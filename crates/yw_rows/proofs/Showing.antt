@@ -53,9 +53,9 @@ module _ {A B : Type 0} where
   from_flat : (f : A → List B) (xs : List A) (y : B) → IsIn (flat_map f xs) y → (x : A) × IsIn xs x × IsIn (f x) y
   from_flat f [] y within = absurd within
   from_flat f (z ∷ zs) y within = elim (in_one (f z) (flat_map f zs) y within) [
-      | inl here ↦ (z, inl refl, here)
-      | inr there ↦ let rest = from_flat f zs y there in (rest.0, inr rest.1, rest.2)
-    ]
+    | inl here ↦ (z, inl refl, here)
+    | inr there ↦ let rest = from_flat f zs y there in (rest.0, inr rest.1, rest.2)
+  ]
 
   from_mapped : (h : A → Option B) (xs : List A) (y : B) → IsIn (filter_map h xs) y → (x : A) × IsIn xs x × (h x ≡ Some y)
   from_mapped h [] y within = absurd within
@@ -63,9 +63,9 @@ module _ {A B : Type 0} where
       elim (h x) as (λ o. h x ≡ o → IsIn (cons_option o (filter_map h xs)) y → (z : A) × IsIn (x ∷ xs) z × (h z ≡ Some y)) [
         | None ↦ λ e there. let rest = from_mapped h xs y there in (rest.0, inr rest.1, rest.2)
         | Some w ↦ λ e there. elim there [
-            | inl same ↦ (x, inl refl, e ∙ ap Some same)
-            | inr later ↦ let rest = from_mapped h xs y later in (rest.0, inr rest.1, rest.2)
-          ]
+          | inl same ↦ (x, inl refl, e ∙ ap Some same)
+          | inr later ↦ let rest = from_mapped h xs y later in (rest.0, inr rest.1, rest.2)
+        ]
       ] refl within
 
 module _ {A : Type 0} where
@@ -80,9 +80,9 @@ module _ {A : Type 0} where
   from_filter p (y ∷ ys) x within =
       elim (p y) as (λ b. p y ≡ b → IsIn (if b then y ∷ filter p ys else filter p ys) x → IsIn (y ∷ ys) x × (p x ≡ true)) [
         | true ↦ λ e there. elim there [
-            | inl same ↦ (inl same, ap p (sym same) ∙ e)
-            | inr later ↦ let rest = from_filter p ys x later in (inr rest.0, rest.1)
-          ]
+          | inl same ↦ (inl same, ap p (sym same) ∙ e)
+          | inr later ↦ let rest = from_filter p ys x later in (inr rest.0, rest.1)
+        ]
         | false ↦ λ e there. let rest = from_filter p ys x there in (inr rest.0, rest.1)
       ] refl within
 
@@ -105,9 +105,9 @@ in_placed r (q ∷ qs) x at =
     elim (is_lt (lexical (place_text r.place) (place_text q.place))) as (λ b. IsIn (if b then r ∷ q ∷ qs else q ∷ placed_among r qs) x) [
       | true ↦ at
       | false ↦ elim at [
-          | inl same ↦ inr (in_placed r qs x (inl same))
-          | inr within ↦ elim within [ inl here ↦ inl here | inr later ↦ inr (in_placed r qs x (inr later)) ]
-        ]
+        | inl same ↦ inr (in_placed r qs x (inl same))
+        | inr within ↦ elim within [ inl here ↦ inl here | inr later ↦ inr (in_placed r qs x (inr later)) ]
+      ]
     ]
 
 from_placed : (r : TokenRow) (qs : List TokenRow) (x : TokenRow) → IsIn (placed_among r qs) x → (r ≡ x) ⊎ IsIn qs x
@@ -116,9 +116,9 @@ from_placed r (q ∷ qs) x within =
     elim (is_lt (lexical (place_text r.place) (place_text q.place))) as (λ b. IsIn (if b then r ∷ q ∷ qs else q ∷ placed_among r qs) x → (r ≡ x) ⊎ IsIn (q ∷ qs) x) [
       | true ↦ λ at. at
       | false ↦ λ at. elim at [
-          | inl here ↦ inr (inl here)
-          | inr later ↦ elim (from_placed r qs x later) [ inl same ↦ inl same | inr rest ↦ inr (inr rest) ]
-        ]
+        | inl here ↦ inr (inl here)
+        | inr later ↦ elim (from_placed r qs x later) [ inl same ↦ inl same | inr rest ↦ inr (inr rest) ]
+      ]
     ] within
 
 in_order : (rs : List TokenRow) (x : TokenRow) → IsIn rs x → IsIn (by_place rs) x
@@ -156,7 +156,7 @@ module _ (s : State) (n : ℕ) (row : TokenRow) where
             (λ t. nowhere (sym (ap (λ (b : Bool). if b then None else Some (record { net = i; place = place; count = made.0.1 })) t) ∙ e))
             (λ f.
             let same : record { net = i; place = place; count = made.0.1 } ≡ row =
-                some_same _ row (sym (ap (λ (b : Bool). if b then None else Some (record { net = i; place = place; count = made.0.1 })) f) ∙ e) in
+            some_same _ row (sym (ap (λ (b : Bool). if b then None else Some (record { net = i; place = place; count = made.0.1 })) f) ∙ e) in
             subst (IsTokenRow s n) same (record {
               in_case = here;
               net = at;
@@ -186,7 +186,7 @@ module _ (s : State) (n : ℕ) (row : TokenRow) where
       let made = mapped_in (token_row is.net row.net) (enumerate_from 0 is.net.part.tokens) (is.number, row.count) row counted (row_made is.net is.number is.place is.some) in
       in_flat (λ (e : Ident × Site). rows_of_net e.0 (net_at s e.0)) (of_case s n) (row.net, stands.0) row
       (in_filter (λ (e : Ident × Site). case_number e.0 == n) (entries s.sites) (row.net, stands.0)
-        (entry-found by_name (entries s.sites) row.net stands.0 stands.1) (eq-eqb (case_number row.net) n is.in_case))
+      (entry-found by_name (entries s.sites) row.net stands.0 stands.1) (eq-eqb (case_number row.net) n is.in_case))
       (subst (λ o. IsIn (rows_of_net row.net o) row) (sym is.here) (in_order _ row made))
 
 -- what is computed is told, where its tokens are in order
@@ -201,7 +201,8 @@ is_told s n ordered = record {
     ordered = ordered;
     exact = λ row. (
       (λ there. told s n row (found_in (shown s n).tokens row there)),
-      (λ is. contained (shown s n).tokens row (shown_there s n row is)));
+      (λ is. contained (shown s n).tokens row (shown_there s n row is)),
+    );
   };
 }
 
