@@ -1,5 +1,5 @@
 -- Where the same is looked at in two states, an identity that is still in the one is still in the other.
-use Rattle.std.specs.Prelude.{◌≡◌, ℕ, ◌+◌, ◌&&◌, ◌||◌, Bool, true, not, List, [], ◌∷◌, length, filter, Option, Some, None, is_some, nat_le, nat_lt, option_and_then, unwrap_or, slice_get, refl, cond}
+use Rattle.std.specs.Prelude.{◌≡◌, ℕ, ◌+◌, ◌&&◌, ◌||◌, Bool, true, not, List, [], ◌∷◌, length, filter, Option, Some, None, is_some, nat_le, nat_lt, option_and_then, option_map, unwrap_or, slice_get, refl, cond}
 use Rattle.std.specs.List.{All, list_all, list_any}
 use Rattle.std.proofs.Common.{sym, ◌∙◌, ap, arith}
 use Rattle.std.proofs.lemmas.List.Elements.{All-head, All-tail}
@@ -9,6 +9,7 @@ use Rattle.yw_base.specs.declared.gate.Gate.{Gate}
 use Rattle.yw_base.specs.declared.gate.Gate.TheVariants.{And, Xor, Or}
 use Rattle.yw_spec.specs.Net.{Node, at_place, at_task}
 use Rattle.yw_spec.specs.declared.task.Many.{Many}
+use Rattle.yw_spec.specs.declared.task.Task.{Task}
 use Rattle.yw_state.proofs.Elsewhere.{children}
 use Rattle.yw_state.proofs.Tests.{there_and}
 use Rattle.yw_state.specs.Allowed.{exit_values, may_leave, most_tokens}
@@ -20,8 +21,9 @@ use Rattle.yw_state.specs.Options.{is_some_and}
 use Rattle.yw_state.specs.Passing.{entry_values, kept_values, made_rows, split_places, within_bounds}
 use Rattle.yw_state.specs.State.{State, ItemAt, ItemPart, NetAt, NetPart, RunPart, TaskAt, due_at, item_at, items_of, net_at, run_part, task_in, tokens_on}
 use Rattle.yw_state.specs.Words.{active, any_due, busy, clear, done, is_at_work, is_executing, is_ready, urgent}
-use Rattle.yw_still.specs.Looked.{LooksSame}
-use Rattle.yw_still.specs.Still.{IsStill, can_be_entered, has_room_on, is_entering, is_leaving, may_be_made, task_numbered}
+use Rattle.yw_state.specs.declared.part.Stage.{Stage}
+use Rattle.yw_still.specs.Looked.{LooksSame, stage_and_task}
+use Rattle.yw_still.specs.Still.{IsStill, can_be_entered, has_room_on, is_entering, is_leaving, item_begins, item_ends, item_goes_on, may_be_made, task_numbered}
 
 -- ---- tests that answer alike
 
@@ -133,10 +135,20 @@ module _ (s t : State) (j : Ident) (same : LooksSame s t j) where
   task_same k x is = ap (option_and_then (λ (n : NetAt). task_in n k)) (sym same.net) ∙ is
 
   -- as `item_goes_on` has it
-  abbrev goes : Bool → Bool → ItemAt → Bool
+  abbrev goes : Bool → Bool → Stage × Task → Bool
   goes at_work out x =
-      is_ready x.part.stage && (is_empty x.of_task.task || is_some (child_net x.of_task.task) && not at_work)
-      || is_executing x.part.stage && (is_some (child_net x.of_task.task) || is_atomic x.of_task.task) && not at_work && out
+      is_ready x.0 && (is_empty x.1 || is_some (child_net x.1) && not at_work)
+      || is_executing x.0 && (is_some (child_net x.1) || is_atomic x.1) && not at_work && out
+
+  -- only the stage and the task are looked at
+  goes_on_by : (u : State) → item_goes_on u j ≡ (clear u j && is_some_and (stage_and_task u j) (goes (busy u j) (at_output u j)))
+  goes_on_by u = by_item (item_at u j)
+    where
+      by_item : (o : Option ItemAt)
+          → (clear u j && is_some_and o (λ x. item_begins u j x || item_ends u j x))
+          ≡ (clear u j && is_some_and (option_map (λ (x : ItemAt). (x.part.stage, x.of_task.task)) o) (goes (busy u j) (at_output u j)))
+      by_item None = refl
+      by_item (Some x) = refl
 
   pub still_stays : IsStill s j → IsStill t j
   still_stays still = record {
@@ -145,10 +157,11 @@ module _ (s t : State) (j : Ident) (same : LooksSame s t j) where
     compensation = ap (λ o. is_some_and o (λ (x : RunPart). x.waiting) && at_output t j && not (urgent t (case_number j))) same.run
         ∙ ap (λ b. is_some_and (run_part s j) (λ (x : RunPart). x.waiting) && b && not (urgent t (case_number j))) output_same
         ∙ ap (λ b. is_some_and (run_part s j) (λ (x : RunPart). x.waiting) && at_output s j && not b) same.urgent ∙ still.compensation;
-    item = ap (λ b. b && is_some_and (item_at t j) (goes (busy t j) (at_output t j))) same.clear
+    item = goes_on_by t
+        ∙ ap (λ b. b && is_some_and (stage_and_task t j) (goes (busy t j) (at_output t j))) same.clear
         ∙ ap (λ o. clear s j && is_some_and o (goes (busy t j) (at_output t j))) same.item
-        ∙ ap (λ b. clear s j && is_some_and (item_at s j) (goes b (at_output t j))) same.busy
-        ∙ ap (λ b. clear s j && is_some_and (item_at s j) (goes (busy s j) b)) output_same ∙ still.item;
+        ∙ ap (λ b. clear s j && is_some_and (stage_and_task s j) (goes b (at_output t j))) same.busy
+        ∙ ap (λ b. clear s j && is_some_and (stage_and_task s j) (goes (busy s j) b)) output_same ∙ sym (goes_on_by s) ∙ still.item;
     case = ap (λ b. is_case_ident j && b && not (busy t j) && at_output t j) same.clear
         ∙ ap (λ b. is_case_ident j && clear s j && not b && at_output t j) same.busy
         ∙ ap (λ b. is_case_ident j && clear s j && not (busy s j) && b) output_same ∙ still.case;

@@ -49,7 +49,7 @@ module _ (apart : Ident × Site → Bool) where
       (λ keeps. ap (λ b. p e || b) (any_kept p none es) ∙ sym (ap (λ b. list_any p (first_kept e es b)) keeps))
       (λ skips. ap (λ b. b || list_any p es) (none e skips) ∙ any_kept p none es ∙ sym (ap (λ b. list_any p (first_kept e es b)) skips))
 
-  mapped_kept : {B : Type 0} (h : Ident × Site → Option B) → ((e : Ident × Site) → apart e ≡ false → h e ≡ None) → (es : List (Ident × Site)) → filter_map h es ≡ filter_map h (filter apart es)
+  pub mapped_kept : {B : Type 0} (h : Ident × Site → Option B) → ((e : Ident × Site) → apart e ≡ false → h e ≡ None) → (es : List (Ident × Site)) → filter_map h es ≡ filter_map h (filter apart es)
   mapped_kept h none [] = refl
   mapped_kept h none (e ∷ es) =
       by_test (apart e)
@@ -168,7 +168,7 @@ module _ (m : ℕ) (some : m ≢ 0) (s t : State) (same : SameElsewhere m s t) w
     looks_same later = record {
       due = ap (λ o. unwrap_or (option_map (λ (x : Site). x.due) o) no_checks) (same.sites j out);
       run = ap (option_and_then (λ (x : Site). x.run)) (same.sites j out);
-      item = item_same j out;
+      item = ap (option_map (λ (x : ItemAt). (x.part.stage, x.of_task.task))) (item_same j out);
       part = ap (option_and_then (λ (x : Site). x.net)) (same.sites j out);
       net = net_same j out;
       items = items_same;
