@@ -1,6 +1,7 @@
 pub mod Over
 pub mod Allows
 pub mod Trying
+pub mod Resting
 pub mod Loads
 pub mod Launching
 pub mod Ending

@@ -4,6 +4,7 @@ pub mod Here
 pub mod Items
 pub mod State
 pub mod Tried
+pub mod Rested
 pub mod Completing
 pub mod Steps
 pub mod Exiting

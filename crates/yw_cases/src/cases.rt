@@ -6,11 +6,12 @@ ghost use Rattle.yw_cases.specs.Tried.{IsEnteredNowhere, IsTried, IsUnfit};
 ghost use Rattle.yw_library.specs.Accepts.{IfRefused};
 ghost use Rattle.yw_model.specs.Texts.{reader};
 ghost use Rattle.yw_plain.specs.Plain.{is_plain_event};
+ghost use Rattle.yw_state.specs.Automatic.{IsQuiet};
 ghost use Rattle.yw_state.specs.Events.{Leads};
 ghost use Rattle.yw_state.specs.Map.{get};
 ghost use Rattle.yw_state.specs.State.{opening};
 ghost use Rattle.yw_state.specs.declared.event.Event.TheVariants as events;
-ghost use Rattle.yw_walk.specs.Finds.{EntersAs};
+ghost use Rattle.yw_walk.specs.Finds.{ComesPlainly, EntersAs};
 
 use crate::EndedTable;
 use crate::entered::entry_event;
@@ -22,6 +23,7 @@ use std::marker::Model;
 use yw_base::{Ident, Name};
 use yw_known::Known;
 use yw_library::LibraryFault;
+use yw_loose::Loose;
 use yw_state::{Event, Way};
 use yw_tree::Forest;
 
@@ -29,15 +31,16 @@ use yw_tree::Forest;
 const FIRST_NUMBER: u64 = 1;
 
 /// Persons, specifications, the cases that stand, how cases ended, and the number that is drawn next. A contract sees these; by `state_of` they
-/// are a state, which is well.
+/// are a state, which is well. Beside them is kept where something may come of itself.
 #[derive(Drop)]
 pub struct Cases {
     alloc: Global,
     standing: Standing,
+    loose: Loose,
 }
 
 impl Model for Cases {
-    ghost use Rattle.yw_cases.specs.State.{MayStand};
+    ghost use Rattle.yw_cases.specs.Rested.{StandsRested};
     ghost use Rattle.yw_cases.specs.declared.standing.Standing.{Standing};
 
     ghost Value = { Standing };
@@ -51,7 +54,7 @@ impl Model for Cases {
 
     ghost view = { λ c. c.standing };
 
-    ghost invariant = { λ c. MayStand c.standing };
+    ghost invariant = { λ c. StandsRested c.standing c.loose };
 }
 
 /// Nothing is kept: nobody, no specification and no case.
@@ -83,6 +86,7 @@ impl Cases {
         Cases {
             alloc,
             standing: nothing(alloc),
+            loose: Loose::new(alloc),
         }
     }
 
@@ -94,9 +98,14 @@ impl Cases {
         ensures err { OnErr result (state_of self.new ≡ opening) }
     {
         match try_event(self.alloc, &mut self.standing, event) {
-            Ok(leads) => Ok(leads),
+            Ok(true) => {
+                self.loose.after(self.alloc, event);
+                Ok(true)
+            }
+            Ok(false) => Ok(false),
             Err(AllocError) => {
                 forget(self.alloc, &mut self.standing);
+                self.loose.forget();
                 Err(AllocError)
             }
         }
@@ -115,6 +124,7 @@ impl Cases {
             Err(LibraryFault::Refused(refusal)) => Err(LibraryFault::Refused(refusal)),
             Err(LibraryFault::Memory) => {
                 forget(self.alloc, &mut self.standing);
+                self.loose.forget();
                 Err(LibraryFault::Memory)
             }
         }
@@ -127,6 +137,28 @@ impl Cases {
         ensures { IfOk result (λ found. MatchOption found (IsEnteredNowhere self.now at.now name.now) (EntersAs (state_of self.now) at.now name.now)) }
     {
         entry_event(self.alloc, &self.standing, at, name)
+    }
+
+    /// The next event that comes of itself in a case, by what events have set moving: `None` exactly where the case is quiet, as it is where no
+    /// case has this number. An `Err` says that no memory was left. Nothing changes.
+    pub fn next_event(&mut self, n: u64) -> Result<Option<Event>, AllocError>
+        ensures found { IfOk result (λ found. MatchOption found (IsQuiet (state_of self.old) n) (ComesPlainly (state_of self.old) n)) }
+        ensures same { self.new ≡ self.old }
+    {
+        let Standing {
+            known,
+            forest,
+            next,
+            ..
+        } = &self.standing;
+        self.loose.next_event(self.alloc, known, forest, n, *next)
+    }
+
+    /// It is known that a case is quiet; `false` says nothing. No case is looked at, and it takes no memory.
+    pub fn is_at_rest(&self, n: u64) -> bool
+        ensures { result ≡ true → IsQuiet (state_of self.now) n }
+    {
+        self.loose.is_at_rest(n)
     }
 
     /// The state is well, it is that of what is known and of the forest, and it is plain. A law: nothing is done.

@@ -1,13 +1,11 @@
 // What stands at an identity, and is said of what is known alone, so that the forest may change.
-ghost use Rattle.std.specs.Prelude.{◌≡◌, ◌+◌, ◌==◌, ◌&&◌, IfOk, None, SomeIff, MatchOption, true, nat_le};
-ghost use Rattle.yw_base.specs.Identity.{is_identity, number_end};
+ghost use Rattle.std.specs.Prelude.{◌≡◌, ◌+◌, ◌==◌, ◌&&◌, None, MatchOption, nat_le};
+ghost use Rattle.yw_base.specs.Identity.{number_end};
 ghost use Rattle.yw_cases.specs.Here.{IsNetKnown};
 ghost use Rattle.yw_known.specs.Held.{IsHeld};
-ghost use Rattle.yw_state.specs.Identity.{parent};
 ghost use Rattle.yw_state.specs.Joins.{at_output};
 ghost use Rattle.yw_state.specs.State.{State, net_part};
 
-use std::alloc::{AllocError, Global};
 use yw_base::{Ident, NUMBER_END};
 use yw_enabled::is_at_output;
 use yw_known::{Known, KnownNet, net_here};
@@ -30,16 +28,6 @@ pub fn known_net<'a>(known: &'a Known, forest: &Forest, at: &Ident) -> Option<Kn
     known.are_named();
     let state = forest.net(at)?;
     known.net(state.spec, state.net)
-}
-
-/// The identity of the net in which an item stands, or `None` where there is none above. An `Err` says that no memory was left.
-pub fn parent(alloc: Global, j: &Ident) -> Result<Option<Ident>, AllocError>
-    ensures above { IfOk result (λ above. SomeIff above (is_identity (parent j.now) ≡ true) (parent j.now)) }
-    ensures identity { is_identity j.now ≡ true }
-{
-    let numbers = j.numbers();
-    let above = Vec::from_slice(alloc, &numbers[..numbers.len() - 1])?;
-    Ok(Ident::from_numbers(above))
 }
 
 /// A net stands at an identity that is at its end. It takes no memory.

@@ -11,11 +11,12 @@ ghost use Rattle.yw_state.specs.Joins.{at_output};
 ghost use Rattle.yw_state.specs.State.{State, item_at};
 ghost use Rattle.yw_state.specs.declared.event.Event.TheVariants as events;
 
-use crate::here::{known_net, net_at_output, parent};
+use crate::here::{known_net, net_at_output};
 use crate::standing::Standing;
 use crate::whole::NO_CHECKS;
 use std::alloc::{AllocError, Global};
 use yw_base::{Ident, Name};
+use yw_idents::parent;
 use yw_known::{Known, KnownNet, item_here};
 use yw_spec::{Kind, Task};
 use yw_state::Stage;

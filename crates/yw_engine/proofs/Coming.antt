@@ -1,10 +1,11 @@
 -- Events that are built are of neither a rule tree nor an exlet, and the other way round; and what comes of itself leads to one state.
+use Rattle.std.specs.Prelude.{MatchOption}
 use Rattle.std.proofs.Common.{◌≡◌, ◌↔◌, ◌∙◌, Bool, Err, IfOk, IsTrue, None, Ok, Option, Result, Some, ap, false, refl, subst, sym, true, ℕ}
 use Rattle.yw_built.specs.Built.{is_built}
 use Rattle.yw_cases.specs.State.{MayStand, state_of}
 use Rattle.yw_cases.specs.Tried.{IsTried}
 use Rattle.yw_cases.specs.declared.standing.Standing.{Standing}
-use Rattle.yw_engine.specs.Decides.{IsNext, LeadsOn}
+use Rattle.yw_engine.specs.Decides.{IsDone, IsNext, LeadsOn}
 use Rattle.yw_engine.proofs.Parts.{held_by, next_of}
 use Rattle.yw_library.specs.Holdings.{Holdings}
 use Rattle.yw_model.specs.Texts.{reader}
@@ -18,7 +19,7 @@ use Rattle.yw_state.specs.declared.event.Event.{Event}
 use Rattle.yw_state.specs.declared.event.Event.TheVariants as events
 use Rattle.yw_tree.specs.declared.Forest.{Forest}
 use Rattle.yw_turns.proofs.Entries.{no_text_of}
-use Rattle.yw_walk.specs.Finds.{FindsNext, StandsFor, TellsQuiet}
+use Rattle.yw_walk.specs.Finds.{ComesPlainly, FindsNext, StandsFor, TellsQuiet}
 
 -- ---- what is built
 
@@ -100,6 +101,21 @@ module _ (h : Standing) (may : MayStand h) (n : ℕ) where
       quiet_by (Ok quiet) tells = tells (state_of h) stands_for
       quiet_by (Err fault) tells = tt
 
+  -- what is found by what is loose
+  pub loose_by : {E : Type 0} (result : Result (Option Event) E) → IfOk result (λ found. MatchOption found (IsQuiet (state_of h) n) (ComesPlainly (state_of h) n))
+      → IfOk result (IsNext h n)
+  loose_by (Ok None) quiet = quiet
+  loose_by (Ok (Some e)) it = (it.comes, plain_is_built e (it.plain may.no_worklet))
+  loose_by (Err fault) finds = tt
+
   -- an event that is found leads on
   pub next_on : (found : Option Event) (e : Event) → found ≡ Some e → IsNext h n found → LeadsOn h e
   next_on found e is next = comes_on h n e (subst (IsNext h n) is next).0
+
+  -- and what it led to is the state after it
+  pub stepped : (found : Option Event) (e : Event) (mid new : Standing) → found ≡ Some e → IsNext h n found → mid ≡ h → IsDone mid e new
+      → Comes (state_of h) n e × (state_of new ≡ after (state_of h) e nothing) × (is_built e ≡ true)
+  stepped found e mid new is next same done =
+      let it = subst (IsNext h n) is next in
+      let leads = subst (λ (m : Standing). Leads reader (state_of m) e (state_of new)) same done.leads in
+      (it.0, comes_after (state_of h) (state_of new) n e it.0 leads, it.1)

@@ -1,13 +1,12 @@
 -- What a completion breaks, and the event that it asks for, by what is held.
-use Rattle.std.proofs.Common.{◌≡◌, ◌∙◌, List, Option, Some, None, ap, not, refl, subst, sym, true, false, ℕ}
+use Rattle.std.proofs.Common.{◌≡◌, ◌∙◌, List, Option, Some, None, ap, refl, subst, sym, true, false, ℕ}
 use Rattle.std.proofs.lemmas.Bool.{not-false}
-use Rattle.std.specs.Prelude.{[], MatchOption, drop, option_and_then, option_map, take}
+use Rattle.std.specs.Prelude.{[], MatchOption, drop, option_and_then, option_map}
 use Rattle.yw_asked.proofs.ItemsAsked as items
 use Rattle.yw_asked.proofs.Unbroken.{none_broken}
 use Rattle.yw_breaks.proofs.Joining as joining
 use Rattle.yw_breaks.proofs.Whole.{complete_last}
 use Rattle.yw_breaks.specs.Events.{CompleteMakes}
-use Rattle.yw_breaks.specs.Finds.{FindsPlain}
 use Rattle.yw_breaks.specs.Tables.{complete_front, complete_most, complete_rest}
 use Rattle.yw_cases.specs.State.{MayStand, state_of}
 use Rattle.yw_cases.specs.declared.standing.Standing.{Standing}
@@ -24,7 +23,7 @@ use Rattle.yw_model.specs.Texts.{reader}
 use Rattle.yw_state.proofs.Tests.{map_some, never, nowhere, some_same, then_some}
 use Rattle.yw_state.specs.Broken.{First, checks, placeless}
 use Rattle.yw_state.specs.Given.{made_values, misfit}
-use Rattle.yw_state.specs.Identity.{Ident, case_number, parent}
+use Rattle.yw_state.specs.Identity.{Ident, parent}
 use Rattle.yw_state.specs.Legal.{IsAsked}
 use Rattle.yw_state.specs.State.{ItemAt, State, is_item, item_at}
 use Rattle.yw_state.specs.Values.{Row}

@@ -16,7 +16,7 @@ use Rattle.yw_state.specs.Broken.{entry_count}
 use Rattle.yw_state.specs.Events.{Leads, after}
 use Rattle.yw_state.specs.Identity.{Ident, case_number}
 use Rattle.yw_state.specs.Legal.{IsAsked}
-use Rattle.yw_state.specs.State.{State, TaskAt, task_at}
+use Rattle.yw_state.specs.State.{TaskAt, task_at}
 use Rattle.yw_state.specs.Texts.{nothing}
 use Rattle.yw_state.specs.declared.command.Command.TheVariants as commands
 use Rattle.yw_state.specs.declared.event.Event.{Event}

@@ -5,12 +5,13 @@ ghost use Rattle.yw_engine.specs.Decides.{BreaksNow, Decides};
 ghost use Rattle.yw_state.specs.declared.command.Command.TheVariants as commands;
 
 use crate::begin::begin;
-use crate::front::{case_number, in_front};
+use crate::front::in_front;
 use crate::work::Work;
 use crate::{Decided, EngineFault};
 use std::alloc::AllocError;
 use yw_base::{Ident, Name, Value};
 use yw_breaks::{add_event, add_front, add_rest};
+use yw_idents::case_number;
 use yw_state::Refusal;
 
 /// The first rule that an addition breaks.

@@ -3,11 +3,10 @@ ghost use Rattle.std.specs.Prelude.{◌≡◌, IfOk};
 ghost use Rattle.yw_cases.specs.State.{MayStand};
 ghost use Rattle.yw_engine.specs.Decides.{IsInFront};
 ghost use Rattle.yw_state.specs.Broken.{placeless};
-ghost use Rattle.yw_state.specs.Identity.{case_number};
 
 use crate::work::Work;
 use std::alloc::{AllocError, Global};
-use yw_base::{Ident, Text};
+use yw_base::Text;
 use yw_state::{Refusal, Rule};
 
 /// A rule without a place. It takes no memory.
@@ -17,16 +16,6 @@ pub fn placeless(alloc: Global, rule: Rule) -> Refusal
     Refusal {
         rule,
         at: Text::new(alloc),
-    }
-}
-
-/// The number of the case in which an identity lies.
-pub fn case_number(id: &Ident) -> u64
-    ensures { result ≡ case_number id.now }
-{
-    match id.numbers() {
-        [number, ..] => *number,
-        [] => 0,
     }
 }
 

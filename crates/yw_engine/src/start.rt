@@ -5,12 +5,13 @@ ghost use Rattle.yw_engine.specs.Decides.{BreaksNow, Decides};
 ghost use Rattle.yw_state.specs.declared.command.Command.TheVariants as commands;
 
 use crate::begin::begin;
-use crate::front::{case_number, in_front};
+use crate::front::in_front;
 use crate::work::Work;
 use crate::{Decided, EngineFault};
 use std::alloc::AllocError;
 use yw_base::{Ident, Name};
 use yw_breaks::{start_front, start_rest};
+use yw_idents::case_number;
 use yw_state::{Event, Refusal};
 
 /// The first rule that a start breaks.

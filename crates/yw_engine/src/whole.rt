@@ -4,11 +4,12 @@ ghost use Rattle.yw_engine.specs.Decides.{Decides};
 ghost use Rattle.yw_state.specs.declared.command.Command.TheVariants as commands;
 
 use crate::begin::begin;
-use crate::front::{case_number, placeless};
+use crate::front::placeless;
 use crate::work::Work;
 use crate::{Decided, EngineFault};
 use yw_base::Ident;
 use yw_breaks::{advance_breaks, cancel_breaks};
+use yw_idents::case_number;
 use yw_state::Event;
 
 /// A case is cancelled.

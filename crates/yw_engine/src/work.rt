@@ -31,8 +31,20 @@ impl Work {
         ensures { IfOk result (IsNext self.now.standing case) }
     {
         let standing = &self.standing;
+        if standing.is_at_rest(case) {
+            return Ok(None);
+        }
         let (known, forest) = (standing.known(), standing.forest());
         next_event(self.alloc, known, forest, case, standing.next())
+    }
+
+    /// The same, by what events have set moving. What is held doesn't change.
+    fn next_loose(&mut self, case: u64) -> Result<Option<Event>, AllocError>
+        requires { MayStand self.old.standing }
+        ensures found { IfOk result (IsNext self.old.standing case) }
+        ensures same { self.new.standing ≡ self.old.standing }
+    {
+        self.standing.next_event(case)
     }
 
     /// Nothing comes of itself in a case. An `Err` says that no memory was left.
@@ -90,7 +102,7 @@ impl Machine for Work {
     ghost passes = { is_built };
 
     fn step(&mut self, case: u64) -> Result<Option<Event>, AllocError> {
-        let Some(event) = self.next_event(case)? else {
+        let Some(event) = self.next_loose(case)? else {
             return Ok(None);
         };
         self.take(&event)?;

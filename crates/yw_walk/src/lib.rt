@@ -9,5 +9,6 @@ mod next;
 mod places;
 mod tasks;
 
+pub use identity::event_at;
 pub use next::{is_quiet, next_event};
 pub use tasks::entry_of;

@@ -1,4 +1,4 @@
-use Rattle.std.proofs.Common.{None, Option, Some, subst}
+use Rattle.std.proofs.Common.{Option, subst}
 use Rattle.yw_breaks.specs.Tables.{complete_most}
 use Rattle.yw_cases.specs.State.{state_of}
 use Rattle.yw_engine.proofs.Completes.{last_first, most_first, parts_held}

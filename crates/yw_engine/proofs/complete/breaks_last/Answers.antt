@@ -1,4 +1,3 @@
-use Rattle.yw_breaks.specs.Tables.{complete_most}
 use Rattle.yw_cases.specs.State.{state_of}
 use Rattle.yw_engine.proofs.Completes.{asked_last, item_is_here, no_values_last, parts_held, stands_in}
 use Rattle.yw_engine.proofs.complete.breaks_last.Goals as goal

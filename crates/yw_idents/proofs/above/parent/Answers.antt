@@ -1,7 +1,7 @@
 use Rattle.std.proofs.Common.{ap, length, subst, sym, take, true, ◌-◌, ◌∙◌, ◌≡◌}
 use Rattle.std.specs.Prelude.{SomeIff}
 use Rattle.yw_base.specs.Identity.{is_identity}
-use Rattle.yw_cases.proofs.here.parent.Goals as goal
+use Rattle.yw_idents.proofs.above.parent.Goals as goal
 use Rattle.yw_state.specs.Identity.{parent}
 use Rattle.yw_tree.proofs.Parents.{identity_long, parent_is}
 

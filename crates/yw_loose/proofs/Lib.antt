@@ -1,0 +1,5 @@
+pub mod Sets
+pub mod Rested
+pub mod Moving
+pub mod Knowing
+pub mod Looking

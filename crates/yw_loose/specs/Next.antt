@@ -1,0 +1,19 @@
+-- What a look at what is loose finds. Our own.
+use Rattle.std.specs.Prelude.{ℕ, MatchOption, Option}
+use Rattle.yw_library.specs.Holdings.{Holdings}
+use Rattle.yw_loose.specs.Loose.{IsRested}
+use Rattle.yw_loose.specs.declared.loose.Loose.{Loose}
+use Rattle.yw_state.specs.Automatic.{IsQuiet}
+use Rattle.yw_state.specs.State.{State}
+use Rattle.yw_state.specs.declared.event.Event.{Event}
+use Rattle.yw_tree.specs.declared.Forest.{Forest}
+use Rattle.yw_walk.specs.Finds.{ComesPlainly, StandsFor}
+
+-- what was rested in the state for which these stand, is rested
+abbrev pub StaysRested : Holdings → Forest → ℕ → Loose → Loose → Type 0
+StaysRested known f next old new = (s : State) → StandsFor known f next s → IsRested s old → IsRested s new
+
+-- this event comes of itself in case n, or the case is quiet
+abbrev pub FindsLoose : Holdings → Forest → ℕ → ℕ → Loose → Option Event → Type 0
+FindsLoose known f n next old found =
+    (s : State) → StandsFor known f next s → IsRested s old → MatchOption found (IsQuiet s n) (ComesPlainly s n)

@@ -1,0 +1,147 @@
+// What an event may have set moving.
+ghost use Rattle.std.specs.List.{list_any, range_with_len};
+ghost use Rattle.std.specs.Prelude.{◌≡◌, ◌+◌, ◌||◌, IfOk, OnOk, Some, SomeIff, map, option_copied, true};
+ghost use Rattle.yw_base.specs.Identity.{is_identity};
+ghost use Rattle.yw_loose.specs.Loose.{IsRested, Loosens};
+ghost use Rattle.yw_model.specs.Texts.{reader};
+ghost use Rattle.yw_moved.specs.Moved.{done_at, is_moved, made_by};
+ghost use Rattle.yw_plain.specs.Plain.{IsPlain, is_plain_event};
+ghost use Rattle.yw_state.specs.Events.{Leads};
+ghost use Rattle.yw_state.specs.Identity.{Ident, child, parent, same};
+ghost use Rattle.yw_state.specs.State.{State};
+ghost use Rattle.yw_state.specs.Well.{IsWell};
+
+use crate::Loose;
+use std::alloc::{AllocError, Global};
+use yw_base::Ident;
+use yw_idents::{case_number, parent};
+use yw_state::Event;
+
+/// The net or the item at which an event is done; `None` for one of a whole case, or of none.
+fn done_at(event: &Event) -> Option<&Ident>
+    ensures { option_copied result ≡ done_at event.now }
+{
+    match event {
+        Event::Enter { net, .. } | Event::Exit { net, .. } | Event::Add { net, .. } => Some(net),
+        Event::Start { item, .. }
+        | Event::Complete { item, .. }
+        | Event::StartSub { item }
+        | Event::CompleteSub { item }
+        | Event::CompleteEmpty { item } => Some(item),
+        _ => None,
+    }
+}
+
+/// The identity of an item of a net, by its number; `None` where that is no number, or the net's identity is too long.
+fn child(alloc: Global, net: &Ident, number: u64) -> Result<Option<Ident>, AllocError>
+    ensures { IfOk result (λ found. SomeIff found (is_identity (child net.now number) ≡ true) (child net.now number)) }
+{
+    let numbers = net.numbers();
+    let mut copy = Vec::with_capacity(alloc, numbers.len() + 1)?;
+    copy.extend_from_slice(numbers)?;
+    copy.push(number)?;
+    Ok(Ident::from_numbers(copy))
+}
+
+impl Loose {
+    /// Something may come of itself at this identity, where it is one.
+    fn add_found(&mut self, found: Option<Ident>) -> Result<(), AllocError>
+        ensures { OnOk result ((id : Ident) → SomeIff found (is_identity id ≡ true) id → Loosens self.old self.new (λ j. same j id)) }
+    {
+        match found {
+            Some(id) => self.add(id),
+            None => Ok(()),
+        }
+    }
+
+    /// Something may come of itself at this identity, and at that of the net above.
+    fn add_around(&mut self, alloc: Global, at: &Ident) -> Result<(), AllocError>
+        ensures { OnOk result (Loosens self.old self.new (λ j. same j at.now || same j (parent at.now))) }
+    {
+        self.add(at.copy(alloc)?)?;
+        self.add_found(parent(alloc, at)?)
+    }
+
+    /// Something may come of itself at one item of a net, whose number is so many after the first.
+    fn add_item(&mut self, alloc: Global, net: &Ident, first: u64, k: u32) -> Result<(), AllocError>
+        ensures { OnOk result (Loosens self.old self.new (λ j. same j (child net.now (first + k)))) }
+    {
+        match first.checked_add(u64::from(k)) {
+            Some(number) => self.add_found(child(alloc, net, number)?),
+            None => Ok(()),
+        }
+    }
+
+    /// And at so many items, numbered from the first on.
+    fn add_items(
+        &mut self,
+        alloc: Global,
+        net: &Ident,
+        first: u64,
+        count: u32,
+    ) -> Result<(), AllocError>
+        ensures { OnOk result (Loosens self.old self.new (λ j. list_any (same j) (map (child net.now) (range_with_len first count)))) }
+    {
+        for k in 0..count {
+            self.add_item(alloc, net, first, k)?;
+        }
+        Ok(())
+    }
+
+    /// And at what the event makes. Of a case that begins or is over nothing is known.
+    fn add_made(&mut self, alloc: Global, event: &Event) -> Result<(), AllocError>
+        ensures { OnOk result (Loosens self.old self.new (λ j. list_any (same j) (made_by event.now))) }
+    {
+        match event {
+            Event::Enter {
+                net,
+                first,
+                count,
+                ..
+            } => self.add_items(alloc, net, *first, *count),
+            Event::Add { net, number, .. } => self.add_items(alloc, net, *number, 1),
+            Event::Launch { case, .. } | Event::Finish { case } | Event::Cancel { case } => {
+                self.forget_case(*case);
+                Ok(())
+            }
+            _ => Ok(()),
+        }
+    }
+
+    /// Something may come of itself at all that an event may have set moving, which is done at an identity. Where nothing is known of its case,
+    /// nothing is put in.
+    fn add_at(&mut self, alloc: Global, at: &Ident, event: &Event) -> Result<(), AllocError>
+        requires { done_at event.now ≡ Some at.now }
+        ensures { OnOk result (Loosens self.old self.new (is_moved event.now)) }
+    {
+        // No work is done here: it says that it is an identity.
+        let _ = at.numbers();
+        if !self.known.contains(&case_number(at)) {
+            return Ok(());
+        }
+        self.add_around(alloc, at)?;
+        self.add_made(alloc, event)
+    }
+
+    /// The same of any event.
+    fn add_moved(&mut self, alloc: Global, event: &Event) -> Result<(), AllocError>
+        ensures { OnOk result (Loosens self.old self.new (is_moved event.now)) }
+    {
+        match done_at(event) {
+            Some(at) => self.add_at(alloc, at, event),
+            None => self.add_made(alloc, event),
+        }
+    }
+
+    /// An event of neither a rule tree nor an exlet is done: what it may have set moving is loose now, if its case is known. Where no memory is left,
+    /// nothing is known of any case any more.
+    pub fn after(&mut self, alloc: Global, event: &Event)
+        ensures { (s t : State) → IsWell reader s → IsWell reader t → IsPlain s → is_plain_event event.now ≡ true → Leads reader s event.now t
+            → IsRested s self.old → IsRested t self.new }
+    {
+        match self.add_moved(alloc, event) {
+            Ok(()) => (),
+            Err(AllocError) => self.forget(),
+        }
+    }
+}

@@ -1,0 +1,62 @@
+// The next event that comes of itself in a case, by what is loose.
+ghost use Rattle.std.specs.Prelude.{◌≡◌, IfOk, true};
+ghost use Rattle.yw_loose.specs.Loose.{is_known};
+ghost use Rattle.yw_loose.specs.Next.{FindsLoose, StaysRested};
+
+use crate::Loose;
+use std::alloc::{AllocError, Global};
+use yw_idents::case_number;
+use yw_known::Known;
+use yw_state::Event;
+use yw_tree::Forest;
+use yw_walk::event_at;
+
+impl Loose {
+    /// What comes of itself at the first identity that is loose and at which something does. Those before it are loose no longer; of their cases,
+    /// where they are others, nothing is known any more.
+    fn first_event(
+        &mut self,
+        alloc: Global,
+        known: &Known,
+        forest: &Forest,
+        n: u64,
+        next: u64,
+    ) -> Result<Option<Event>, AllocError>
+        requires { is_known self.old n ≡ true }
+        ensures found { IfOk result (FindsLoose known.now forest.now n next self.old) }
+        ensures rested { StaysRested known.now forest.now next self.old self.new }
+    {
+        'idents: while let Some(id) = self.idents.first() {
+            let case = case_number(id);
+            if case != n {
+                self.forget_case(case);
+                self.idents.pop_first();
+                continue;
+            }
+            if let Some(event) = event_at(alloc, known, forest, id, next)? {
+                return Ok(Some(event));
+            }
+            self.idents.pop_first();
+        }
+        Ok(None)
+    }
+
+    /// The next event that comes of itself in a case, in a state without rules and exlets: `None` exactly where the case is quiet, as it is
+    /// where no case has this number. `next` is the number that is drawn next. An `Err` says that no memory was left.
+    ///
+    /// Only what is loose is looked at, in order of identities, each before those below it. A case of which nothing is known is looked at whole.
+    pub fn next_event(
+        &mut self,
+        alloc: Global,
+        known: &Known,
+        forest: &Forest,
+        n: u64,
+        next: u64,
+    ) -> Result<Option<Event>, AllocError>
+        ensures found { IfOk result (FindsLoose known.now forest.now n next self.old) }
+        ensures rested { StaysRested known.now forest.now next self.old self.new }
+    {
+        self.know(alloc, forest, n)?;
+        self.first_event(alloc, known, forest, n, next)
+    }
+}
