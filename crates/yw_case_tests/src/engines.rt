@@ -63,11 +63,13 @@ fn both_do(
     }
 }
 
-/// The engine ends so, with a specification and somebody.
+/// The engine ends so, with a specification and somebody, and nothing is still to come.
 fn ends(engine: &Engine, end: End) -> bool {
     let library = engine.library();
     engine.next() == end.0
+        && engine.ended(1) == end.1
         && engine.forest().case(1).is_some() == end.1.is_none()
+        && matches!(engine.next_auto(1), Ok(None))
         && !library.persons().is_empty()
         && library.specs().len() == 1
 }

@@ -1,9 +1,16 @@
 -- What is said of the parts that are read of what is held is so of it.
 use Rattle.std.proofs.Common.{◌≡◌, subst, sym, ℕ}
+use Rattle.std.specs.Prelude.{Err, IfOk, MatchOption, None, Ok, Option, Result, Some}
+use Rattle.yw_cases.specs.Ended.{ended_of}
 use Rattle.yw_cases.specs.State.{MayStand, state_of}
 use Rattle.yw_cases.specs.declared.standing.Standing.{Standing}
+use Rattle.yw_engine.specs.Decides.{IsNext}
 use Rattle.yw_known.specs.Held.{IsHeld}
 use Rattle.yw_library.specs.Holdings.{Holdings, with_library}
+use Rattle.yw_state.specs.Automatic.{Comes, IsQuiet}
+use Rattle.yw_state.specs.Map.{get}
+use Rattle.yw_state.specs.declared.event.Event.{Event}
+use Rattle.yw_state.specs.declared.part.Way.{Way}
 use Rattle.yw_tree.specs.declared.Forest.{Forest}
 
 pub next_of : (h : Standing) (next : ℕ) → next ≡ h.next → (state_of h).next ≡ next
@@ -14,3 +21,14 @@ pub held_by : (h : Standing) (known : Holdings) (f : Forest) → known ≡ h.kno
 held_by h known f same same_forest may =
     subst (λ (k : Holdings). IsHeld k f (state_of h)) (sym same)
     (subst (λ (g : Forest). IsHeld h.known g (state_of h)) (sym same_forest) may.held)
+
+pub ended_by : (h : Standing) (n : ℕ) (way : Option Way) → way ≡ get (ended_of h.ended) n → way ≡ get (state_of h).ended n
+unfolding with_library
+ended_by h n way is = is
+
+-- what is found, whatever is built
+pub found_by : {E : Type 0} (h : Standing) (n : ℕ) (result : Result (Option Event) E) → IfOk result (IsNext h n)
+    → IfOk result (λ found. MatchOption found (IsQuiet (state_of h) n) (Comes (state_of h) n))
+found_by h n (Ok None) quiet = quiet
+found_by h n (Ok (Some e)) next = next.0
+found_by h n (Err fault) next = tt

@@ -1,14 +1,16 @@
 // The engine: what it holds, and what it can be asked.
-ghost use Rattle.std.specs.Prelude.{◌≡◌, true, false, IfOk, OnOk, Some};
+ghost use Rattle.std.specs.Prelude.{◌≡◌, true, false, IfOk, MatchOption, OnOk, Some};
 ghost use Rattle.std.specs.List.{list_all};
 ghost use Rattle.yw_engine.specs.Answers.{IfRefused, TellsSpent};
 ghost use Rattle.yw_engine.specs.Held.{state_of};
 ghost use Rattle.yw_model.specs.Run.{CanBeAsked};
 ghost use Rattle.yw_model.specs.Texts.{reader};
+ghost use Rattle.yw_state.specs.Automatic.{Comes, IsQuiet};
 ghost use Rattle.yw_state.specs.Broken.{Breaks, placeless};
 ghost use Rattle.yw_built.specs.Built.{is_built};
 ghost use Rattle.yw_state.specs.Events.{Leads};
 ghost use Rattle.yw_state.specs.Legal.{IsLegal};
+ghost use Rattle.yw_state.specs.Map.{get};
 ghost use Rattle.yw_state.specs.State.{State, opening};
 ghost use Rattle.yw_state.specs.Well.{IsWell};
 ghost use Rattle.yw_state.specs.declared.rule.Rule.TheVariants.{NotEnabled};
@@ -21,7 +23,7 @@ use std::alloc::{AllocError, Global};
 use std::marker::Model;
 use yw_cases::Cases;
 use yw_library::Library;
-use yw_state::{Command, Event, Rule};
+use yw_state::{Command, Event, Rule, Way};
 use yw_tree::Forest;
 
 /// What the server holds of persons, specifications and cases. It decides on commands and does events. A contract sees these, how cases
@@ -136,6 +138,24 @@ impl Engine {
         ensures { result.now ≡ self.now.standing.forest }
     {
         self.work.standing.forest()
+    }
+
+    /// The next event that comes of itself in a case, or `None` exactly where the case is quiet, as it is where no case has the number. An `Err`
+    /// says that no memory was left, now or once before. Nothing is done.
+    pub fn next_auto(&self, case: u64) -> Result<Option<Event>, AllocError>
+        ensures { IfOk result (λ found. MatchOption found (IsQuiet (state_of self.now) case) (Comes (state_of self.now) case)) }
+    {
+        if self.spent {
+            return Err(AllocError);
+        }
+        self.work.next_event(case)
+    }
+
+    /// How the case of a number ended, or `None` where none of that number is over. It takes no memory.
+    pub fn ended(&self, n: u64) -> Option<Way>
+        ensures { result ≡ get (state_of self.now).ended n }
+    {
+        self.work.standing.ended(n)
     }
 
     /// The number that is drawn next: of a case, an item or a run. It is 1 to 2^48, unless the engine is spent.
