@@ -3,7 +3,7 @@
 use std::alloc::{AllocError, Global};
 use std::process::Abort;
 use yw_outside::{Desk, Fill, Image, MemDesk, MemSource, NeverDesk, NeverSource, Source};
-use yw_serve::{Status, serve};
+use yw_serve::{Server, Status, serve};
 
 /// A run of `run`: file A at its start, how many persons that holds, the lines, their replies, how many calls the opening makes of the
 /// desk, and how many the whole run.
@@ -89,6 +89,8 @@ fn whole_case() -> Case {
 
 /// A line that comes behind them, and its entry.
 const NEW_LINE: &[u8] = br#"{"cmd":"person","name":"new","roles":["clerk"]}"#;
+
+const FED_REPLY: &[u8] = b"{\"n\":7,\"ok\":true,\"quiet\":true,\"steps\":[\"person new\"]}\n";
 
 const NEW_ENTRY: &[u8] = b"\x01\0\0\0\x0e\0\x01\x01\x03new\x01\x05clerk\0";
 
@@ -344,6 +346,24 @@ fn an_untold_damage_is_a_failed_say(rt: HostRuntime) -> Result<(), AllocError> {
     );
     let image = left_by(&rt, (&[], five_persons()), 6, &mut source, Status::Write)?;
     assert_eq!(rt; image.said.as_slice(), [].as_slice());
+    Ok(())
+}
+
+/// A server is started on a desk, and answers a line that is fed to it, by the number that it is given.
+fn feeds(alloc: Global, desk: &mut MemDesk) -> bool {
+    let mut piece = [0; 64];
+    match Server::start(alloc, 1 << 20, &mut piece, desk) {
+        Ok(mut server) => server.line(desk, 7, NEW_LINE).is_ok(),
+        Err(_) => false,
+    }
+}
+
+#[test]
+fn answers_a_line_that_is_fed(rt: HostRuntime) -> Result<(), AllocError> {
+    let mut desk = desk_over(rt.alloc(), &[], &[], 0)?;
+    assert!(rt; feeds(rt.alloc(), &mut desk));
+    let image = desk.image(desk.calls(), Fill::New)?;
+    assert_eq!(rt; image.said.as_slice(), FED_REPLY);
     Ok(())
 }
 
