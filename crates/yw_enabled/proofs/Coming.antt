@@ -1,9 +1,9 @@
 -- A task that may be entered by a choice of its join, or left, gives the event that comes of itself.
-use Rattle.std.proofs.Common.{Bool, List, None, Option, Some, [], ap, false, length, refl, subst, sym, true, ℕ, ◌+◌, ◌∙◌, ◌∷◌, ◌≡◌}
+use Rattle.std.proofs.Common.{Bool, List, Some, [], ap, false, length, refl, subst, sym, true, ℕ, ◌+◌, ◌∙◌, ◌∷◌, ◌≡◌}
 use Rattle.std.proofs.lemmas.Bool.{and_from, and_parts, eq-eqb}
 use Rattle.std.specs.Cmp.Lexicographic.{pointwise}
 use Rattle.std.specs.List.{list_all}
-use Rattle.std.specs.Prelude.{filter, nat_eq, nat_le, nat_lt, not, slice_get, unwrap_or, ◌==◌, ◌&&◌}
+use Rattle.std.specs.Prelude.{filter, nat_eq, nat_le, nat_lt, not, unwrap_or, ◌==◌, ◌&&◌}
 use Rattle.yw_base.specs.Identity.{number_end}
 use Rattle.yw_base.specs.declared.gate.Gate.{Gate}
 use Rattle.yw_base.specs.declared.gate.Gate.TheVariants.{And, Or, Xor}
@@ -13,23 +13,21 @@ use Rattle.yw_enabled.specs.Entered.{EntersFrom}
 use Rattle.yw_enabled.specs.Steps.{EnterComes, ExitComes, MayCome}
 use Rattle.yw_mark.specs.Taking.{taken_places}
 use Rattle.yw_mark.specs.declared.join.Taken.{Taken}
-use Rattle.yw_spec.specs.declared.spec.Place.{Place}
 use Rattle.yw_state.proofs.Tests.{never, some_same, there_and}
 use Rattle.yw_state.specs.Allowed.{Allowed, allows, exit_values, may_leave, place_numbers}
-use Rattle.yw_state.specs.Automatic.{Comes}
 use Rattle.yw_state.specs.Identity.{Ident, case_number}
 use Rattle.yw_state.specs.Joins.{NoWait, has_tokens, joins, marked}
 use Rattle.yw_state.specs.Judged.{is_manual}
 use Rattle.yw_state.specs.Nets.{is_among}
 use Rattle.yw_state.specs.Options.{is_some_and}
 use Rattle.yw_state.specs.Passing.{entry_values, split_places, within_bounds}
-use Rattle.yw_state.specs.State.{State, TaskAt, task_at}
+use Rattle.yw_state.specs.State.{State, TaskAt}
 use Rattle.yw_state.specs.Texts.{nothing}
 use Rattle.yw_state.specs.Values.{Row}
 use Rattle.yw_state.specs.Words.{active, clear}
 use Rattle.yw_state.specs.declared.event.Event.TheVariants as events
 use Rattle.yw_still.proofs.Numbers.{alike, all_filtered, one_of_all, same_numbers}
-use Rattle.yw_still.specs.Still.{can_be_entered, has_room_on, is_leaving, may_be_made, task_numbered}
+use Rattle.yw_still.specs.Still.{has_room_on, is_leaving, may_be_made, task_numbered}
 use Rattle.yw_task.specs.Giving.{entry_rows}
 use Rattle.yw_within.proofs.Finding.{net_within, numbered_of, places_are_named, task_found}
 use Rattle.yw_within.specs.Within.{HoldsWithin, has_number}

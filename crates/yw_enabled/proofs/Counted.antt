@@ -1,9 +1,10 @@
 -- How many of a list pass a test, asked of what each stands for.
-use Rattle.std.proofs.Common.{Bool, List, [], ap, arith, cond, false, length, map, refl, suc, sym, true, ℕ, ◌∙◌, ◌∷◌, ◌≡◌, ◌≤◌}
-use Rattle.std.proofs.lemmas.Bool.{eq-eqb, eqb-true, false_from_ne_true}
+use Rattle.std.proofs.Common.{Bool, List, [], ap, arith, cond, drop, false, get_or, length, map, refl, suc, sym, take, true, ℕ, ◌∙◌, ◌∷◌, ◌≡◌, ◌≤◌, ◌<◌, ◌+◌, ◌-◌}
+use Rattle.std.proofs.lemmas.Bool.{eq-eqb, eqb-true, false_from_ne_true, lt-leb}
+use Rattle.std.proofs.lemmas.List.{length-take-le}
 use Rattle.std.specs.List.{list_all}
-use Rattle.std.proofs.lemmas.List.Sums.{length-filter}
-use Rattle.std.specs.Prelude.{count_by, filter, ◌==◌, ◌&&◌}
+use Rattle.std.proofs.lemmas.List.Sums.{count_by-le-length, length-filter, sum_by-drop_more, sum_by-take-drop}
+use Rattle.std.specs.Prelude.{count_by, filter, nat_le, ◌==◌, ◌&&◌}
 use Rattle.yw_sites.specs.Idents.{Each}
 use Rattle.yw_state.proofs.Tests.{by_test, never}
 
@@ -58,3 +59,23 @@ module _ {A B : Type 0} (p : B → Bool) (q : A → Bool) (f : A → B) where
 
   pub count_same : (xs : List A) → Each (λ x. p (f x) ≡ q x) xs → length (filter p (map f xs)) ≡ count_by q xs
   count_same xs h = kept_same xs h ∙ length-filter q xs
+
+-- ---- asked from the last on
+
+module _ {A : Type 0} (p : A → Bool) (xs : List A) where
+  -- Behind the first i no more are left out than may be, and of the first i the last is left out too, so fewer pass than are wanted.
+  pub too_few_pass : (i spare wanted : ℕ) (x : A) → 0 < i → i ≤ length xs → x ≡ get_or xs (i - 1) x → p x ≡ false
+      → spare ≡ 0 → spare + wanted ≡ i + count_by p (drop i xs) → nat_le wanted (count_by p xs) ≡ false
+  too_few_pass i spare wanted x some within at fails none as_many =
+      let one : Bool → ℕ = λ b. cond b 1 0 in
+      let f : A → ℕ = λ y. one (p y) in
+      let k : ℕ = i - 1 in
+      let next : k + 1 ≡ i = omega (arith, some) in
+      let last : f (get_or xs k x) ≡ 0 = ap f (sym at) ∙ ap one fails in
+      let most : count_by p (take k xs) ≤ length (take k xs) = count_by-le-length p (take k xs) in
+      let long : length (take k xs) ≡ k = length-take-le k xs (omega (arith, next, within)) in
+      let behind : count_by p (drop k xs) ≡ f (get_or xs k x) + count_by p (drop (k + 1) xs) =
+      sum_by-drop_more f xs k x (omega (arith, next, within)) in
+      let all : count_by p (take k xs) + count_by p (drop k xs) ≡ count_by p xs = sum_by-take-drop f xs k in
+      let wants : spare + wanted ≡ i + count_by p (drop (k + 1) xs) = as_many ∙ ap (λ n. i + count_by p (drop n xs)) (sym next) in
+      lt-leb wanted (count_by p xs) (omega (arith, next, last, most, long, behind, all, none, wants))

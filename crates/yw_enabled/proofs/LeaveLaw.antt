@@ -1,17 +1,19 @@
 -- A task may be left exactly where its list of items and the tokens of its net say so.
-use Rattle.std.proofs.Common.{Bool, List, Some, ap, false, length, subst, sym, true, ℕ, ◌∙◌, ◌≡◌}
+use Rattle.std.proofs.Common.{Bool, List, None, Option, Some, ap, arith, false, length, min, refl, subst, sym, true, ℕ, ◌∙◌, ◌<◌, ◌≡◌, ◌≤◌}
+use Rattle.std.proofs.lemmas.Bool.{eq-eqb, leb-false, leb-true, lt-leb, ne_eqb, or_from, or_left, or_right}
+use Rattle.std.proofs.lemmas.List.Sums.{count_by-le-length}
 use Rattle.std.specs.List.{list_all}
-use Rattle.std.specs.Prelude.{filter, nat_le, nat_lt, slice_get, ◌==◌, ◌&&◌, ◌||◌}
+use Rattle.std.specs.Prelude.{filter, nat_le, nat_lt, option_map, slice_get, unwrap_or, ◌==◌, ◌&&◌, ◌||◌}
 use Rattle.yw_base.specs.declared.gate.Gate.{Gate}
 use Rattle.yw_base.specs.declared.gate.Gate.TheVariants.{And, Or, Xor}
 use Rattle.yw_enabled.proofs.Counted.{all_counted, all_same, count_same}
 use Rattle.yw_enabled.proofs.FreeItems.{all_done_there, task_is}
 use Rattle.yw_enabled.specs.Free.{StandsFree}
-use Rattle.yw_enabled.specs.Left.{IsLeavingAs, are_enough, done_count, has_room, is_done, leaves_by, reaches, split_has_room}
+use Rattle.yw_enabled.specs.Left.{IsLeavingAs, are_enough, done_count, has_room, is_done, leaves_by, needed, split_has_room}
 use Rattle.yw_spec.specs.declared.spec.Net.{Net}
 use Rattle.yw_spec.specs.declared.task.Many.{Many}
 use Rattle.yw_spec.specs.declared.task.Task.{Task}
-use Rattle.yw_state.proofs.Tests.{some_same}
+use Rattle.yw_state.proofs.Tests.{by_test, some_same}
 use Rattle.yw_state.specs.Allowed.{exit_values, may_leave, most_tokens}
 use Rattle.yw_state.specs.Identity.{Ident}
 use Rattle.yw_state.specs.Nets.{is_among}
@@ -31,6 +33,27 @@ use Rattle.yw_tree.specs.declared.Forest.{Forest}
 use Rattle.yw_tree.specs.declared.NetState.{NetState, out-NetState}
 use Rattle.yw_tree.specs.declared.Node.{Node, out-Node}
 
+-- all of them are done, or as many as the threshold, exactly where as many are as have to be
+by_needed : (o : Option Many) (n done : ℕ) → done ≤ n
+    → (done == n || is_some_and o (λ m. nat_le m.threshold done)) ≡ nat_le (unwrap_or (option_map (λ (m : Many). min n m.threshold) o) n) done
+by_needed None n done most =
+    by_test (nat_le n done)
+    (λ enough. let least : n ≤ done = leb-true n done enough in or_left (done == n) false (eq-eqb done n (omega arith)) ∙ sym enough)
+    (λ few. let less : done < n = leb-false n done few in or_from (done == n) false (ne_eqb done n (λ all. omega arith)) refl ∙ sym few)
+by_needed (Some m) n done most =
+    by_test (nat_le (min n m.threshold) done)
+    (λ enough.
+    let least : min n m.threshold ≤ done = leb-true (min n m.threshold) done enough in
+    by_test (nat_le m.threshold done)
+    (λ reached. or_right (done == n) _ reached)
+    (λ short.
+    let far : done < m.threshold = leb-false m.threshold done short in
+    or_left (done == n) _ (eq-eqb done n (omega arith)))
+    ∙ sym enough)
+    (λ few.
+    let less : done < min n m.threshold = leb-false (min n m.threshold) done few in
+    or_from (done == n) (nat_le m.threshold done) (ne_eqb done n (λ all. omega arith)) (lt-leb m.threshold done (omega arith)) ∙ sym few)
+
 -- a split chooses among the places behind the task
 pub among_after : (t : Task) (row : Row) (p : ℕ → Bool) → list_all p t.after ≡ true → list_all p (split_places t row) ≡ true
 among_after t row p all = by_gate t.split
@@ -47,11 +70,12 @@ module _ (names : ℕ → List ℕ) (f : Forest) (s : State) (i : Ident) (net : 
   abbrev with_id : Node → Ident × ItemPart
   with_id n = ((out-Node n).id, item_part_of n)
 
-  enough_there : may_leave s i (record { number = t; task = task; within = net_with names net state }) ≡ (done_count (items_in state t) == length (items_in state t) || reaches task (done_count (items_in state t)))
+  enough_there : may_leave s i (record { number = t; task = task; within = net_with names net state }) ≡ nat_le (needed task (length (items_in state t))) (done_count (items_in state t))
   enough_there =
       let each = all_done_there names f s i net state h t in
       ap (λ es. list_all (λ (e : Ident × ItemPart). done s e.0 e.1) es || is_some_and task.many (λ (m : Many). nat_le m.threshold (length (filter (λ (e : Ident × ItemPart). done s e.0 e.1) es)))) (its_items names f s i net state h.stands t)
       ∙ (λ j. (all_same counts is_done with_id (items_in state t) each ∙ all_counted is_done (items_in state t)) j || is_some_and task.many (λ (m : Many). nat_le m.threshold (count_same counts is_done with_id (items_in state t) each j)))
+      ∙ by_needed task.many (length (items_in state t)) (done_count (items_in state t)) (count_by-le-length is_done (items_in state t))
 
   values_are : exit_values s i (record { number = t; task = task; within = net_with names net state }) ≡ kept_values task (rows_made (items_in state t)) (out-NetState state).vals
   values_are =

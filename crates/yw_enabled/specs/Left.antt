@@ -1,5 +1,5 @@
 -- When a task may be left, read off its list of items and the tokens of its net.
-use Rattle.std.specs.Prelude.{◌≡◌, ◌<◌, ℕ, ◌==◌, ◌&&◌, ◌||◌, Bool, true, false, not, List, Option, Some, None, count_by, is_some, length, nat_le, nat_lt}
+use Rattle.std.specs.Prelude.{◌≡◌, ◌<◌, ℕ, ◌&&◌, ◌||◌, Bool, true, false, not, List, Option, Some, None, count_by, is_some, length, min, nat_le, nat_lt, option_map, unwrap_or}
 use Rattle.std.specs.List.{list_all}
 use Rattle.yw_spec.specs.declared.spec.Net.{Net}
 use Rattle.yw_spec.specs.declared.task.Many.{Many}
@@ -8,7 +8,6 @@ use Rattle.yw_state.specs.After.{count_on}
 use Rattle.yw_state.specs.Allowed.{most_tokens}
 use Rattle.yw_state.specs.Identity.{Ident}
 use Rattle.yw_state.specs.Nets.{is_among}
-use Rattle.yw_state.specs.Options.{is_some_and}
 use Rattle.yw_state.specs.Passing.{kept_values, split_places}
 use Rattle.yw_state.specs.State.{State, TaskAt}
 use Rattle.yw_state.specs.Words.{is_completed}
@@ -29,13 +28,13 @@ is_done n = is_completed (out-Node n).stage && not (is_some (out-Node n).run) &&
 abbrev pub done_count : List Node → ℕ
 done_count ns = count_by is_done ns
 
--- so many are as many as the threshold, where there is one
-abbrev pub reaches : Task → ℕ → Bool
-reaches task count = is_some_and task.many (λ (m : Many). nat_le m.threshold count)
+-- how many of n items have to count: all of them, or as many as the threshold, where that is less
+abbrev pub needed : Task → ℕ → ℕ
+needed task n = unwrap_or (option_map (λ (m : Many). min n m.threshold) task.many) n
 
--- there are items, and all are done, or as many as the threshold
+-- there are items, and as many are done as have to be
 abbrev pub are_enough : Task → List Node → Bool
-are_enough task ns = nat_lt 0 (length ns) && (done_count ns == length ns || reaches task (done_count ns))
+are_enough task ns = nat_lt 0 (length ns) && nat_le (needed task (length ns)) (done_count ns)
 
 -- one token more is not too many, once the removal set is emptied
 abbrev pub has_room : List ℕ → Task → ℕ → Bool

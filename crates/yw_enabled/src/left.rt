@@ -1,7 +1,7 @@
 // Whether a task may be left.
-ghost use Rattle.std.specs.Prelude.{◌≡◌, ◌<◌, IfOk, count_by, length};
+ghost use Rattle.std.specs.Prelude.{◌≡◌, ◌<◌, ◌≤◌, IfOk, length, nat_le};
 ghost use Rattle.std.specs.List.{list_all};
-ghost use Rattle.yw_enabled.specs.Left.{IsLeavingAs, are_enough, has_room, is_done, reaches, split_has_room};
+ghost use Rattle.yw_enabled.specs.Left.{IsLeavingAs, are_enough, done_count, has_room, is_done, needed, split_has_room};
 ghost use Rattle.yw_state.specs.Words.{is_completed};
 ghost use Rattle.yw_tree.specs.declared.NetState.{out-NetState};
 
@@ -30,35 +30,41 @@ fn is_done(node: &Node) -> bool
     is_completed(node.stage) && !node.run.is_some() && !node.suspended
 }
 
-/// How many of these items count.
-fn done_count(nodes: &[Node]) -> usize
-    ensures { result ≡ count_by is_done nodes.now }
-{
-    let mut count = 0;
-    for node in nodes {
-        if is_done(node) {
-            count += 1;
-        }
-    }
-    count
-}
-
-/// The task has a threshold, and so many are as many.
-fn reaches(task: &Task, count: usize) -> bool
-    ensures { result ≡ reaches task.now count }
+/// How many of so many items have to count: all of them, or as many as the threshold, where that is less.
+fn needed(task: &Task, items: usize) -> usize
+    ensures value { result ≡ needed task.now items }
+    ensures at_most { result ≤ items }
 {
     match &task.many {
-        Some(many) => many.threshold as usize <= count,
-        None => false,
+        Some(many) => items.min(many.threshold as usize),
+        None => items,
     }
 }
 
-/// There are items, and all of them count, or as many as the threshold.
+/// So many of these items count. They are asked from the last on, since most are done in their order, and only until more don't count than
+/// may be left out.
+fn so_many_count(nodes: &[Node], wanted: usize) -> bool
+    requires { wanted ≤ length nodes.now }
+    ensures { result ≡ nat_le wanted (done_count nodes.now) }
+{
+    let mut spare = nodes.len() - wanted;
+    for i in (0..nodes.len()).rev() {
+        if is_done(&nodes[i]) {
+            continue;
+        }
+        if spare == 0 {
+            return false;
+        }
+        spare -= 1;
+    }
+    true
+}
+
+/// There are items, and as many of them count as have to.
 fn are_enough(task: &Task, nodes: &[Node]) -> bool
     ensures { result ≡ are_enough task.now nodes.now }
 {
-    let done = done_count(nodes);
-    0 < nodes.len() && (done == nodes.len() || reaches(task, done))
+    0 < nodes.len() && so_many_count(nodes, needed(task, nodes.len()))
 }
 
 /// One token more on the place is not too many, once the removal set is emptied.
