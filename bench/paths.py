@@ -3,7 +3,7 @@
 
     python3 bench/paths.py [PROGRAM]
 
-No command uses paths yet. So this script builds a program of its own: in a temporary folder, from bench/paths/main.rt.txt and copies of the
+Paths are measured alone, below any command. So this script builds a program of its own: in a temporary folder, from bench/paths/main.rt.txt and copies of the
 crates that it stands on, by `rt run`, which proves it first. With nothing kept of an earlier check that takes minutes. PROGRAM is one
 that was built so before; without it, the built program is left in the folder out/ beside this script's own folder paths/.
 
