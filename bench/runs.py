@@ -3,10 +3,11 @@
 
     python3 bench/runs.py [PROGRAM]
 
-First come many cases of examples/order.toml, each a line further than before; then a chain of tasks that nobody does; then shapes of cases at their
-limits: nets within nets, many items of one task, an OR-join of many branches. Of a shape so many cases are open, and lines are said to the last of them;
-the opening is taken off, and the least of several runs is shown, as other work on the machine only adds. The memory of a case is the most that an
-opening held, beyond that of one case.
+First come many cases of examples/order.toml, each a line further than before; then a chain of tasks that nobody does; then loans of examples/loan.toml,
+one after another from its launch to its end; then shapes of cases at their limits: nets within nets, many items of one task, an OR-join of many
+branches. Of a shape so many cases are open, and lines are said to the last of them; the opening is taken off, and the least of several runs is
+shown, as other work on the machine only adds. The memory of a case is the most that an opening held, beyond that of one case, or of an
+order beyond that of none.
 """
 
 import json
@@ -63,6 +64,9 @@ def orders(folder, count):
     yield "start", run(folder, [line(cmd="start", who="ann", item=it) for it in items])
     yield "complete, and 7 steps behind it", run(folder, [line(cmd="complete", who="ann", item=it, out={}) for it in items])
     yield "opening, a line of the files", tuple(it / (4 * count) for it in run(folder, []))
+    with tempfile.TemporaryDirectory(dir="/dev/shm") as empty:
+        held = opened(folder, empty + "/said") - opened(empty, empty + "/said")
+    print(f"  a case that is open takes {held / count:.2f} KiB")
 
 
 def chain(count):
@@ -76,6 +80,22 @@ def chains(folder, count):
     run(folder, people() + [line(cmd="load", toml=chain(count))])
     own, system = run(folder, [line(cmd="launch", spec="chain", data={})] * 200)
     yield f"a step of a chain of {count}", (own / (3 * count + 2), system / (3 * count + 2))
+
+
+def loans(folder, count):
+    """So many loans, one after another: each is launched, voted on, paid and finished. A loan draws eight numbers."""
+    lines = (TOP / "examples/loan.jsonl").read_text().splitlines()
+    replies = (TOP / "examples/loan.replies").read_text().splitlines()
+    run(folder, lines[:4])
+    taken = [text for text, reply in zip(lines[4:21], replies[4:21]) if '"ok":true' in reply]
+
+    def of_case(text, before):
+        fields = json.loads(text)
+        for key in {"case", "item"} & set(fields):
+            fields[key] = ".".join(str(int(n) + before) for n in fields[key].split("."))
+        return line(**fields)
+
+    yield "a line of a loan", run(folder, [of_case(text, 8 * k) for k in range(count) for text in taken])
 
 
 def net(name, flows, tasks, more=""):
@@ -209,7 +229,7 @@ def shapes(of, sizes, counts):
 
 
 def main():
-    for title, of, sizes in [("orders", orders, (1000, 10000, 100000)), ("chains", chains, (10, 50, 100))]:
+    for title, of, sizes in [("orders", orders, (1000, 10000, 100000)), ("chains", chains, (10, 50, 100)), ("loans", loans, (100, 1000, 10000))]:
         for size in sizes:
             folder = tempfile.mkdtemp(dir="/dev/shm")
             try:
