@@ -1,5 +1,5 @@
 //! What each specification has in which the twelve checks find nothing: it is sound (`IsSound` of `yw_sound`) and within (`IsWithin` of
-//! `yw_within`), whatever of it is built. So is each that can be loaded. Each law is the contract of a function that does nothing.
+//! `yw_within`). So is each that is accepted. Each law is the contract of a function that does nothing.
 #![tactic(auto)]
 
 ghost use Rattle.std.specs.Prelude.{◌≡◌, ℕ, List, None, Ok};
@@ -28,7 +28,7 @@ pub fn checked_is_within()
     ensures { (raw : RawSpec) (spec : Spec) → HasInits raw → IsVerdict raw None → IsSpec raw spec → IsWithin spec }
 {}
 
-/// Each specification that can be loaded, which is accepted and uses what is built alone, is sound.
+/// Each specification that can be loaded, which is each that is accepted, is sound.
 pub fn accepted_are_sound()
     ensures { ReadsSound reader }
 {}

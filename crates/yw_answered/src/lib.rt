@@ -3,15 +3,20 @@
 //! is the contract of a function that does nothing.
 #![tactic(auto)]
 
-ghost use Rattle.std.specs.Prelude.{ℕ, List, None};
+ghost use Rattle.std.specs.Prelude.{◌≡◌, ℕ, Bool, List, None, Some};
 ghost use Rattle.yw_answered.specs.Answered.{CommandHasAnswer, FindsRule, LineHasAnswer, ReadsAll};
 ghost use Rattle.yw_model.specs.Run.{Answers, CannotLack, EntriesLead, HasRun, Run, Step, taken_by};
 ghost use Rattle.yw_model.specs.Texts.{reader};
 ghost use Rattle.yw_lines.specs.Meaning.{IsProper};
 ghost use Rattle.yw_lines.specs.declared.word.Word.{Word};
+ghost use Rattle.yw_sound.specs.Sound.{ReadsSound};
+ghost use Rattle.yw_state.specs.Apart.{SameElsewhere};
+ghost use Rattle.yw_state.specs.Automatic.{case_of};
 ghost use Rattle.yw_state.specs.Broken.{Breaks};
 ghost use Rattle.yw_state.specs.Events.{LeadAll};
+ghost use Rattle.yw_state.specs.Legal.{IsLegal};
 ghost use Rattle.yw_state.specs.State.{State, opening};
+ghost use Rattle.yw_state.specs.Texts.{IsOne};
 ghost use Rattle.yw_state.specs.Well.{IsWell};
 ghost use Rattle.yw_state.specs.declared.command.Command.{Command};
 ghost use Rattle.yw_state.specs.declared.event.Event.{Event};
@@ -23,6 +28,11 @@ use yw_state::laws::reads::Reads;
 /// No text lacks a reading: as a specification or its first fault, and as a condition over some names or its fault.
 pub fn texts_are_read()
     ensures { ReadsAll reader }
+{}
+
+/// And none has two: what is loaded and what a condition tests are told by the text.
+pub fn texts_are_read_once()
+    ensures { IsOne reader }
 {}
 
 /// For each command the first rule that it breaks can't be lacking, or that it breaks none.
@@ -46,7 +56,7 @@ pub fn line_has_answer()
     ensures { (built : List Word) (s : State) (n : ℕ) (line : List ℕ) → IsWell reader s → LineHasAnswer built s n line }
 {}
 
-/// Each state to which allowed events lead from the opening is well. What they load are texts that can be loaded today.
+/// Each state to which allowed events lead from the opening is well. What they load are accepted texts.
 pub fn reached_is_well()
     ensures { (es : List Event) (t : State) → LeadAll reader opening es t → IsWell reader t }
 {}
@@ -54,6 +64,12 @@ pub fn reached_is_well()
 /// What is loaded in each such state is within.
 pub fn reached_holds_within()
     ensures { (es : List Event) (t : State) → LeadAll reader opening es t → HoldsWithin t }
+{}
+
+/// An entry that may answer a command of a case leaves what stands in other cases and how they ended, and specifications, persons and rules.
+pub fn entry_leaves_other_cases<R: Reads>()
+    ensures { ReadsSound R.reader → (s t : State) (c : Command) (entry : List Event) (quiet : Bool) (n : ℕ) → IsWell R.reader s
+        → (legal : IsLegal R.reader s c entry quiet t) → case_of legal.first ≡ Some n → SameElsewhere n s t }
 {}
 
 /// The entries that a run takes lead to its state: the events of each are allowed in their turn.

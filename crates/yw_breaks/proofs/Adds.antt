@@ -11,7 +11,7 @@ use Rattle.yw_breaks.proofs.Rows.{broken_row, idle_row, place_row, rule_row}
 use Rattle.yw_breaks.specs.Add.{AddBreaks, add_rule, is_dynamic, lacks_element, value_fault}
 use Rattle.yw_breaks.specs.Launch.{number_rule}
 use Rattle.yw_breaks.specs.Nets.{IsTaskNamed}
-use Rattle.yw_breaks.specs.Persons.{has_role, lacks_role}
+use Rattle.yw_breaks.specs.Persons.{lacks_role}
 use Rattle.yw_breaks.specs.Tables.{add_rest}
 use Rattle.yw_known.specs.Held.{IsHeld}
 use Rattle.yw_known.specs.Here.{IsNetHere}
@@ -22,7 +22,7 @@ use Rattle.yw_plain.proofs.Words.{words}
 use Rattle.yw_plain.specs.Plain.{IsPlain}
 use Rattle.yw_spec.specs.declared.task.Task.{Task}
 use Rattle.yw_state.proofs.Tests.{some_same}
-use Rattle.yw_state.specs.Broken.{First, is_spent, placed, placeless, undefined_in}
+use Rattle.yw_state.specs.Broken.{First, has_role, is_spent, placed, placeless, undefined_in}
 use Rattle.yw_state.specs.Identity.{Ident}
 use Rattle.yw_state.specs.Map.{get}
 use Rattle.yw_state.specs.Options.{is_some_and}

@@ -7,7 +7,7 @@ use Rattle.yw_breaks.proofs.Joining.{behind, in_front}
 use Rattle.yw_breaks.proofs.Rows.{broken_row, idle_row, place_row, rule_row}
 use Rattle.yw_breaks.specs.Enter.{EnterBreaks}
 use Rattle.yw_breaks.specs.Nets.{IsTaskNamed}
-use Rattle.yw_breaks.specs.Persons.{has_role, lacks_role, worker_rule}
+use Rattle.yw_breaks.specs.Persons.{lacks_role, worker_rule}
 use Rattle.yw_breaks.specs.Tables.{enter_rest}
 use Rattle.yw_known.specs.Held.{IsHeld}
 use Rattle.yw_known.specs.Here.{IsNetHere, as_net_at}
@@ -20,7 +20,7 @@ use Rattle.yw_spec.specs.declared.spec.Net.{Net}
 use Rattle.yw_spec.specs.declared.task.Task.{Task}
 use Rattle.yw_state.proofs.Tests.{some_same}
 use Rattle.yw_state.specs.Broken as table
-use Rattle.yw_state.specs.Broken.{First, enter_checks, is_spent, misses_bounds, placed, placeless, test, test_at}
+use Rattle.yw_state.specs.Broken.{First, enter_checks, has_role, is_spent, misses_bounds, placed, placeless, test, test_at}
 use Rattle.yw_state.specs.Identity.{Ident}
 use Rattle.yw_state.specs.Judged.{is_manual}
 use Rattle.yw_state.specs.Map.{get}

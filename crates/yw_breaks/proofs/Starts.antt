@@ -4,7 +4,7 @@ use Rattle.std.specs.Prelude.{drop, not, option_map, take, unwrap_or, ifâ—Œthenâ
 use Rattle.yw_breaks.proofs.Held.{no_item, role_is}
 use Rattle.yw_breaks.proofs.Joining.{then_or}
 use Rattle.yw_breaks.proofs.Rows.{idle_row, rule_row}
-use Rattle.yw_breaks.specs.Persons.{has_role, lacks_role, worker_rule}
+use Rattle.yw_breaks.specs.Persons.{lacks_role, worker_rule}
 use Rattle.yw_breaks.specs.Start.{start_rule}
 use Rattle.yw_breaks.specs.Tables.{start_rest}
 use Rattle.yw_known.specs.Held.{IsHeld}
@@ -14,7 +14,7 @@ use Rattle.yw_known.specs.declared.here.ItemHere.{ItemHere}
 use Rattle.yw_library.specs.Holdings.{Holdings}
 use Rattle.yw_plain.proofs.Words.{words}
 use Rattle.yw_plain.specs.Plain.{IsPlain}
-use Rattle.yw_state.specs.Broken.{First, placeless, test}
+use Rattle.yw_state.specs.Broken.{First, has_role, placeless, test}
 use Rattle.yw_state.specs.Identity.{Ident}
 use Rattle.yw_state.specs.Map.{get}
 use Rattle.yw_state.specs.Nets.{is_atomic}

@@ -4,6 +4,7 @@ use Rattle.std.specs.List.{list_any}
 use Rattle.std.specs.Str.{bytes_eq}
 use Rattle.yw_library.specs.Holdings.{Holdings, state_of}
 use Rattle.yw_spec.specs.declared.task.Task.{Task}
+use Rattle.yw_state.specs.Broken.{has_role}
 use Rattle.yw_state.specs.Map.{get, has_key}
 use Rattle.yw_state.specs.Nets.{is_atomic}
 use Rattle.yw_state.specs.declared.rule.Rule.{Rule}
@@ -15,13 +16,6 @@ roles_of known who = get (state_of known).persons who
 -- nobody has this name
 abbrev pub is_stranger : Holdings → List ℕ → Bool
 is_stranger known who = not (has_key (state_of known).persons who)
-
--- ---- words of `yw_state` that have no name outside its tables
-
--- the role is one of these, where there is one
-abbrev pub has_role : List (List ℕ) → Option (List ℕ) → Bool
-has_role roles None = true
-has_role roles (Some role) = list_any (bytes_eq role) roles
 
 -- the person hasn't the task's role
 abbrev pub lacks_role : Holdings → List ℕ → Task → Bool

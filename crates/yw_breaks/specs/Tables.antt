@@ -2,9 +2,8 @@
 -- tables of `yw_state`.
 use Rattle.std.specs.Prelude.{◌∷◌, ℕ, [], Bool, List, None, Option, Some, codes, drop, if◌then◌else◌, is_none, length, nat_le, not, option_and_then, take, unwrap_or}
 use Rattle.yw_base.specs.declared.value.Value.{Value}
-use Rattle.yw_breaks.specs.Persons.{has_role}
 use Rattle.yw_state.specs.Automatic.{IsQuiet}
-use Rattle.yw_state.specs.Broken.{Breaks, Check, First, complete_checks, enter_checks, is_spent, placeless, start_checks, test, test_at, undefined_in}
+use Rattle.yw_state.specs.Broken.{Breaks, Check, First, bad_element, complete_checks, enter_checks, has_role, is_spent, placeless, start_checks, test, test_at, undefined_in}
 use Rattle.yw_state.specs.Given.{element_value}
 use Rattle.yw_state.specs.Identity.{Ident, case_number}
 use Rattle.yw_state.specs.Map.{get}
@@ -61,9 +60,6 @@ lacks_role s who x = not (has_role (unwrap_or (get s.persons who) []) x.task.rol
 
 abbrev is_full : State → Ident → TaskAt → Bool
 is_full s i x = is_some_and x.task.many (λ m. nat_le m.max (length (items_of s i x.number)))
-
-abbrev bad_element : Option Value → TaskAt → Option (List ℕ)
-bad_element value x = if is_none (element_value x.task value) then Some (codes "value") else None
 
 abbrev pub add_rest : State → List ℕ → Ident → List ℕ → Option Value → List Check
 add_rest s who i t value =

@@ -3,8 +3,10 @@ use crate::asks::command_of;
 use crate::events::is_plain;
 use crate::scripts::{End, Script, Step};
 use crate::wants::{Want, are_wanted, is_refusal};
-use std::alloc::Global;
+use std::alloc::{AllocError, Global};
+use yw_cases::laws::opening_may_stand;
 use yw_engine::{Decided, Engine, EngineFault};
+use yw_library::Parts;
 use yw_state::{Event, EventList};
 
 /// The events of an entry, where they are wanted.
@@ -74,10 +76,18 @@ fn ends(engine: &Engine, end: End) -> bool {
         && library.specs().len() == 1
 }
 
+/// An engine of the parts of the opening state.
+fn of_parts(alloc: Global) -> Result<Engine, AllocError> {
+    opening_may_stand();
+    Engine::new(alloc, Parts::opening(alloc))
+}
+
 /// A second engine is given the events of the first steps, and decides on the others.
 fn goes_on(alloc: Global, script: Script, cut: usize) -> bool {
-    let mut first = Engine::new(alloc);
-    let mut second = Engine::new(alloc);
+    let mut first = Engine::opening(alloc);
+    let Ok(mut second) = of_parts(alloc) else {
+        return false;
+    };
     for (k, step) in script.steps().iter().enumerate() {
         if !both_do(alloc, &mut first, &mut second, step, k < cut) {
             return false;

@@ -4,7 +4,7 @@ use Rattle.std.specs.Prelude.{Bool, List, false, is_some, refl, true, ℕ, ◌�
 use Rattle.yw_base.specs.Identity.{is_identity}
 use Rattle.yw_cases.proofs.Allows.{finish_as}
 use Rattle.yw_cases.proofs.Trying.{done, fails, placed_over, words_of}
-use Rattle.yw_cases.specs.Ended.{ended_of}
+use Rattle.yw_library.specs.Ended.{ended_of}
 use Rattle.yw_cases.specs.State.{MayStand, state_of}
 use Rattle.yw_cases.specs.Tried.{IsDone, LeadsNowhere, Tries}
 use Rattle.yw_cases.specs.declared.standing.Standing.{Standing}

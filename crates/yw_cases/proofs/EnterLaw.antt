@@ -7,7 +7,7 @@ use Rattle.yw_accepted.proofs.Loaded.{accepted_are_sound, accepted_are_within}
 use Rattle.yw_base.specs.Identity.{most_numbers, number_end}
 use Rattle.yw_base.specs.declared.value.Value.{Value}
 use Rattle.yw_cases.proofs.CompleteLaw.{passed_at}
-use Rattle.yw_cases.proofs.EntryLaw.{Entering, all_long, enter_as, entering, may_enter}
+use Rattle.yw_cases.proofs.EntryLaw.{Entering, all_long, enter_as, entering}
 use Rattle.yw_cases.proofs.ItemsGo.{passed}
 use Rattle.yw_cases.proofs.SomeItems.{items_some}
 use Rattle.yw_cases.proofs.TaskHere.{its, named, named_so}
@@ -33,13 +33,13 @@ use Rattle.yw_spec.specs.declared.task.Param.{Param}
 use Rattle.yw_spec.specs.declared.task.Task.{Task}
 use Rattle.yw_state.proofs.Tests.{by_test, map_some, never, nowhere, some_same, then_some}
 use Rattle.yw_state.specs.After.{with_next}
-use Rattle.yw_state.specs.Allowed.{Allowed, place_numbers}
-use Rattle.yw_state.specs.Broken.{Check, First, fact, misses_bounds, test, test_at, undefined_entry, undefined_in}
+use Rattle.yw_state.specs.Allowed.{Allowed, may_enter, place_numbers}
+use Rattle.yw_state.specs.Broken.{Check, First, fact, misses_bounds, test, test_at, undefined_entry, undefined_in, undefined_value}
 use Rattle.yw_state.specs.Identity.{Ident}
 use Rattle.yw_state.specs.Joins.{Waits, has_tokens}
 use Rattle.yw_state.specs.Map.{get}
 use Rattle.yw_state.specs.Options.{all_of, is_some_and}
-use Rattle.yw_state.specs.Passing.{elements_for, entry_values, given_values, within_bounds}
+use Rattle.yw_state.specs.Passing.{elements_for, entry_values, given_value, given_values, within_bounds}
 use Rattle.yw_state.specs.State.{NetAt, NetPart, State, TaskAt, net_at, net_part, no_checks, spec_called, task_at}
 use Rattle.yw_state.specs.Texts.{nothing}
 use Rattle.yw_state.specs.Values.{Row}
@@ -72,13 +72,6 @@ not_over a b e =
     by_test (nat_lt b a) (λ t. let over : b < a = ltb-true b a t in absurd (omega arith)) (λ f. f)
 
 -- ---- what a first item is given
-
-abbrev given_value : Row → Option Value → Option Tree → Option Value
-given_value row element None = element
-given_value row element (Some e) = val e row
-
-abbrev undefined_value : Row → Param → Bool
-undefined_value row p = is_some_and p.value (λ e. is_none (val e row))
 
 defined_there : (row : Row) (element : Option Value) (v : Value) (o : Option Tree) → given_value row element o ≡ Some v → is_some_and o (λ e. is_none (val e row)) ≡ false
 defined_there row element v None e = refl

@@ -24,7 +24,7 @@ use Rattle.yw_model.specs.Texts.{reader}
 use Rattle.yw_spec.specs.declared.spec.Place.{Place}
 use Rattle.yw_spec.specs.declared.task.Task.{Task}
 use Rattle.yw_state.proofs.Tests.{map_some, never, some_same, then_some, there_and}
-use Rattle.yw_state.specs.Allowed.{allows, place_numbers}
+use Rattle.yw_state.specs.Allowed.{allows, draws, makes, may_enter, place_numbers, takes_from}
 use Rattle.yw_state.specs.Events.{Leads}
 use Rattle.yw_state.specs.Identity.{Ident}
 use Rattle.yw_state.specs.Joins.{NoWait, has_tokens, joins}
@@ -47,18 +47,6 @@ use Rattle.yw_walk.specs.Finds.{EntersAs}
 use Rattle.yw_within.proofs.Finding.{well_holds_within}
 
 -- ---- as the definitions have it
-
-abbrev pub draws : State → ℕ → ℕ → Bool
-draws s first count = first == s.next && nat_le (first + count) number_end
-
-abbrev takes_from : State → Ident → TaskAt → List Place → Bool
-takes_from s i x places = is_some_and (place_numbers x.within.net places) (joins x.task.join s i x.task.before)
-
-abbrev makes : TaskAt → ℕ → Bool
-makes x count = is_some_and (entry_values x.task x.within.part.vals) (λ rows. length rows == count) && within_bounds x.task.many count
-
-abbrev pub may_enter : State → Ident → List Place → ℕ → ℕ → TaskAt → Bool
-may_enter s i places first count x = not (active s i x.number) && takes_from s i x places && makes x count && draws s first count
 
 -- ---- how many items come
 

@@ -24,8 +24,8 @@ use Rattle.yw_nest.specs.Does.{all_else}
 use Rattle.yw_spec.specs.declared.spec.Net.{Net}
 use Rattle.yw_spec.specs.declared.spec.Place.{Place}
 use Rattle.yw_spec.specs.declared.task.Task.{Task}
-use Rattle.yw_state.proofs.Tests.{and_right, never, nowhere, some_same, there_and}
-use Rattle.yw_state.specs.Allowed.{Allowed, allows, exit_values, has_room_for, may_leave, place_numbers}
+use Rattle.yw_state.proofs.Tests.{and_right, never, nowhere, same_numbers, some_same, there_and}
+use Rattle.yw_state.specs.Allowed.{Allowed, allows, exit_values, has_room_for, may_exit, may_leave, place_numbers, puts_on}
 use Rattle.yw_state.specs.Events.{Leads}
 use Rattle.yw_state.specs.Identity.{Ident}
 use Rattle.yw_state.specs.Judged.{case_place}
@@ -39,8 +39,7 @@ use Rattle.yw_state.specs.declared.event.Event.TheVariants as events
 use Rattle.yw_state.specs.declared.tree.TreeKind.TheVariants.{Post}
 use Rattle.yw_steps.specs.Exits.{Exits, MayExit}
 use Rattle.yw_steps.specs.Stands.{NetIs}
-use Rattle.yw_still.proofs.Numbers.{same_numbers}
-use Rattle.yw_still.specs.Still.{has_room_on, is_leaving}
+use Rattle.yw_still.specs.Still.{is_leaving}
 use Rattle.yw_task.proofs.EnterAsk.{its_items}
 use Rattle.yw_task.proofs.MadeLaw.{made_rows_are}
 use Rattle.yw_task.specs.Making.{rows_made}
@@ -49,13 +48,6 @@ use Rattle.yw_tree.specs.Places.{net_at as net_found}
 use Rattle.yw_tree.specs.Shows.{items_in}
 use Rattle.yw_tree.specs.declared.Forest.{Forest}
 use Rattle.yw_tree.specs.declared.NetState.{out-NetState}
-
--- as the definitions have it
-abbrev puts_on : State → Ident → TaskAt → List ℕ → Bool
-puts_on s i x cs = pointwise nat_eq cs (split_places x.task (exit_values s i x)) && list_all (has_room_for s i x) cs
-
-abbrev may_exit : State → Ident → List Place → TaskAt → Bool
-may_exit s i places x = active s i x.number && may_leave s i x && is_some_and (place_numbers x.within.net places) (puts_on s i x)
 
 -- ---- what is said of the task
 
@@ -113,8 +105,8 @@ module _ (old : Standing) (may : MayStand old) (i : Ident) (name : List ℕ) (pl
         let two = and_parts (active s i t) (may_leave s i x) both.0 in
         let put = there_and (place_numbers w.net.now places) (puts_on s i x) both.1 in
         let parts = and_parts (pointwise nat_eq put.0 split) (list_all (has_room_for s i x) put.0) put.2 in
-        let room : list_all (has_room_on s i x) split ≡ true = subst (λ cs. list_all (has_room_on s i x) cs ≡ true) (same_numbers put.0 split parts.0) parts.1 in (
-          and_from (clear s i && active s i t && may_leave s i x) (list_all (has_room_on s i x) split)
+        let room : list_all (has_room_for s i x) split ≡ true = subst (λ cs. list_all (has_room_for s i x) cs ≡ true) (same_numbers put.0 split parts.0) parts.1 in (
+          and_from (clear s i && active s i t && may_leave s i x) (list_all (has_room_for s i x) split)
               (and_from (clear s i && active s i t) (may_leave s i x) (and_from (clear s i) (active s i t) ((words_of old may).clear i) two.0) two.1) room,
           ap (λ o. is_some_and o (λ cs. pointwise nat_eq cs split)) put.1 ∙ parts.0,
         )
@@ -132,7 +124,7 @@ module _ (old : Standing) (may : MayStand old) (i : Ident) (name : List ℕ) (pl
 
     pub is_exit : IsLeavingAs w.net.now w.state.now t true → IsSplitTo w.net.now w.state.now t task places ≡ true → IsExit old i name places t
     is_exit leaves splits =
-        let parts = and_parts (clear s i && active s i t && may_leave s i x) (list_all (has_room_on s i x) split) (leaving true leaves) in
+        let parts = and_parts (clear s i && active s i t && may_leave s i x) (list_all (has_room_for s i x) split) (leaving true leaves) in
         let two = and_parts (clear s i && active s i t) (may_leave s i x) parts.0 in
         let put = there_and (place_numbers w.net.now places) (λ cs. pointwise nat_eq cs split) (sym split_as ∙ splits) in
         let room : list_all (has_room_for s i x) put.0 ≡ true = subst (λ cs. list_all (has_room_for s i x) cs ≡ true) (sym (same_numbers put.0 split put.2)) parts.1 in

@@ -7,9 +7,8 @@ use Rattle.yw_cases.specs.Here.{IsNetKnown}
 use Rattle.yw_known.proofs.Standing.{net_is_here, numbered}
 use Rattle.yw_known.specs.Held.{IsHeld}
 use Rattle.yw_known.specs.Known.{IsKnownNet, net_numbered}
-use Rattle.yw_known.specs.Upstreams.{AreNamed}
+use Rattle.yw_library.specs.Holdings.{AreNamed, Holdings}
 use Rattle.yw_known.specs.declared.known.KnownNet.{KnownNet}
-use Rattle.yw_library.specs.Holdings.{Holdings}
 use Rattle.yw_state.proofs.Tests.{by_option, never}
 use Rattle.yw_state.specs.Identity.{Ident, parent}
 use Rattle.yw_state.specs.Joins.{at_output, marked}

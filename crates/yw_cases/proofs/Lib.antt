@@ -1,4 +1,3 @@
-pub mod Over
 pub mod Allows
 pub mod Trying
 pub mod Resting
@@ -17,3 +16,4 @@ pub mod EntryLaw
 pub mod SomeItems
 pub mod EnterLaw
 pub mod AddLaw
+pub mod Opening

@@ -12,14 +12,14 @@ use Rattle.yw_mark.specs.Taking.{taken_places}
 use Rattle.yw_mark.specs.Tokens.{HasMarks, is_marked}
 use Rattle.yw_spec.specs.declared.spec.Net.{Net}
 use Rattle.yw_spec.specs.declared.spec.Place.{Place}
-use Rattle.yw_state.proofs.Tests.{map_some, never, some_same, then_some, there_and}
+use Rattle.yw_state.proofs.Tests.{map_some, never, same_numbers, some_same, then_some, there_and}
 use Rattle.yw_state.specs.Allowed.{place_numbers}
 use Rattle.yw_state.specs.Identity.{Ident}
 use Rattle.yw_state.specs.Joins.{has_tokens, joins, marked}
 use Rattle.yw_state.specs.Nets.{is_among, place_number}
 use Rattle.yw_state.specs.Options.{all_of, is_some_and}
 use Rattle.yw_state.specs.State.{State}
-use Rattle.yw_still.proofs.Numbers.{alike, same_numbers, some_kept}
+use Rattle.yw_still.proofs.Numbers.{alike, some_kept}
 use Rattle.yw_task.specs.Enters.{is_choice}
 
 -- the first of the places has the first of their numbers

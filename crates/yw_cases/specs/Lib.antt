@@ -1,4 +1,3 @@
-pub mod Ended
 pub mod Rows
 pub mod Here
 pub mod Items

@@ -1,7 +1,7 @@
 // All that is kept, so that an event leads from one state that is well to another.
 ghost use Rattle.std.specs.Prelude.{◌≡◌, IfOk, MatchOption, OnErr, true};
-ghost use Rattle.yw_cases.specs.Ended.{ended_of};
-ghost use Rattle.yw_cases.specs.State.{MayStand, state_of};
+ghost use Rattle.yw_library.specs.Ended.{ended_of};
+ghost use Rattle.yw_cases.specs.State.{MayStand, standing_of, state_of};
 ghost use Rattle.yw_cases.specs.Tried.{IsEnteredNowhere, IsTried, IsUnfit};
 ghost use Rattle.yw_library.specs.Accepts.{IfRefused};
 ghost use Rattle.yw_model.specs.Texts.{reader};
@@ -13,7 +13,6 @@ ghost use Rattle.yw_state.specs.State.{opening};
 ghost use Rattle.yw_state.specs.declared.event.Event.TheVariants as events;
 ghost use Rattle.yw_walk.specs.Finds.{ComesPlainly, EntersAs};
 
-use crate::EndedTable;
 use crate::entered::entry_event;
 use crate::event::try_event;
 use crate::library::load;
@@ -22,13 +21,10 @@ use std::alloc::{AllocError, Global};
 use std::marker::Model;
 use yw_base::{Ident, Name};
 use yw_known::Known;
-use yw_library::LibraryFault;
+use yw_library::{EndedTable, FIRST_NUMBER, LibraryFault, Parts};
 use yw_loose::Loose;
 use yw_state::{Event, Way};
 use yw_tree::Forest;
-
-/// The number that is drawn first.
-const FIRST_NUMBER: u64 = 1;
 
 /// Persons, specifications, the cases that stand, how cases ended, and the number that is drawn next. A contract sees these; by `state_of` they
 /// are a state, which is well. Beside them is kept where something may come of itself.
@@ -88,6 +84,30 @@ impl Cases {
             standing: nothing(alloc),
             loose: Loose::new(alloc),
         }
+    }
+
+    /// What these parts hold, whose state is well, plain and without a worklet. Nothing is known of where something may come of itself. An `Err`
+    /// says that no memory was left.
+    pub fn of(alloc: Global, parts: Parts) -> Result<Cases, AllocError>
+        requires { MayStand (standing_of parts) }
+        ensures { IfOk result (λ cases. cases ≡ standing_of parts) }
+    {
+        let Parts {
+            library,
+            forest,
+            next,
+            ended,
+        } = parts;
+        Ok(Cases {
+            alloc,
+            standing: Standing {
+                known: Known::of(alloc, library)?,
+                forest,
+                ended,
+                next,
+            },
+            loose: Loose::new(alloc),
+        })
     }
 
     /// Does an event, where it is allowed: `true`, and the state is that after it; else `false`, and nothing has changed. An `Err` says that no

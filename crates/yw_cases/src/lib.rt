@@ -5,13 +5,13 @@
 mod adding;
 mod cases;
 mod completing;
-mod ended;
 mod entered;
 mod entering;
 mod event;
 mod exiting;
 mod here;
 mod items;
+pub mod laws;
 mod library;
 mod places;
 mod refusals;
@@ -20,5 +20,4 @@ mod standing;
 mod whole;
 
 pub use cases::Cases;
-pub use ended::EndedTable;
 pub use standing::Standing;

@@ -1,6 +1,6 @@
 // All that is kept, as one.
-use crate::EndedTable;
 use yw_known::Known;
+use yw_library::EndedTable;
 use yw_tree::Forest;
 
 /// Persons and specifications, the cases that stand, how cases ended, and the number that is drawn next. A contract sees these four; by

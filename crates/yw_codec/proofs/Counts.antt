@@ -45,7 +45,7 @@ pub entry_long : (bytes entry rest : List ℕ) (events : List Event) → IsEntry
 entry_long bytes entry rest events is e =
     omega (arith, ap length e, length-append entry rest, ap length is.split, length-append is.field (flat_map event_bytes events), is.count.long)
 
--- no entry's bytes are a front of another's
+-- no entry's bytes are a prefix of another's
 pub same_entry : (es fs : List Event) (p q x y : List ℕ) → IsEntry es p → IsEntry fs q → p ++ x ≡ q ++ y → (es ≡ fs) × (p ≡ q) × (x ≡ y)
 same_entry es fs p q x y is_p is_q e =
     let split : p ++ x ≡ is_p.field ++ (flat_map event_bytes es ++ x) = ap (λ (l : List ℕ). l ++ x) is_p.split ∙ append_assoc is_p.field (flat_map event_bytes es) x in

@@ -2,9 +2,10 @@
 use Rattle.std.proofs.Common.{◌≡◌, ℕ, ◌<◌, List, [], ◌∷◌, ◌++◌, length, refl, ◌∙◌, rules}
 use Rattle.std.proofs.lemmas.Nat.{from_be_bytes-to_be_bytes_4}
 use Rattle.byteorder.specs.Endian.{big_bytes}
+use Rattle.yw_codec.specs.Fields.{u32_end}
 use Rattle.yw_journal.specs.Records.{IsFramed}
 
-pub framed_is : (size : ℕ) (bytes framed : List ℕ) → size ≡ length bytes → size < 4294967296 → framed ≡ (big_bytes 4 size ++ bytes) ++ 0 ∷ [] → IsFramed framed bytes
+pub framed_is : (size : ℕ) (bytes framed : List ℕ) → size ≡ length bytes → size < u32_end → framed ≡ (big_bytes 4 size ++ bytes) ++ 0 ∷ [] → IsFramed framed bytes
 framed_is size bytes framed same fits is = record {
   frame = big_bytes 4 size ++ bytes;
   gate = 0;

@@ -59,7 +59,7 @@ fn read_events(alloc: Global, reader: &mut Reader<'_>, count: u16) -> Result<Eve
 pub fn read_entry(alloc: Global, bytes: &[u8]) -> Result<(EventList, usize), CodecFault>
     ensures within { IfOk result (λ v. v.1 ≤ length bytes.now) }
     ensures ok { IfOk result (λ v. IsEntry v.0 (take v.1 bytes.now)) }
-    // No entry's bytes are a front of another's.
+    // No entry's bytes are a prefix of another's.
     ensures only { IfOk result (λ v. (events : List Event) (entry rest : List ℕ) → IsEntry events entry → bytes.now ≡ entry ++ rest → (events ≡ v.0) × (entry ≡ take v.1 bytes.now)) }
     ensures built { IfOk result (λ v. list_all is_built v.0 ≡ true) }
     ensures bad { IfErr result (λ fault. fault ≡ CodecFault.Bad → (events : List Event) (entry rest : List ℕ) → IsEntry events entry → bytes.now ≡ entry ++ rest → ⊥) }

@@ -73,7 +73,7 @@ fn writes_the_bytes_of_the_format(rt: HostRuntime) {
     assert!(rt; makes_and_appends(rt.alloc()));
 }
 
-/// A limit, how long the file would be, and how many calls were made.
+/// A limit, where the snapshot or the record would end, and how many calls were made.
 const LIMITS: [(u64, u64, usize); 2] = [(29, 30, 0), (48, 49, 8)];
 
 fn is_full(alloc: Global, row: &(u64, u64, usize)) -> bool {

@@ -13,8 +13,8 @@ use Rattle.yw_enabled.specs.Entered.{EntersFrom}
 use Rattle.yw_enabled.specs.Steps.{EnterComes, ExitComes, MayCome}
 use Rattle.yw_mark.specs.Taking.{taken_places}
 use Rattle.yw_mark.specs.declared.join.Taken.{Taken}
-use Rattle.yw_state.proofs.Tests.{never, some_same, there_and}
-use Rattle.yw_state.specs.Allowed.{Allowed, allows, exit_values, may_leave, place_numbers}
+use Rattle.yw_state.proofs.Tests.{never, same_numbers, some_same, there_and}
+use Rattle.yw_state.specs.Allowed.{Allowed, allows, exit_values, has_room_for, may_exit, may_leave, place_numbers, puts_on}
 use Rattle.yw_state.specs.Identity.{Ident, case_number}
 use Rattle.yw_state.specs.Joins.{NoWait, has_tokens, joins, marked}
 use Rattle.yw_state.specs.Judged.{is_manual}
@@ -26,8 +26,8 @@ use Rattle.yw_state.specs.Texts.{nothing}
 use Rattle.yw_state.specs.Values.{Row}
 use Rattle.yw_state.specs.Words.{active, clear}
 use Rattle.yw_state.specs.declared.event.Event.TheVariants as events
-use Rattle.yw_still.proofs.Numbers.{alike, all_filtered, one_of_all, same_numbers}
-use Rattle.yw_still.specs.Still.{has_room_on, is_leaving, may_be_made, task_numbered}
+use Rattle.yw_still.proofs.Numbers.{alike, all_filtered, one_of_all}
+use Rattle.yw_still.specs.Still.{is_leaving, may_be_made, task_numbered}
 use Rattle.yw_task.specs.Giving.{entry_rows}
 use Rattle.yw_within.proofs.Finding.{net_within, numbered_of, places_are_named, task_found}
 use Rattle.yw_within.specs.Within.{HoldsWithin, has_number}
@@ -103,12 +103,12 @@ module _ (s : State) (holds : HoldsWithin s) (i : Ident) (t : ℕ) (x : TaskAt) 
       let w = net_within s holds i x.within of.stands in
       let named = task_found s holds i x of in
       let cs = split_places x.task (exit_values s i x) in
-      let parts = and_parts (clear s i && active s i x.number && may_leave s i x) (list_all (has_room_on s i x) cs) may in
+      let parts = and_parts (clear s i && active s i x.number && may_leave s i x) (list_all (has_room_for s i x) cs) may in
       let goes = and_parts (clear s i && active s i x.number) (may_leave s i x) parts.0 in
       let free = and_parts (clear s i) (active s i x.number) goes.0 in
       let all = among_after x.task (exit_values s i x) (has_number x.within.net.places) (w.1.each_task x.number x.task of.task).after in
       let put = places_are_named w.0 x.within.net w.1 cs all in
-      let puts = ap (λ o. is_some_and o (λ ds. pointwise nat_eq ds cs && list_all (has_room_on s i x) ds)) put.1 ∙ and_from _ _ (alike cs) parts.1 in
+      let puts = ap (λ o. is_some_and o (puts_on s i x)) put.1 ∙ and_from _ _ (alike cs) parts.1 in
       record {
         of_task = x;
         numbered = is;
@@ -119,8 +119,7 @@ module _ (s : State) (holds : HoldsWithin s) (i : Ident) (t : ℕ) (x : TaskAt) 
           automatic = refl;
           allowed = (
             and_from _ _ free.0
-                (ap (λ o. is_some_and o (λ (y : TaskAt). active s i y.number && may_leave s i y
-                && is_some_and (place_numbers y.within.net put.0) (λ ds. pointwise nat_eq ds (split_places y.task (exit_values s i y)) && list_all (has_room_on s i y) ds))) named
+                (ap (λ o. is_some_and o (may_exit s i put.0)) named
                 ∙ and_from _ _ (and_from _ _ free.1 goes.1) puts),
             tt,
           );

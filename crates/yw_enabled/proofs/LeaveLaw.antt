@@ -14,7 +14,7 @@ use Rattle.yw_spec.specs.declared.spec.Net.{Net}
 use Rattle.yw_spec.specs.declared.task.Many.{Many}
 use Rattle.yw_spec.specs.declared.task.Task.{Task}
 use Rattle.yw_state.proofs.Tests.{by_test, some_same}
-use Rattle.yw_state.specs.Allowed.{exit_values, may_leave, most_tokens}
+use Rattle.yw_state.specs.Allowed.{exit_values, has_room_for, may_leave, most_tokens}
 use Rattle.yw_state.specs.Identity.{Ident}
 use Rattle.yw_state.specs.Nets.{is_among}
 use Rattle.yw_state.specs.Options.{is_some_and}
@@ -23,7 +23,7 @@ use Rattle.yw_state.specs.State.{ItemPart, State, TaskAt}
 use Rattle.yw_state.specs.Values.{Row}
 use Rattle.yw_state.specs.Words.{done}
 use Rattle.yw_still.proofs.Numbers.{all_filtered}
-use Rattle.yw_still.specs.Still.{has_room_on, is_leaving}
+use Rattle.yw_still.specs.Still.{is_leaving}
 use Rattle.yw_task.proofs.EnterAsk.{has_marks, its_active, its_items, net_with}
 use Rattle.yw_task.proofs.MadeLaw.{made_rows_are}
 use Rattle.yw_task.specs.Making.{rows_made}
@@ -82,7 +82,7 @@ module _ (names : ℕ → List ℕ) (f : Forest) (s : State) (i : Ident) (net : 
       ap (λ es. kept_values task (made_rows es) (out-NetState state).vals) (its_items names f s i net state h.stands t)
       ∙ ap (λ rows. kept_values task rows (out-NetState state).vals) (made_rows_are (items_in state t))
 
-  room_there : list_all (has_room_on s i (record { number = t; task = task; within = net_with names net state })) (split_places task (exit_values s i (record { number = t; task = task; within = net_with names net state }))) ≡ split_has_room state task (items_in state t)
+  room_there : list_all (has_room_for s i (record { number = t; task = task; within = net_with names net state })) (split_places task (exit_values s i (record { number = t; task = task; within = net_with names net state }))) ≡ split_has_room state task (items_in state t)
   room_there = λ j. list_all (λ c. is_among task.drop_places c || nat_lt (has_marks names f s i net state h.stands c j) most_tokens) (split_places task (values_are j))
 
   leaving_there : is_leaving s i (record { number = t; task = task; within = net_with names net state }) ≡ leaves_by state t task

@@ -1,4 +1,3 @@
-pub mod Asking
 pub mod Parts
 pub mod Coming
 pub mod Fronts

@@ -1,7 +1,7 @@
 -- What is said of the parts that are read of what is held is so of it.
 use Rattle.std.proofs.Common.{◌≡◌, subst, sym, ℕ}
 use Rattle.std.specs.Prelude.{Err, IfOk, MatchOption, None, Ok, Option, Result, Some}
-use Rattle.yw_cases.specs.Ended.{ended_of}
+use Rattle.yw_library.specs.Ended.{ended_of}
 use Rattle.yw_cases.specs.State.{MayStand, state_of}
 use Rattle.yw_cases.specs.declared.standing.Standing.{Standing}
 use Rattle.yw_engine.specs.Decides.{IsNext}

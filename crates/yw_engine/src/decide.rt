@@ -1,7 +1,7 @@
 // From a command to its events.
 ghost use Rattle.yw_cases.specs.State.{MayStand};
-ghost use Rattle.yw_engine.specs.Asked.{IsDecidedOn};
 ghost use Rattle.yw_engine.specs.Decides.{Decides};
+ghost use Rattle.yw_model.specs.Run.{CanBeAsked};
 
 use crate::add::decide_add;
 use crate::complete::decide_complete;
@@ -18,7 +18,7 @@ use yw_state::Command;
 /// What it is after `Memory` is told nowhere; `Spent` never comes.
 pub fn decide_on(work: &mut Work, command: Command) -> Result<Decided, EngineFault>
     requires stands { MayStand work.old.standing }
-    requires asked { IsDecidedOn command }
+    requires asked { CanBeAsked command }
     ensures { Decides work.old.standing command result work.new.standing }
 {
     match command {

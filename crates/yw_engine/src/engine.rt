@@ -2,6 +2,8 @@
 ghost use Rattle.std.specs.Prelude.{◌≡◌, true, false, IfOk, MatchOption, OnOk, Some};
 ghost use Rattle.std.specs.List.{list_all};
 ghost use Rattle.yw_engine.specs.Answers.{IfRefused, TellsSpent};
+ghost use Rattle.yw_cases.specs.State as cases;
+ghost use Rattle.yw_cases.specs.State.{MayStand, standing_of};
 ghost use Rattle.yw_engine.specs.Held.{state_of};
 ghost use Rattle.yw_model.specs.Run.{CanBeAsked};
 ghost use Rattle.yw_model.specs.Texts.{reader};
@@ -22,7 +24,7 @@ use crate::{Decided, EngineFault};
 use std::alloc::{AllocError, Global};
 use std::marker::Model;
 use yw_cases::Cases;
-use yw_library::Library;
+use yw_library::{Library, Parts};
 use yw_state::{Command, Event, Rule, Way};
 use yw_tree::Forest;
 
@@ -55,8 +57,22 @@ impl Model for Engine {
 }
 
 impl Engine {
+    /// An engine of these parts, whose state is well, plain and without a worklet. An `Err` says that no memory was left.
+    pub fn new(alloc: Global, parts: Parts) -> Result<Engine, AllocError>
+        requires { MayStand (standing_of parts) }
+        ensures state { IfOk result (λ engine. state_of engine ≡ cases.state_of (standing_of parts)) }
+        ensures fresh { IfOk result (λ engine. engine.spent ≡ false) }
+    {
+        let standing = Cases::of(alloc, parts)?;
+        standing.may_stand();
+        Ok(Engine {
+            work: Work { alloc, standing },
+            spent: false,
+        })
+    }
+
     /// An engine that holds nothing, in the opening state. It takes no memory.
-    pub fn new(alloc: Global) -> Engine
+    pub fn opening(alloc: Global) -> Engine
         ensures state { state_of result ≡ opening }
         ensures fresh { result.spent ≡ false }
     {

@@ -7,9 +7,10 @@ use Rattle.std.specs.Map.{update}
 use Rattle.std.specs.Str.{bytes_eq}
 use Rattle.std.proofs.Common.{sym, ◌∙◌, ◌<◌, ap, arith, drop, get_or}
 use Rattle.yw_base.specs.Order.{lesser}
-use Rattle.yw_given.specs.Found.{first_failing, least, number_of}
+use Rattle.yw_given.specs.Found.{number_of}
 use Rattle.yw_given.specs.declared.numbers.Numbers.{Numbers}
 use Rattle.yw_state.proofs.Tests.{nowhere, some_same}
+use Rattle.yw_state.specs.Given.{first_failing, least}
 use Rattle.yw_state.specs.declared.command.Given.{Given}
 
 -- what is read at a number within the list stands there

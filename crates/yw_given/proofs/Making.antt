@@ -2,11 +2,10 @@
 use Rattle.std.specs.Prelude.{◌≡◌, ℕ, zero, suc, cond, List, [], ◌∷◌, ◌++◌, Option, Some, None, find, is_none, map, option_and_then, option_map, slice_get, refl}
 use Rattle.std.specs.Option.{option_or}
 use Rattle.std.proofs.Common.{sym, ◌∙◌, ap, take}
-use Rattle.yw_given.specs.Found.{made_value}
 use Rattle.yw_base.specs.declared.value.Value.{Value}
 use Rattle.yw_spec.specs.declared.task.Param.{Param}
 use Rattle.yw_state.proofs.Tests.{by_option, map_some, nowhere, some_same, then_some}
-use Rattle.yw_state.specs.Given.{made_values, misfit}
+use Rattle.yw_state.specs.Given.{made_value, made_values, misfit}
 use Rattle.yw_state.specs.Options.{all_of}
 use Rattle.yw_state.specs.Values.{Row}
 use Rattle.yw_state.specs.declared.command.Given.{Given}

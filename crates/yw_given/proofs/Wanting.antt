@@ -5,11 +5,11 @@ use Rattle.std.proofs.Common.{sym, ◌∙◌, ap, subst, inl, inr}
 use Rattle.std.proofs.lemmas.Bool.{and_from, and_parts}
 use Rattle.std.proofs.lemmas.Slice.Eq.{bytes_eq-Decides}
 use Rattle.yw_base.specs.Usages.{comes_in}
-use Rattle.yw_given.specs.Found.{AreFirst, comes_as, is_wanted}
+use Rattle.yw_given.specs.Found.{AreFirst, comes_as}
 use Rattle.yw_spec.specs.declared.spec.Var.{Var}
 use Rattle.yw_state.proofs.Entries.{IsIn, passes, passing}
 use Rattle.yw_state.proofs.Tests.{by_test, never, nowhere, some_same}
-use Rattle.yw_state.specs.Given.{as_sort}
+use Rattle.yw_state.specs.Given.{as_sort, is_wanted}
 use Rattle.yw_state.specs.Options.{is_some_and}
 use Rattle.yw_state.specs.declared.command.Given.{Given}
 

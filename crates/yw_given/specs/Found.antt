@@ -43,32 +43,6 @@ is_called p name = bytes_eq p.name name
 abbrev pub AreFirst : List Var → Type 0
 AreFirst xs = (k : ℕ) (x : Var) → slice_get xs k ≡ Some x → position (λ (y : Var). bytes_eq y.name x.name) xs ≡ Some k
 
--- ---- the words of `Given` of `yw_state` that have no name outside it
-
--- the value that is given under a name
-abbrev pub given_under : List Given → List ℕ → Option Value
-given_under gs name = option_and_then (λ (g : Given). g.value) (find (λ (g : Given). bytes_eq g.name name) gs)
-
-abbrev pub launch_value : List Given → Var → Value
-launch_value gs x = if comes_in x.usage then unwrap_or (as_sort x.sort (given_under gs x.name)) x.init else x.init
-
-abbrev pub is_wanted : List Var → Given → Bool
-is_wanted xs g = list_any (λ (x : Var). bytes_eq x.name g.name && comes_in x.usage && is_some (as_sort x.sort g.value)) xs
-
-abbrev pub made_value : List Given → Param → Option Value
-made_value gs p = as_sort p.sort (given_under gs p.name)
-
+-- some parameter has its name
 abbrev pub is_known : List Param → Given → Bool
 is_known ps g = list_any (λ (p : Param). bytes_eq p.name g.name) ps
-
-abbrev pub lacking : List Param → List Given → Option (List ℕ)
-lacking ps gs = option_map (λ (p : Param). p.name) (find (λ p. is_none (made_value gs p)) ps)
-
--- the least in byte order, where there are names
-abbrev pub least : List (List ℕ) → Option (List ℕ)
-least [] = None
-least (name ∷ names) = Some (lesser name (least names))
-
--- the first name in byte order whose value fails the test
-abbrev pub first_failing : (Given → Bool) → List Given → Option (List ℕ)
-first_failing p gs = least (map (λ (g : Given). g.name) (filter (λ g. not (p g)) gs))

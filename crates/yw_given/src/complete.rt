@@ -1,8 +1,8 @@
 // What an item makes.
 ghost use Rattle.std.specs.Prelude.{◌≡◌, IfOk, None, Some, is_none};
 ghost use Rattle.std.specs.Option.{option_copied, option_map};
-ghost use Rattle.yw_given.specs.Found.{Finds, first_failing, is_called, is_given_as, is_known, lacking, made_value};
-ghost use Rattle.yw_state.specs.Given.{made_values, misfit};
+ghost use Rattle.yw_given.specs.Found.{Finds, is_called, is_given_as, is_known};
+ghost use Rattle.yw_state.specs.Given.{first_failing, lacking, made_value, made_values, misfit};
 
 use crate::least::lesser;
 use crate::numbers::{Numbers, found_in, given_under, number_given, number_params};

@@ -1,8 +1,8 @@
 // What a case begins with.
 ghost use Rattle.std.specs.Prelude.{◌≡◌, IfOk};
 ghost use Rattle.std.specs.Option.{option_copied, option_map};
-ghost use Rattle.yw_given.specs.Found.{AreFirst, Finds, comes_as, first_failing, is_given_as, is_wanted, launch_value};
-ghost use Rattle.yw_state.specs.Given.{launch_values, unwanted};
+ghost use Rattle.yw_given.specs.Found.{AreFirst, Finds, comes_as, is_given_as};
+ghost use Rattle.yw_state.specs.Given.{first_failing, is_wanted, launch_value, launch_values, unwanted};
 
 use crate::least::lesser;
 use crate::numbers::{Numbers, found_in, given_under, number_given, number_vars};

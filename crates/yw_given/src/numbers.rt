@@ -1,7 +1,8 @@
 // Names with numbers.
 ghost use Rattle.std.specs.Prelude.{◌≡◌, IfOk, find, option_and_then, slice_get};
 ghost use Rattle.std.specs.Option.{option_copied};
-ghost use Rattle.yw_given.specs.Found.{Finds, comes_as, given_under, is_called, is_given_as, number_of};
+ghost use Rattle.yw_given.specs.Found.{Finds, comes_as, is_called, is_given_as, number_of};
+ghost use Rattle.yw_state.specs.Given.{given_under};
 
 use std::alloc::{AllocError, Global};
 use std::collections::BTreeMap;

@@ -21,28 +21,11 @@ use Rattle.yw_spec.specs.declared.task.Many.{Many}
 use Rattle.yw_spec.specs.declared.task.Param.{Param}
 use Rattle.yw_spec.specs.declared.task.Task.{Task}
 use Rattle.yw_state.proofs.MapLemmas.{never, nowhere, some_same}
-use Rattle.yw_state.specs.Passing.{kept_values, row_fits, set_row}
+use Rattle.yw_state.specs.Passing.{int_in, kept_values, list_of, out_value, row_fits, set_row, text_in}
 use Rattle.yw_state.specs.Values.{Row}
 use Rattle.yw_state.specs.Well.{vals_fit}
 
 -- ---- as `kept_values` and `set_row` tell what is made of values
-
-abbrev int_in : Value → Option ℤ
-int_in (values.Int z) = Some z
-int_in v = None
-
-abbrev text_in : Value → Option (List ℕ)
-text_in (values.Text t) = Some t
-text_in v = None
-
-abbrev list_of : Sort → List Value → Value
-list_of sorts.Text vs = values.Texts (filter_map text_in vs)
-list_of sort vs = values.Ints (filter_map int_in vs)
-
-abbrev out_value : Option Many → Sort → List Value → Value
-out_value (Some m) sort vs = list_of sort vs
-out_value None sort [] = zero_of sort
-out_value None sort (v ∷ vs) = v
 
 abbrev assigned_all : Row → Row → List Assign → Row
 assigned_all over row [] = row

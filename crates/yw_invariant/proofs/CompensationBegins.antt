@@ -1,5 +1,5 @@
 -- A compensation begins at a run, or a primitive changes what isn't there: what is well stays well.
-use Rattle.std.specs.Prelude.{◌≡◌, ◌≤◌, ◌<◌, ℕ, ◌==◌, Bool, true, false, List, length, Option, Some, None, is_some, option_map, option_and_then, slice_get, nat_lt, refl, if◌then◌else◌}
+use Rattle.std.specs.Prelude.{◌≡◌, ◌<◌, ℕ, ◌==◌, Bool, true, false, List, length, Option, Some, None, is_some, option_map, option_and_then, slice_get, nat_lt, refl, if◌then◌else◌}
 use Rattle.std.proofs.Common.{sym, ◌∙◌, ap, subst, arith, le_trans}
 use Rattle.std.proofs.lemmas.Bool.{eq-eqb, ltb-true, or_right}
 use Rattle.yw_spec.specs.declared.spec.Net.{Net}
@@ -27,12 +27,8 @@ use Rattle.yw_state.specs.Nets.{top_net}
 use Rattle.yw_state.specs.Options.{is_some_and}
 use Rattle.yw_state.specs.State.{State, Site, Sites, ItemAt, NetAt, NetPart, RunPart, item_at, item_part, net_at, net_part, run_part, spec_called, top_called}
 use Rattle.yw_state.specs.Texts.{Reader}
-use Rattle.yw_state.specs.Well.{IsWell, IsAtLevel, is_top}
-use Rattle.yw_state.specs.Well.IsAtLevel.{first, further}
-
-pub level_counts : (s : State) {k : Ident} {l : ℕ} → IsAtLevel s k l → 1 ≤ l
-level_counts s (first k outer) = omega arith
-level_counts s (further k l nested level) = omega arith
+use Rattle.yw_state.proofs.NetLevels.{level_counts}
+use Rattle.yw_state.specs.Well.{IsWell, is_top}
 
 module _ (reader : Reader) (sound : ReadsSound reader) (s : State) (well : IsWell reader s) (r : Ident) (y : RunPart) (run : run_part s r ≡ Some y) (idle : y.waiting ≡ false) where
   abbrev j : Ident
@@ -74,7 +70,7 @@ module _ (reader : Reader) (sound : ReadsSound reader) (s : State) (well : IsWel
           fits = new_net_fits name spec.top net (source_at s j) source_small (loaded_sound reader sound s well name spec called spec.top net top).begins;
           of_item = λ x e. absurd (runs.no_item_at reader s well r y run idle x e);
           of_run = λ z e. its_top;
-          deep = λ l level. let some = level_counts s level in omega (arith, some, short);
+          deep = let some = level_counts s r in omega (arith, some, short);
         }
 
     to_waiting : (o : Option RunPart) → option_map (λ (z : RunPart). record z { waiting = true }) (option_map taken_first o) ≡ option_map waits_then o

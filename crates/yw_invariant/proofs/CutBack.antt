@@ -10,11 +10,11 @@ use Rattle.yw_invariant.proofs.RunsGoOn as runs
 use Rattle.yw_invariant.proofs.Turning.{Turns, item_here, part_here, turned_is_well, same_option}
 use Rattle.yw_invariant.proofs.Values.{given_fits}
 use Rattle.yw_state.proofs.Alike.{item_in, net_by, nothing_due}
-use Rattle.yw_state.proofs.ItemWell.{renewed}
 use Rattle.yw_state.proofs.MapLemmas.{by_name, by_option, get-retain_kept, never, nowhere, retain_stands}
 use Rattle.yw_state.proofs.MarksWell.{item_due_is_well}
 use Rattle.yw_state.proofs.RetainWell.{retained_is_well}
 use Rattle.yw_state.proofs.Tests.{or_cases}
+use Rattle.yw_state.proofs.Updated.{renewed}
 use Rattle.yw_state.specs.After.{change, completed, make_due, make_select_due, with_item, with_sites}
 use Rattle.yw_state.specs.ByName.{made_of_given}
 use Rattle.yw_state.specs.Identity.{Ident, parent, same, strictly_under}

@@ -6,8 +6,8 @@ use Rattle.std.specs.Ordering.{is_eq}
 use Rattle.std.specs.declared.cmp.Ordering.{Ordering}
 use Rattle.std.specs.declared.cmp.Ordering.TheVariants.{Less, Equal, Greater}
 use Rattle.std.proofs.Common.{sym, ◌∙◌, ap}
-use Rattle.yw_state.proofs.MapLemmas.{KeyOrder, nowhere}
-use Rattle.yw_state.specs.Map.{Map, entries, get, insert, of_sorted}
+use Rattle.yw_state.proofs.MapLemmas.{KeyOrder, nowhere, of_sorted_list}
+use Rattle.yw_state.specs.Map.{Map, entries, get, insert}
 
 later_part : (a b : Bool) → T (a && b) → T b
 later_part true b h = h
@@ -28,11 +28,7 @@ module _ {K X : Type 0} {R : K → K → Ordering} (o : KeyOrder R) {B : Type 0}
         | Greater ↦ λ r. behind (g e) (g (k, w)) _ (filter_map g es) (length-put_new es (later_part (below_all R e.0 es) (is_sorted R es) sorted) (sym (ap (λ c. cond (is_eq c) (Some e.1) (find R k es)) r) ∙ absent))
       ] refl
 
-  of_sorted_list : (es : List (K × X)) (b : Bool) (e : is_sorted R es ≡ b) (m : Map R X) → T b → (of_sorted es b e m).list ≡ es
-  of_sorted_list es true e m h = refl
-  of_sorted_list es false e m h = absurd h
-
   -- one more is of the kind, if the new one is
   pub length-insert_new : (m : Map R X) → get m k ≡ None → length (filter_map g (entries (insert m k w))) ≡ length (cons_option (g (k, w)) (filter_map g (entries m)))
   length-insert_new m absent =
-      ap (λ es. length (filter_map g es)) (of_sorted_list _ _ refl m (is_sorted-put R o.total k w m.list m.sorted)) ∙ length-put_new m.list m.sorted absent
+      ap (λ es. length (filter_map g es)) (of_sorted_list o _ _ refl m (is_sorted-put R o.total k w m.list m.sorted)) ∙ length-put_new m.list m.sorted absent

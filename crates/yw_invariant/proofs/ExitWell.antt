@@ -22,9 +22,9 @@ use Rattle.yw_state.proofs.Absent.{idents_of}
 use Rattle.yw_state.proofs.Alike.{net_by}
 use Rattle.yw_state.proofs.MapLemmas.{by_name, by_option, by_test, get-retain_gone, get-retain_kept, never, nowhere, some_same}
 use Rattle.yw_state.proofs.MarksWell.{case_due_is_well}
-use Rattle.yw_state.proofs.Tests.{then_some, there, there_and}
+use Rattle.yw_state.proofs.Tests.{same_numbers, then_some, there, there_and}
 use Rattle.yw_state.specs.After.{change, exit, exit_to, items_gone, make_due, post_at_output, region_emptied, values_assigned, where_some, with_net, with_sites, without_items}
-use Rattle.yw_state.specs.Allowed.{Allowed, allows, exit_values, may_leave, most_tokens, place_numbers}
+use Rattle.yw_state.specs.Allowed.{Allowed, allows, exit_values, has_room_for, may_exit, may_leave, most_tokens, place_numbers, puts_on}
 use Rattle.yw_state.specs.Events.{after}
 use Rattle.yw_state.specs.Identity.{Ident, is_case_ident}
 use Rattle.yw_state.specs.Judged.{case_place}
@@ -70,14 +70,6 @@ net_before_each i (k ∷ ks) s n e = net_before_drops i (idents_of s i k) s n (n
 
 -- ---- the places to which a task goes on
 
-same_numbers : (xs ys : List ℕ) → pointwise nat_eq xs ys ≡ true → xs ≡ ys
-same_numbers [] [] e = refl
-same_numbers [] (y ∷ ys) e = never e
-same_numbers (x ∷ xs) [] e = never e
-same_numbers (x ∷ xs) (y ∷ ys) e =
-    let parts = and_parts (nat_eq x y) (pointwise nat_eq xs ys) e in
-    ap (λ n. n ∷ xs) (eqb-true x y parts.0) ∙ ap (λ ns. y ∷ ns) (same_numbers xs ys parts.1)
-
 -- a split goes to no place twice
 split_apart : (t : Task) (row : Row) → are_apart t.after ≡ true → are_apart (split_places t row) ≡ true
 split_apart t row once = by_gate t.split
@@ -94,13 +86,6 @@ each_passes p (d ∷ cs) all c within =
     by_test (nat_eq c d)
     (λ here. ap p (eqb-true c d here) ∙ parts.0)
     (λ other. each_passes p cs parts.1 c (ap (λ b. b || is_among cs c) (sym other) ∙ within))
-
--- as `may_exit` says where a task may go on
-abbrev has_room_for : State → Ident → TaskAt → ℕ → Bool
-has_room_for s i x c = is_among x.task.drop_places c || nat_lt (tokens_on s i c) most_tokens
-
-abbrev puts_on : State → Ident → TaskAt → List ℕ → Bool
-puts_on s i x cs = pointwise nat_eq cs (split_places x.task (exit_values s i x)) && list_all (has_room_for s i x) cs
 
 -- ---- a case's check behind its end
 
@@ -277,10 +262,7 @@ module _ (reader : Reader) (sound : ReadsSound reader) (s : State) (i : Ident) (
   pub exit_keeps_well : Allowed s (events.Exit i t places) said → IsWell reader (after s (events.Exit i t places) said)
   unfolding allows after
   exit_keeps_well allowed =
-      let parts = and_parts (clear s i) (is_some_and (task_at s i t) may_go) allowed.0 in
-      let (x, is, may) = there_and (task_at s i t) may_go parts.1 in
+      let parts = and_parts (clear s i) (is_some_and (task_at s i t) (may_exit s i places)) allowed.0 in
+      let (x, is, may) = there_and (task_at s i t) (may_exit s i places) parts.1 in
       subst (λ o. IsWell reader (where_some o s (exit s i places))) (sym is)
       (exit_is_well x is (and_parts (active s i x.number && may_leave s i x) (is_some_and (place_numbers x.within.net places) (puts_on s i x)) may).1)
-    where
-      may_go : TaskAt → Bool
-      may_go x = active s i x.number && may_leave s i x && is_some_and (place_numbers x.within.net places) (puts_on s i x)

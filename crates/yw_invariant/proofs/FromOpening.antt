@@ -60,7 +60,7 @@ opening_is_well reader =
         run_fit = λ j r e. nowhere e;
         rules = λ key rs e. nowhere e;
       };
-      depth = λ j n k e. nowhere e;
+      depth = λ j n e. nowhere e;
     }
 
 -- events that are allowed in their turn keep a state well

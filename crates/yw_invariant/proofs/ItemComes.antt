@@ -1,5 +1,5 @@
 -- An item comes with its checks, under a number that wasn't drawn, in a net that has its task: what is well stays well.
-use Rattle.std.specs.Prelude.{◌≡◌, ◌≤◌, ◌<◌, ◌+◌, ℕ, ◌&&◌, ◌||◌, ◌==◌, Bool, true, false, not, List, [], length, Option, Some, None, is_some, option_map, option_and_then, unwrap_or, nat_lt, refl, slice_get, if◌then◌else◌}
+use Rattle.std.specs.Prelude.{◌≡◌, ◌≤◌, ◌<◌, ◌+◌, ℕ, ◌&&◌, ◌||◌, ◌==◌, Bool, true, false, List, [], length, Option, Some, None, is_some, option_map, option_and_then, unwrap_or, nat_lt, refl, slice_get, if◌then◌else◌}
 use Rattle.std.specs.List.{cons_option, list_all}
 use Rattle.std.specs.Ordering.{eq_by_cmp}
 use Rattle.std.proofs.Common.{sym, ◌∙◌, ap, subst, arith}
@@ -12,18 +12,18 @@ use Rattle.yw_invariant.proofs.Places.{parent_of_child}
 use Rattle.yw_state.proofs.Alike.{all_weaker, asked_of, item_in, net_by}
 use Rattle.yw_state.proofs.MapLemmas.{by_name, by_option, by_test, get-insert_other, get-insert_same, never, nowhere, some_same, tied, tied_self}
 use Rattle.yw_state.proofs.TreePlaces.{item_has_rule, item_is_target}
+use Rattle.yw_state.proofs.NetLevels.{deep_as_before}
+use Rattle.yw_state.proofs.Unchanged.{content_stays}
 use Rattle.yw_state.specs.After.{new_item, put, with_next}
 use Rattle.yw_state.specs.Identity.{Ident, case_number, is_case_ident, is_child, parent}
 use Rattle.yw_state.specs.Judged.{has_rule, has_rules, task_place}
 use Rattle.yw_state.specs.Map.{get, insert, lexical}
 use Rattle.yw_state.specs.Options.{is_some_and}
 use Rattle.yw_state.specs.Passing.{row_fits}
-use Rattle.yw_state.specs.RuleTree.{TreeRule}
 use Rattle.yw_state.specs.State.{State, Site, Sites, NetPart, ItemPart, RunPart, ItemAt, NetAt, TaskAt, due_at, is_suspended, is_target, item_at, item_of_task, item_part, items_of, net_at, net_part, no_checks, run_part}
 use Rattle.yw_state.specs.Texts.{Reader}
 use Rattle.yw_state.specs.Values.{Row}
-use Rattle.yw_state.specs.Well.{NumbersFit, NetsStand, ParentsStand, MarksStand, ContentFits, IsWell, ItemFits, RulesFit, DepthFits, IsAtLevel, is_composite, item_limit, wants_net}
-use Rattle.yw_state.specs.Well.IsAtLevel.{first, further}
+use Rattle.yw_state.specs.Well.{NumbersFit, NetsStand, ParentsStand, MarksStand, ContentFits, IsWell, ItemFits, DepthFits, is_composite, item_limit, wants_net}
 use Rattle.yw_state.specs.Words.{has_check, is_ready}
 use Rattle.yw_state.specs.declared.part.Checks.{Checks}
 use Rattle.yw_state.specs.declared.part.Stage.TheVariants.{Ready}
@@ -240,13 +240,10 @@ module _ (s : State) (j : Ident) (x : TaskAt) (given : Row) (due : Checks) (next
       (λ none. never (ap (λ o. is_some_and o is_composite) (sym (ap (λ o. item_in (item_part s k) (option_and_then (net_by s) o)) none ∙ no_item (item_part s k))) ∙ e))
       (λ n some. ap is_some some)
 
-  level_before : {k : Ident} {l : ℕ} → IsAtLevel t k l → is_some (net_part s k) ≡ true → IsAtLevel s k l
-  level_before (first k level) net = first k (ap not (sym (nested_same k (apart k net))) ∙ level)
-  level_before (further k l nested level) net =
-      let was = sym (nested_same k (apart k net)) ∙ nested in further k l was (level_before level (net_above k was))
-
   depth_kept : DepthFits s → DepthFits t
-  depth_kept depth k n l e level = let was = sym (net_same k) ∙ e in depth k n l was (level_before level (ap is_some was))
+  depth_kept depth k n e =
+      let was = sym (net_same k) ∙ e in
+      deep_as_before s t (λ i. is_some (net_part s i) ≡ true) (λ i net. nested_same i (apart i net)) (λ i net. net_above i) k (ap is_some was) (depth k n was)
 
   -- ---- items of a task
 
@@ -284,10 +281,7 @@ module _ (s : State) (j : Ident) (x : TaskAt) (given : Row) (due : Checks) (next
 
   content_kept : (reader : Reader) → ContentFits reader s → ContentFits reader t
   content_kept reader content =
-      record {
-        spec_text = content.spec_text;
-        spec_name = content.spec_name;
-        person = content.person;
+      content_stays reader s sites next s.ended content (record {
         of_spec = λ k n e. ap is_some (net_at_same k) ∙ content.of_spec k n (sym (net_same k) ∙ e);
         net = λ k a e. content.net k a (sym (net_at_same k) ∙ e);
         item =
@@ -297,26 +291,10 @@ module _ (s : State) (j : Ident) (x : TaskAt) (given : Row) (due : Checks) (next
         count = λ i a n task e f. let was = sym (net_at_same i) ∙ e in count_kept i a n task was f (content.count i a n task was f);
         run_length = λ k r e. content.run_length k r (sym (run_same k) ∙ e);
         run_fit = λ k r e. content.run_fit k r (sym (run_same k) ∙ e);
-        rules = λ key rs e. same_rules key rs (content.rules key rs e);
-      }
+      })
     where
       new_fits : ItemFits new
       new_fits = record { given = may.fits; made = λ e. never e; not_made = λ e. refl; who_atomic = λ e. never e; who_begun = λ e. never e }
-
-      same_rules : (key : List (List ℕ)) (rs : List TreeRule) → RulesFit reader s key rs → RulesFit reader t key rs
-      same_rules key rs fit =
-          record {
-            place = fit.place;
-            spec = fit.spec;
-            here = fit.here;
-            of_spec = fit.of_spec;
-            is_place = fit.is_place;
-            some = fit.some;
-            most = fit.most;
-            free = fit.free;
-            conclude = fit.conclude;
-            spelt = fit.spelt;
-          }
 
   pub item_come_is_well : (reader : Reader) → IsWell reader s → IsWell reader t
   item_come_is_well reader well =

@@ -14,9 +14,9 @@ use Rattle.yw_invariant.proofs.Turning.{Turns, same_option, turned_is_well}
 use Rattle.yw_invariant.proofs.Values.{child_fits}
 use Rattle.yw_sound.specs.Sound.{HasVar, ReadsSound}
 use Rattle.yw_state.proofs.Alike.{due_test}
-use Rattle.yw_state.proofs.ItemWell.{renewed}
 use Rattle.yw_state.proofs.MapLemmas.{by_option, never, nowhere, some_same}
 use Rattle.yw_state.proofs.Tests.{there_and, then_some}
+use Rattle.yw_state.proofs.Updated.{renewed}
 use Rattle.yw_state.specs.After.{change, complete, completed, end_net, where_some, with_item, with_sites}
 use Rattle.yw_state.specs.Allowed.{Allowed, allows}
 use Rattle.yw_state.specs.ByName.{made_by_child}

@@ -1,5 +1,5 @@
 -- How far down from its case, its worklet or its compensation a net stands, and so how long its identity is at most.
-use Rattle.std.specs.Prelude.{◌≡◌, ◌≤◌, ◌+◌, ◌==◌, ◌||◌, ℕ, zero, suc, true, false, not, length, Some, is_some, if◌then◌else◌}
+use Rattle.std.specs.Prelude.{◌≡◌, ◌≤◌, ◌+◌, ◌==◌, ◌||◌, ℕ, zero, suc, true, false, length, Some, is_some, if◌then◌else◌}
 use Rattle.std.specs.Str.{bytes_eq}
 use Rattle.std.proofs.Common.{sym, ◌∙◌, ap, subst, arith}
 use Rattle.std.proofs.lemmas.Bool.{and_parts, eqb-true}
@@ -11,14 +11,14 @@ use Rattle.yw_invariant.proofs.ReadyItems as items
 use Rattle.yw_invariant.proofs.Tasks as tasks
 use Rattle.yw_sound.specs.Sound.{HasChild, ReadsSound}
 use Rattle.yw_state.proofs.MapLemmas.{by_option, by_test, never, some_same}
+use Rattle.yw_state.proofs.NetLevels.{level_nested, level_outer}
 use Rattle.yw_state.proofs.Tests.{there_and, then_some}
 use Rattle.yw_state.specs.Identity.{Ident, is_case_ident, parent}
 use Rattle.yw_state.specs.Nets.{child_net}
 use Rattle.yw_state.specs.Options.{is_some_and}
 use Rattle.yw_state.specs.State.{State, ItemAt, NetAt, NetPart, item_at, item_part, net_at, net_part, run_part, spec_called}
 use Rattle.yw_state.specs.Texts.{Reader}
-use Rattle.yw_state.specs.Well.{IsWell, IsAtLevel, is_child_of, is_composite, is_top, wants_net}
-use Rattle.yw_state.specs.Well.IsAtLevel.{first, further}
+use Rattle.yw_state.specs.Well.{IsWell, is_child_of, is_composite, is_top, net_level, wants_net}
 
 -- the net at i stands one level further down than so many steps lead from the top
 pub record Level (s : State) (i : Ident) (w : NetAt) : Type 0 where
@@ -26,7 +26,7 @@ pub record Level (s : State) (i : Ident) (w : NetAt) : Type 0 where
   pub spec : Spec
   pub called : spec_called s w.part.spec ≡ Some spec
   pub walk : WalkAlong (HasChild spec) spec.top w.part.net steps
-  pub level : IsAtLevel s i (steps + 1)
+  pub level : net_level s i ≡ steps + 1
 
 module _ (reader : Reader) (s : State) (well : IsWell reader s) where
   -- no composite task's item is where the net stands: it is a top net
@@ -61,7 +61,7 @@ module _ (reader : Reader) (s : State) (well : IsWell reader s) where
       let of = tasks.of_spec s i w net in
       let top = ap (λ (p : NetPart). is_top s p) same_part ∙ is_top_there i part part_is outer in
       let number = eqb-true w.part.net of.spec.top (ap (λ o. is_some_and o (λ (sp : Spec). w.part.net == sp.top)) (sym of.called) ∙ top) in
-      record { steps = 0; spec = of.spec; called = of.called; walk = sym number; level = first i (ap not outer) }
+      record { steps = 0; spec = of.spec; called = of.called; walk = sym number; level = level_outer s i outer }
 
   one_down : (i : Ident) (w : NetAt) → net_at s i ≡ Some w → (x : ItemAt) → item_at s i ≡ Some x → is_composite x ≡ true → Level s (parent i) x.of_task.within → Level s i w
   one_down i w net x item composite up =
@@ -76,13 +76,14 @@ module _ (reader : Reader) (s : State) (well : IsWell reader s) where
       let net_is : w.part.net ≡ c = ap (λ (p : NetPart). p.net) same_part ∙ eqb-true part.net c number in
       let spec_is : w.part.spec ≡ x.of_task.within.part.spec = ap (λ (p : NetPart). p.spec) same_part ∙ (bytes_eq-Decides part.spec x.of_task.within.part.spec).0 child.1 in
       let at = ap (λ (sp : Spec). tasks.net_number sp x.of_task.within.part.net) (sym same_spec) ∙ above.at in
+      let deep = items.deep reader s well i x item in
       let more : up.steps + 1 + 1 ≡ suc up.steps + 1 = omega arith in
       record {
         steps = suc up.steps;
         spec = up.spec;
         called = ap (spec_called s) spec_is ∙ up.called;
         walk = (x.of_task.within.part.net, up.walk, (x.of_task.within.net, at, x.of_task.number, x.of_task.task, of.at, child_is ∙ ap Some (sym net_is)));
-        level = subst (IsAtLevel s i) more (further i (up.steps + 1) (ap (λ o. is_some_and o is_composite) item ∙ composite) up.level);
+        level = level_nested s i (omega (arith, deep)) (ap (λ o. is_some_and o is_composite) item ∙ composite) ∙ ap (λ l. l + 1) up.level ∙ more;
       }
 
   level_within : (m : ℕ) (i : Ident) (w : NetAt) → length i ≤ m → net_at s i ≡ Some w → Level s i w
@@ -110,5 +111,5 @@ module _ (reader : Reader) (s : State) (well : IsWell reader s) where
       let of = tasks.of_spec s i w net in
       let same : there.spec ≡ of.spec = some_same there.spec of.spec (sym there.called ∙ of.called) in
       let few = (tasks.net_sound reader sound s well i w net).level w.part.net there.steps of.at (subst (λ (sp : Spec). WalkAlong (HasChild sp) sp.top w.part.net there.steps) same there.walk) in
-      let fits = well.depth i part (there.steps + 1) part_is there.level in
+      let fits = subst (λ l. length i ≤ 30 + l) there.level (well.depth i part part_is) in
       omega (arith, few, fits)

@@ -1,5 +1,5 @@
 -- A net goes on with other values or other tokens: what is well stays well.
-use Rattle.std.specs.Prelude.{◌≡◌, ◌≤◌, ℕ, ◌&&◌, ◌||◌, ◌==◌, Bool, true, false, not, List, length, Option, Some, None, is_some, option_map, option_and_then, refl, slice_get, nat_lt, if◌then◌else◌}
+use Rattle.std.specs.Prelude.{◌≡◌, ◌≤◌, ℕ, ◌&&◌, ◌||◌, ◌==◌, Bool, true, false, List, length, Option, Some, None, is_some, option_map, option_and_then, refl, slice_get, nat_lt, if◌then◌else◌}
 use Rattle.std.specs.Ordering.{eq_by_cmp}
 use Rattle.std.specs.Str.{bytes_eq}
 use Rattle.std.proofs.Common.{sym, ◌∙◌, ap, subst}
@@ -7,22 +7,23 @@ use Rattle.yw_spec.specs.declared.spec.Net.{Net}
 use Rattle.yw_spec.specs.declared.spec.Spec.{Spec}
 use Rattle.yw_spec.specs.declared.task.Task.{Task}
 use Rattle.yw_invariant.proofs.Turning.{same_option}
-use Rattle.yw_state.proofs.Alike.{asked_of, due_test, has_part, item_in, net_by}
-use Rattle.yw_state.proofs.ChangeWell.{passed_before, read_kept}
+use Rattle.yw_state.proofs.Alike.{asked_of, due_test, item_in, net_by}
+use Rattle.yw_state.proofs.ChangeWell.{read_kept}
 use Rattle.yw_state.proofs.EntryCounts.{length-update}
-use Rattle.yw_state.proofs.MapLemmas.{by_name, by_test, get-update_other, get-update_same, never, tied, tied_self, update_stands}
+use Rattle.yw_state.proofs.MapLemmas.{by_name, by_test, get-update_other, never, tied, tied_self}
 use Rattle.yw_state.proofs.Tests.{map_some}
+use Rattle.yw_state.proofs.NetLevels.{deep_alike}
+use Rattle.yw_state.proofs.Unchanged.{content_stays}
+use Rattle.yw_state.proofs.Updated.{made_here, marks_kept, numbers_kept, parents_kept, some_mapped, stands_right}
 use Rattle.yw_state.specs.After.{change, with_net}
 use Rattle.yw_state.specs.Identity.{Ident, is_case_ident, parent}
 use Rattle.yw_state.specs.Judged.{has_rule, rules_at}
 use Rattle.yw_state.specs.Map.{get, lexical, update}
 use Rattle.yw_state.specs.Nets.{child_net}
 use Rattle.yw_state.specs.Options.{is_some_and}
-use Rattle.yw_state.specs.RuleTree.{TreeRule}
 use Rattle.yw_state.specs.State.{State, Site, Sites, NetPart, ItemPart, ItemAt, NetAt, TaskAt, due_at, is_target, item_at, item_of_task, item_part, items_of, net_at, net_part, run_part, spec_called}
 use Rattle.yw_state.specs.Texts.{Reader}
-use Rattle.yw_state.specs.Well.{NumbersFit, NetsStand, ParentsStand, MarksStand, ContentFits, IsWell, ItemFits, NetFits, RulesFit, IsAtLevel, is_child_of, is_composite, is_top, item_limit, wants_net}
-use Rattle.yw_state.specs.Well.IsAtLevel.{first, further}
+use Rattle.yw_state.specs.Well.{NetsStand, MarksStand, ContentFits, IsWell, ItemFits, NetFits, Stands, is_child_of, is_composite, is_top, item_limit, wants_net}
 use Rattle.yw_state.specs.Words.{has_check, is_ready}
 use Rattle.yw_state.specs.declared.tree.TreeKind.{TreeKind}
 use Rattle.yw_state.specs.declared.tree.TreeKind.TheVariants.{Select}
@@ -38,10 +39,6 @@ moved g x = record x { of_task = record x.of_task { within = rebased g x.of_task
 pub record KeepsNet (f : NetPart → NetPart) : Type 0 where
   pub spec : (n : NetPart) → (f n).spec ≡ n.spec
   pub net : (n : NetPart) → (f n).net ≡ n.net
-
-some_mapped : {A : Type 0} (m : A → A) (o : Option A) → is_some (option_map m o) ≡ is_some o
-some_mapped m None = refl
-some_mapped m (Some x) = refl
 
 module _ (s : State) (g : NetPart → NetPart) (keeps : KeepsNet g) where
   abbrev found_by : NetPart → Option Net → Option NetAt
@@ -121,18 +118,13 @@ module _ (s : State) (i : Ident) (f : NetPart → NetPart) (keeps : KeepsNet f) 
     | false ↦ record { spec = λ n. refl; net = λ n. refl }
   ]
 
-  mapped_net : (o : Option Site) → option_and_then (λ (x : Site). x.net) (option_map (with_net f) o) ≡ option_map f (option_and_then (λ (x : Site). x.net) o)
-  mapped_net None = refl
-  mapped_net (Some x) = refl
-
   net_now : (k : Ident) → net_part t k ≡ option_map (goes k) (net_part s k)
   net_now k =
       by_test (eq_by_cmp lexical k i)
       (λ e.
       let here = tied by_name k i e in
       ap (net_part t) here
-      ∙ ap (option_and_then (λ (x : Site). x.net)) (get-update_same by_name s.sites i (with_net f))
-      ∙ mapped_net (get s.sites i)
+      ∙ made_here s i (with_net f) (λ x. x.net) f (λ x. refl)
       ∙ ap (λ j. option_map f (net_part s j)) (sym here)
       ∙ ap (λ b. option_map (chosen b) (net_part s k)) (sym e))
       (λ e.
@@ -191,25 +183,12 @@ module _ (s : State) (i : Ident) (f : NetPart → NetPart) (keeps : KeepsNet f) 
 
   -- ---- the parts
 
-  numbers_kept : NumbersFit s → NumbersFit t
-  numbers_kept numbers =
-      record {
-        least = numbers.least;
-        most = numbers.most;
-        identities = λ k y e. let x = update_stands by_name s.sites i (with_net f) k y e in numbers.identities k x.0 x.1;
-        drawn = λ k y e. let x = update_stands by_name s.sites i (with_net f) k y e in numbers.drawn k x.0 x.1;
-        ended_some = numbers.ended_some;
-        ended_drawn = numbers.ended_drawn;
-        over = λ k y e. let x = update_stands by_name s.sites i (with_net f) k y e in numbers.over k x.0 x.1;
-      }
-
   top_kept : (k : Ident) (m n : NetPart) → goes k m ≡ n → is_top s n ≡ is_top s m
   top_kept k m n is = ap (is_top s) (sym is) ∙ top_same s (goes k) (goes_keeps k) m
 
-  right_kept : (k : Ident) (m n : NetPart) (y x : ItemAt) → goes k m ≡ n → moved (goes (parent k)) y ≡ x
-      → (wants_net x && (if is_composite x then is_child_of x n else is_top s n)) ≡ (wants_net y && (if is_composite y then is_child_of y m else is_top s m))
+  right_kept : (k : Ident) (m n : NetPart) (y x : ItemAt) → goes k m ≡ n → moved (goes (parent k)) y ≡ x → stands_right s n x ≡ stands_right s m y
   right_kept k m n y x is was =
-      ap (λ z. wants_net z && (if is_composite z then is_child_of z n else is_top s n)) (sym was)
+      ap (stands_right s n) (sym was)
       ∙ ap (λ b. wants_net y && (if is_composite y then b else is_top s n)) (child_of_moved s (goes (parent k)) (goes_keeps (parent k)) y n ∙ ap (is_child_of y) (sym is) ∙ child_same s (goes k) (goes_keeps k) y m)
       ∙ ap (λ b. wants_net y && (if is_composite y then is_child_of y m else b)) (top_kept k m n is)
 
@@ -235,43 +214,16 @@ module _ (s : State) (i : Ident) (f : NetPart → NetPart) (keeps : KeepsNet f) 
         run_has = λ k r e waits. has_net_same k ∙ nets.run_has k r (sym (run_same k) ∙ e) waits;
       }
 
-  parents_kept : ParentsStand s → ParentsStand t
-  parents_kept parents =
-      record {
-        item_depth = λ k x e. parents.item_depth k x (sym (part_same k) ∙ e);
-        item_of_net = λ k x e. has_item_same k ∙ parents.item_of_net k x (sym (part_same k) ∙ e);
-        run_depth = λ k r e. parents.run_depth k r (sym (run_same k) ∙ e);
-        run_of_target = λ k r e. target_same (parent k) ∙ parents.run_of_target k r (sym (run_same k) ∙ e);
-        run_works = λ k r e. parents.run_works k r (sym (run_same k) ∙ e);
-        one_run = λ k l a b. parents.one_run k l (ap is_some (sym (run_same k)) ∙ a) (ap is_some (sym (run_same l)) ∙ b);
-        not_both = λ k a. ap is_some (run_same k) ∙ parents.not_both k (ap is_some (sym (part_same k)) ∙ a);
-        something = λ k y e.
-            let x = update_stands by_name s.sites i (with_net f) k y e in
-            sym (ap has_part e)
-            ∙ ap (λ b. b || is_some (item_part t k) || is_some (run_part t k)) (has_net_same k)
-            ∙ ap (λ o. is_some (net_part s k) || is_some o || is_some (run_part t k)) (part_same k)
-            ∙ ap (λ o. is_some (net_part s k) || is_some (item_part s k) || is_some o) (run_same k)
-            ∙ ap has_part x.1
-            ∙ parents.something k x.0 x.1;
-      }
-
-  marks_kept : MarksStand s → MarksStand t
-  marks_kept marks =
-      record {
-        suspended = λ k e.
-            target_same k
-            ∙ passed_before s i (with_net f) (λ x. x.suspended) (λ j. is_target s j ≡ true) (λ x stands d. marks.suspended i (ap (λ o. is_some_and o (λ (y : Site). y.suspended)) stands ∙ d)) marks.suspended k e;
-        due = λ k kind e. target_same k ∙ marks.due k kind (due_before k kind e);
-        due_has_rule = λ k kind e. has_rule_same k kind ∙ marks.due_has_rule k kind (due_before k kind e);
-        select = λ k e. ap (λ o. is_some_and o (λ (y : ItemPart). is_ready y.stage)) (part_same k) ∙ marks.select k (due_before k Select e);
-      }
+  same_marks : MarksStand s → MarksStand t
+  same_marks marks =
+      marks_kept s i (with_net f) target_same has_rule_same
+      (λ x stands d. marks.suspended i (ap (λ o. is_some_and o (λ (y : Site). y.suspended)) stands ∙ d))
+      (λ x stands kind d. let due = due_before x stands kind d in (marks.due i kind due, marks.due_has_rule i kind due))
+      (λ x stands d. ap (λ o. is_some_and (option_and_then (λ (y : Site). y.item) o) (λ (y : ItemPart). is_ready y.stage)) (sym stands) ∙ marks.select i (due_before x stands Select d))
+      marks
     where
-      due_before : (k : Ident) (kind : TreeKind) → has_check (due_at t k) kind ≡ true → has_check (due_at s k) kind ≡ true
-      due_before k kind e =
-          passed_before s i (with_net f) (λ x. has_check x.due kind) (λ j. has_check (due_at s j) kind ≡ true)
-          (λ x stands d. due_test kind (get s.sites i) ∙ ap (λ o. is_some_and o (λ (y : Site). has_check y.due kind)) stands ∙ d)
-          (λ j d. due_test kind (get s.sites j) ∙ d)
-          k (sym (due_test kind (get t.sites k)) ∙ e)
+      due_before : (x : Site) → Stands s i x → (kind : TreeKind) → has_check x.due kind ≡ true → has_check (due_at s i) kind ≡ true
+      due_before x stands kind d = due_test kind (get s.sites i) ∙ ap (λ o. is_some_and o (λ (y : Site). has_check y.due kind)) stands ∙ d
 
   nested_same : (k : Ident) → is_some_and (item_at t k) is_composite ≡ is_some_and (item_at s k) is_composite
   nested_same = item_test_same (λ o. is_some_and o is_composite) kept
@@ -279,10 +231,6 @@ module _ (s : State) (i : Ident) (f : NetPart → NetPart) (keeps : KeepsNet f) 
       kept : (g : NetPart → NetPart) (o : Option ItemAt) → is_some_and (option_map (moved g) o) is_composite ≡ is_some_and o is_composite
       kept g None = refl
       kept g (Some x) = refl
-
-  level_before : {k : Ident} {l : ℕ} → IsAtLevel t k l → IsAtLevel s k l
-  level_before (first k level) = first k (ap not (sym (nested_same k)) ∙ level)
-  level_before (further k l nested level) = further k l (sym (nested_same k) ∙ nested) (level_before level)
 
   fits_now : (k : Ident) (m : NetAt) → NetFits m → net_at s k ≡ Some m → NetFits (rebased (goes k) m)
   fits_now k m fit some =
@@ -296,10 +244,7 @@ module _ (s : State) (i : Ident) (f : NetPart → NetPart) (keeps : KeepsNet f) 
 
   content_kept : (reader : Reader) → ContentFits reader s → ContentFits reader t
   content_kept reader content =
-      record {
-        spec_text = content.spec_text;
-        spec_name = content.spec_name;
-        person = content.person;
+      content_stays reader s sites s.next s.ended content (record {
         of_spec = λ k n e.
             let (m, some, is) = net_before k n e in
             ap is_some (net_at_now k) ∙ some_mapped (rebased (goes k)) (net_at s k) ∙ content.of_spec k m some;
@@ -310,33 +255,17 @@ module _ (s : State) (i : Ident) (f : NetPart → NetPart) (keeps : KeepsNet f) 
             subst (λ count. count ≤ item_limit task.many) (sym (count_same k number)) (content.count k m number task some (ap (λ (x : NetAt). slice_get x.net.tasks number) is ∙ d));
         run_length = λ k r e. content.run_length k r (sym (run_same k) ∙ e);
         run_fit = λ k r e. content.run_fit k r (sym (run_same k) ∙ e);
-        rules = λ key rs e. same_rules key rs (content.rules key rs e);
-      }
-    where
-      same_rules : (key : List (List ℕ)) (rs : List TreeRule) → RulesFit reader s key rs → RulesFit reader t key rs
-      same_rules key rs fit =
-          record {
-            place = fit.place;
-            spec = fit.spec;
-            here = fit.here;
-            of_spec = fit.of_spec;
-            is_place = fit.is_place;
-            some = fit.some;
-            most = fit.most;
-            free = fit.free;
-            conclude = fit.conclude;
-            spelt = fit.spelt;
-          }
+      })
 
   pub goes_on_is_well : (reader : Reader) → IsWell reader s → IsWell reader t
   goes_on_is_well reader well =
       record {
-        numbers = numbers_kept well.numbers;
+        numbers = numbers_kept s i (with_net f) well.numbers;
         nets = nets_kept well.nets;
-        parents = parents_kept well.parents;
-        marks = marks_kept well.marks;
+        parents = parents_kept s i (with_net f) has_net_same (λ k. ap is_some (part_same k)) has_item_same run_same target_same well.parents;
+        marks = same_marks well.marks;
         content = content_kept reader well.content;
-        depth = λ k n l e level. let (m, some, is) = net_before k n e in well.depth k m l some (level_before level);
+        depth = λ k n e. let (m, some, is) = net_before k n e in deep_alike s t nested_same k (well.depth k m some);
       }
 
   -- the net at i is the one before, gone on

@@ -15,8 +15,9 @@ use Rattle.yw_invariant.proofs.Values.{GivesSmall, first_values_fit, given_small
 use Rattle.yw_sound.specs.Sound.{IsSound, ReadsSound, begins_right}
 use Rattle.yw_state.proofs.Alike.{item_in, net_by, net_in}
 use Rattle.yw_state.proofs.Clear.{none_due}
-use Rattle.yw_state.proofs.ItemWell.{renewed}
 use Rattle.yw_state.proofs.MapLemmas.{by_option, never, nowhere, some_same}
+use Rattle.yw_state.proofs.NetLevels.{level_nested}
+use Rattle.yw_state.proofs.Updated.{renewed}
 use Rattle.yw_state.specs.After.{begin_at, begun, new_net, stands, start_sub, where_some, with_item}
 use Rattle.yw_state.specs.Allowed.{Allowed, allows, most_tokens}
 use Rattle.yw_state.specs.ByName.{Valuation, first_values, given_named}
@@ -27,8 +28,7 @@ use Rattle.yw_state.specs.Nets.{child_net}
 use Rattle.yw_state.specs.Options.{is_some_and}
 use Rattle.yw_state.specs.State.{State, Site, NetPart, ItemPart, ItemAt, item_at, item_part, net_part, run_part, spec_called}
 use Rattle.yw_state.specs.Texts.{Reader, Said}
-use Rattle.yw_state.specs.Well.{IsWell, ItemFits, NetFits, IsAtLevel, is_child_of, is_composite, is_top, wants_net}
-use Rattle.yw_state.specs.Well.IsAtLevel.{first, further}
+use Rattle.yw_state.specs.Well.{IsWell, ItemFits, NetFits, is_child_of, is_composite, is_top, net_level, wants_net}
 use Rattle.yw_state.specs.Words.{busy, clear, is_ready}
 use Rattle.yw_state.specs.declared.event.Event.TheVariants as events
 use Rattle.yw_state.specs.declared.loaded.Loaded.{Loaded}
@@ -37,14 +37,6 @@ use Rattle.yw_state.specs.declared.tree.TreeKind.TheVariants.{Select}
 no_item : (part : Option ItemPart) → item_in part None ≡ None
 no_item None = refl
 no_item (Some x) = refl
-
--- the child net of an item is one level below the item's own, and its identity one number longer
-one_level_more : (s : State) {j : Ident} {l : ℕ} → IsAtLevel s j l → is_some_and (item_at s j) is_composite ≡ true → ((n : ℕ) → IsAtLevel s (parent j) n → length (parent j) ≤ 30 + n) → 1 ≤ length j → length j ≤ 30 + l
-one_level_more s (first j outer) nested above some = never (sym (ap not nested) ∙ outer)
-one_level_more s (further j n nested level) is_nested above some =
-    let up = above n level in
-    let longer = shorter j some in
-    omega (arith, up, longer)
 
 -- a new net fits that begins with values that fit
 pub new_net_fits : (name : List ℕ) (k : ℕ) (net : Net) (source : Valuation) → GivesSmall source → begins_right net ≡ true → NetFits (record { part = new_net name k net (first_values source net); net = net })
@@ -71,9 +63,13 @@ module _ (reader : Reader) (sound : ReadsSound reader) (s : State) (well : IsWel
         (λ n some. (n, some))
 
     -- the net of which the item is stands one level above
-    not_too_deep : (l : ℕ) → IsAtLevel s j l → length j ≤ 30 + l
-    not_too_deep l level =
-        one_level_more s level (ap (λ o. is_some_and o is_composite) item ∙ composite) (λ n above. well.depth (parent j) net_above.0 n net_above.1 above) (let deep = items.deep reader s well j x item in omega (arith, deep))
+    not_too_deep : length j ≤ 30 + net_level s j
+    not_too_deep =
+        let (n, net) = net_above in
+        let deep = items.deep reader s well j x item in
+        let longer = shorter j (omega (arith, deep)) in
+        let up = well.depth (parent j) n net in
+        subst (λ l. length j ≤ 30 + l) (sym (level_nested s j (omega (arith, deep)) (ap (λ o. is_some_and o is_composite) item ∙ composite))) (omega (arith, up, longer))
 
     module _ (spec : Spec) (k : ℕ) (net : Net) (called : spec_called s x.of_task.within.part.spec ≡ Some spec) (child : child_net x.of_task.task ≡ Some k) (at : slice_get spec.nets k ≡ Some net) where
       abbrev child_part : NetPart

@@ -12,10 +12,10 @@ use Rattle.yw_invariant.proofs.Places.{deep_is_no_case, not_under_itself, stays_
 use Rattle.yw_invariant.proofs.Values.{worklet_fits}
 use Rattle.yw_state.proofs.Alike.{due_test, item_in, net_by}
 use Rattle.yw_state.proofs.Clear.{none_due}
-use Rattle.yw_state.proofs.ItemWell.{renewed}
 use Rattle.yw_state.proofs.MapLemmas.{by_name, by_option, by_test, get-remove_other, get-remove_same, get-retain, get-retain_gone, get-retain_kept, get-update_other, get-update_same, never, nowhere, same_map, some_same, tied, tied_self}
 use Rattle.yw_state.proofs.MarksWell.{item_due_is_well}
 use Rattle.yw_state.proofs.RetainWell.{retained_is_well}
+use Rattle.yw_state.proofs.Updated.{renewed}
 use Rattle.yw_state.specs.After.{change, complete, completed, end_net, make_due, where_some, with_item, with_run, with_sites}
 use Rattle.yw_state.specs.Allowed.{Allowed, allows}
 use Rattle.yw_state.specs.ByName.{made_by_worklet}

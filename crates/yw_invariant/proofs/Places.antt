@@ -6,12 +6,8 @@ use Rattle.std.proofs.lemmas.Slice.Eq.{bytes_eq-Decides}
 use Rattle.yw_base.specs.Identity.{under}
 use Rattle.yw_state.proofs.MapLemmas.{never}
 use Rattle.yw_state.proofs.Under as below
+pub use Rattle.yw_state.proofs.Under.{shorter}
 use Rattle.yw_state.specs.Identity.{Ident, case_ident, case_number, is_case_ident, is_child, parent, same, strictly_under}
-
-pub shorter : (k : Ident) → 1 ≤ length k → length k ≡ length (parent k) + 1
-shorter [] some = absurd (omega arith)
-shorter (x ∷ []) some = refl
-shorter (x ∷ y ∷ ys) some = let rest = shorter (y ∷ ys) (omega arith) in omega (arith, rest)
 
 pub under_parent : (k : Ident) → under k (parent k) ≡ true
 under_parent [] = refl

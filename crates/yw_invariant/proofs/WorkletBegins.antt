@@ -4,7 +4,7 @@ use Rattle.std.proofs.Common.{sym, ◌∙◌, ap, subst, arith}
 use Rattle.std.proofs.lemmas.Bool.{and_from, and_parts, eq-eqb, ltb-true, or_left, or_right}
 use Rattle.yw_spec.specs.declared.spec.Net.{Net}
 use Rattle.yw_spec.specs.declared.spec.Spec.{Spec}
-use Rattle.yw_invariant.proofs.CompensationBegins.{level_counts}
+use Rattle.yw_state.proofs.NetLevels.{level_counts}
 use Rattle.yw_invariant.proofs.NetsBegin.{loaded_sound, new_net_fits}
 use Rattle.yw_invariant.proofs.Places.{deep_is_no_case}
 use Rattle.yw_invariant.proofs.ReadyItems as items
@@ -14,10 +14,10 @@ use Rattle.yw_invariant.proofs.Values.{given_small}
 use Rattle.yw_sound.specs.Sound.{ReadsSound}
 use Rattle.yw_state.proofs.Absent.{part-kept}
 use Rattle.yw_state.proofs.Alike.{due_test, item_in, net_by, net_in}
-use Rattle.yw_state.proofs.ItemWell.{renewed}
 use Rattle.yw_state.proofs.MapLemmas.{by_name, by_option, get-update_same, never, nowhere, some_same}
 use Rattle.yw_state.proofs.MarksWell.{pass_is_well}
 use Rattle.yw_state.proofs.Tests.{there_and}
+use Rattle.yw_state.proofs.Updated.{renewed}
 use Rattle.yw_state.specs.After.{begin_at, begun, new_net, pass, stands, substitute, where_some, with_item, without_check}
 use Rattle.yw_state.specs.Allowed.{Allowed, allows, comes_next, depth_end}
 use Rattle.yw_state.specs.ByName.{first_values, given_named}
@@ -96,7 +96,7 @@ module _ (reader : Reader) (sound : ReadsSound reader) (s : State) (well : IsWel
               ∙ ap (λ o. is_some_and o (λ (other : Spec). spec.top == other.top)) called
               ∙ eq-eqb spec.top spec.top refl);
           of_run = λ r e. nowhere (sym (items.no_run reader passed passed_is_well j x item_now) ∙ e);
-          deep = λ l level. let some = level_counts passed level in omega (arith, some, short);
+          deep = let some = level_counts passed j in omega (arith, some, short);
         }
 
     substitutes : Turns passed j (Some part) begins_there (begun None) (λ r. r)

@@ -5,7 +5,7 @@ use Rattle.std.proofs.lemmas.Bool.{eqb-true, eqb-false}
 use Rattle.yw_outside.specs.Image.{Holds, Torn}
 use Rattle.yw_journal.specs.Records.{IsFrame, AreOpen, IsAt, HasRecords, IsFramed}
 
-AreOpen-push : (opened : List ℕ) (records : List (List ℕ)) (frame bytes : List ℕ) → AreOpen opened records → IsFrame frame bytes → AreOpen (opened ++ 1 ∷ frame) (records ++ bytes ∷ [])
+pub AreOpen-push : (opened : List ℕ) (records : List (List ℕ)) (frame bytes : List ℕ) → AreOpen opened records → IsFrame frame bytes → AreOpen (opened ++ 1 ∷ frame) (records ++ bytes ∷ [])
 AreOpen-push opened [] frame bytes are is =
     (frame, [], ap (λ (l : List ℕ). l ++ 1 ∷ frame) are ∙ ap (λ (l : List ℕ). 1 ∷ l) (sym (append-nil frame)), is, refl)
 AreOpen-push opened (r ∷ rs) frame bytes are is = (
@@ -52,10 +52,6 @@ module _ (head : List ℕ) (records : List (List ℕ)) (bytes : List ℕ) (end :
         ∙ append_assoc ((head ++ at.opened) ++ at.gate ∷ []) framed (drop (end + length framed) file)
         ∙ append_assoc (head ++ at.opened) (at.gate ∷ []) (framed ++ drop (end + length framed) file),
   )
-
-  -- with whatever byte in the gate's place
-  gated : ℕ → List ℕ → List ℕ
-  gated g behind = (head ++ at.opened) ++ g ∷ (framed ++ behind)
 
   opened_is : (behind : List ℕ) (c : List ℕ) → c ≡ (head ++ at.opened) ++ 1 ∷ (framed ++ behind) → IsAt head (records ++ bytes ∷ []) (end + length framed) c
   opened_is behind c e = record {

@@ -76,7 +76,7 @@ IsOpenOrEmpty file = (length file ≡ 0) ⊎ (slice_index file 0 ≡ 1)
 abbrev pub IsShut : List ℕ → Type 0
 IsShut file = (1 ≤ length file) × (slice_index file 0 ≢ 1)
 
--- with these bytes the file would end at n, past the limit
+-- put at `end`, these bytes would end at n, past the limit
 abbrev pub HasNoRoom : ℕ → ℕ → List ℕ → ℕ → Type 0
 HasNoRoom limit end framed n = (n ≡ end + length framed) × (limit < n)
 

@@ -101,7 +101,7 @@ impl Journal {
     /// gate) and no record. Its gate is opened last, when all after it is on the disk. A crash at any moment
     /// leaves what the other file holds, or the new file whole, and after `Ok` it leaves the new one. Of what this
     /// file held before only bytes past the snapshot's gate stay, as they were, and they are no part of its content.
-    /// `Full` comes exactly where the file would be longer than the limit, before any call of the desk;
+    /// `Full` comes exactly where the snapshot would end past the limit, before any call of the desk;
     /// `Disk` only where a call of the files failed. It takes no memory.
     pub fn make<D: Desk>(
         desk: &mut D,

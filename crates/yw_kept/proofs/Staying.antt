@@ -32,7 +32,7 @@ use Rattle.yw_state.specs.declared.event.Event.TheVariants as events
 use Rattle.yw_state.specs.declared.tree.Primitive.{Primitive}
 use Rattle.yw_state.specs.declared.tree.Primitive.TheVariants.{SuspendItem, ContinueItem, RestartItem, CompleteItem, RemoveItem, SuspendCase, ContinueCase, RemoveCase, Compensate, Unknown}
 use Rattle.yw_state.specs.declared.tree.TreeKind.TheVariants.{Post}
-use Rattle.yw_kept.specs.Kept.{is_done_at, may_remove}
+use Rattle.yw_kept.specs.Kept.{is_changed, is_done_at, may_remove}
 
 -- the same stands at k
 abbrev Same : Ident → State → State → Type 0
@@ -165,34 +165,34 @@ module _ (k : Ident) where
   cut_back-same : (s : State) (r j : Ident) (f : ItemPart → ItemPart) → same k j ≡ false → (strictly_under k j && not (same k r)) ≡ false → Same k s (cut_back s r j f)
   cut_back-same s r j f other out = change-same (with_sites s (bare_but s.sites j r)) j _ other ∙ bare_but-same s.sites j r other out
 
-  primitive-same : (s : State) (r : Ident) (p : Primitive) → same k r ≡ false → same k (parent r) ≡ false → same k (case_above r) ≡ false → primitive_removes s r k p ≡ false → Same k s (primitive s r (parent r) p)
-  primitive-same s r SuspendItem run item case out = change-same s (parent r) _ item
-  primitive-same s r ContinueItem run item case out = change-same s (parent r) _ item
-  primitive-same s r RestartItem run item case out = some-same (item_at s (parent r)) s _ (λ x is.
+  primitive-same : (s : State) (r : Ident) (p : Primitive) → same k r ≡ false → is_changed r p k ≡ false → primitive_removes s r k p ≡ false → Same k s (primitive s r (parent r) p)
+  primitive-same s r SuspendItem run other out = change-same s (parent r) _ other
+  primitive-same s r ContinueItem run other out = change-same s (parent r) _ other
+  primitive-same s r RestartItem run other out = some-same (item_at s (parent r)) s _ (λ x is.
       let cut : cut_back_removes r k ≡ false = sym (ap (λ (o : Option ItemAt). is_some o && cut_back_removes r k) is) ∙ out in
-      let back = cut_back-same s r (parent r) restarted item cut in
-      either-same _ s _ _ (change-same (cut_back s r (parent r) restarted) (parent r) _ item ∙ back) back)
-  primitive-same s r CompleteItem run item case out = some-same (item_at s (parent r)) s _ (λ x is.
+      let back = cut_back-same s r (parent r) restarted other cut in
+      either-same _ s _ _ (change-same (cut_back s r (parent r) restarted) (parent r) _ other ∙ back) back)
+  primitive-same s r CompleteItem run other out = some-same (item_at s (parent r)) s _ (λ x is.
       let cut : (not (is_completed x.part.stage) && cut_back_removes r k) ≡ false = sym (ap (λ (o : Option ItemAt). is_some_and o (λ y. not (is_completed y.part.stage)) && cut_back_removes r k) is) ∙ out in
       by_test (is_completed x.part.stage)
       (λ over. ap (λ b. get (if b then s else cut_back s r (parent r) (completed (made_of_given x))).sites k) over)
       (λ on. ap (λ b. get (if b then s else cut_back s r (parent r) (completed (made_of_given x))).sites k) on
-      ∙ cut_back-same s r (parent r) (completed (made_of_given x)) item (sym (ap (λ b. not b && cut_back_removes r k) on) ∙ cut)))
-  primitive-same s r RemoveItem run item case out = drop-same s.sites (parent r) out
-  primitive-same s r SuspendCase run item case out = change-same s (case_above r) _ case
-  primitive-same s r ContinueCase run item case out = change-same s (case_above r) _ case
-  primitive-same s r RemoveCase run item case out = drop-same s.sites (case_above r) out
-  primitive-same s r (Compensate name) run item case out = either-same _ s _ s (spec-same s name _ (λ spec net. change-same s r _ run)) refl
-  primitive-same s r (Unknown text) run item case out = refl
+      ∙ cut_back-same s r (parent r) (completed (made_of_given x)) other (sym (ap (λ b. not b && cut_back_removes r k) on) ∙ cut)))
+  primitive-same s r RemoveItem run other out = drop-same s.sites (parent r) out
+  primitive-same s r SuspendCase run other out = change-same s (case_above r) _ other
+  primitive-same s r ContinueCase run other out = change-same s (case_above r) _ other
+  primitive-same s r RemoveCase run other out = drop-same s.sites (case_above r) out
+  primitive-same s r (Compensate name) run other out = either-same _ s _ s (spec-same s name _ (λ spec net. change-same s r _ run)) refl
+  primitive-same s r (Unknown text) run other out = refl
 
   same_removes : (s : State) (r : Ident) (p : Primitive) → primitive_removes (taken s r) r k p ≡ primitive_removes s r k p
   same_removes s r RestartItem = ap (λ (o : Option ItemAt). is_some o && cut_back_removes r k) (same_item_at s r (parent r))
   same_removes s r CompleteItem = ap (λ (o : Option ItemAt). is_some_and o (λ x. not (is_completed x.part.stage)) && cut_back_removes r k) (same_item_at s r (parent r))
   same_removes s r p = refl
 
-  taken-same : (s : State) (r : Ident) (p : Primitive) → same k r ≡ false → same k (parent r) ≡ false → same k (case_above r) ≡ false → primitive_removes s r k p ≡ false → Same k s (take_primitive s r p)
-  taken-same s r p run item case out =
-      over-same (primitive (taken s r) r (parent r) p) r run ∙ primitive-same (taken s r) r p run item case (same_removes s r p ∙ out) ∙ change-same s r _ run
+  taken-same : (s : State) (r : Ident) (p : Primitive) → same k r ≡ false → is_changed r p k ≡ false → primitive_removes s r k p ≡ false → Same k s (take_primitive s r p)
+  taken-same s r p run other out =
+      over-same (primitive (taken s r) r (parent r) p) r run ∙ primitive-same (taken s r) r p run other (same_removes s r p ∙ out) ∙ change-same s r _ run
 
   -- ---- the law
 
@@ -204,9 +204,6 @@ module _ (k : Ident) where
   others_stay s (events.Cancel n) said may out other = drop-same s.sites (case_ident n) out
   others_stay s (events.CompleteSub j) said may out other = ended-same s j made_by_child other out
   others_stay s (events.CompleteWorklet j) said may out other = ended-same s j made_by_worklet other out
-  others_stay s (events.Prim r p) said may out other =
-      let parts = or_parts (same k r || same k (parent r)) (same k (case_above r)) other in
-      let both = or_parts (same k r) (same k (parent r)) parts.0 in
-      taken-same s r p both.0 both.1 parts.1 out
+  others_stay s (events.Prim r p) said may out other = let parts = or_parts (same k r) (is_changed r p k) other in taken-same s r p parts.0 parts.1 out
   others_stay s (events.Compensated r) said may out other = compensated-same s r other out
   others_stay s e said may out other = never may

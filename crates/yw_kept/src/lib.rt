@@ -12,7 +12,7 @@ ghost use Rattle.yw_state.specs.Texts.{Said};
 ghost use Rattle.yw_state.specs.declared.event.Event.{Event};
 
 /// Behind an event that may remove something, each identity has what it had, but for those that are removed and those at which the event is done: the net
-/// that is left, the item whose net is at its end, the run, and the item and the case of the run.
+/// that is left, the item whose net is at its end, the run, and the item or the case that a primitive of the run suspends, continues, restarts or completes.
 pub fn others_stay()
     ensures { (s : State) (e : Event) (said : Said) (k : Ident) → may_remove e ≡ true → removes s e k ≡ false → is_done_at e k ≡ false → get (after s e said).sites k ≡ get s.sites k }
 {}

@@ -1,15 +1,15 @@
 -- What is kept beside the specifications, with one more of them.
-use Rattle.std.proofs.Common.{List, None, Some, [], ap, arith, inl, inr, length, length-append, map, subst, sym, ℕ, ◌++◌, ◌∙◌, ◌∷◌, ◌≡◌, ◌⊎◌}
+use Rattle.std.proofs.Common.{List, None, Some, [], ap, arith, inl, inr, length, length-append, map, subst, sym, ℕ, ◌+◌, ◌++◌, ◌∙◌, ◌∷◌, ◌≡◌, ◌⊎◌}
 use Rattle.std.proofs.lemmas.List.{map-append}
 use Rattle.std.proofs.lemmas.Option.{slice_get_within}
 use Rattle.std.specs.Prelude.{All, slice_get}
 use Rattle.yw_accept.proofs.IndexLemmas.{slice_get-seam}
 use Rattle.yw_known.proofs.Lists.{at_push, not_before, not_past}
-use Rattle.yw_known.specs.Upstreams.{AreKnown, AreNamed, AreUpstreams, by_name}
+use Rattle.yw_known.specs.Upstreams.{AreKnown, AreUpstreams, HaveRows, by_name}
 use Rattle.yw_known.specs.Known.{IsKnownNet}
 use Rattle.yw_known.specs.declared.known.KnownNet.{KnownNet}
 use Rattle.yw_library.proofs.HoldingsLemmas.{all_at}
-use Rattle.yw_library.specs.Holdings.{Holdings, SaysItsText, spec_under, with_library}
+use Rattle.yw_library.specs.Holdings.{AreNamed, Holdings, SaysItsText, spec_under, with_library}
 use Rattle.yw_path.specs.Direct.{HasItsPlaces}
 use Rattle.yw_path.specs.Upstream.{IsUpstreamOf}
 use Rattle.yw_path.specs.declared.upstream.Upstream.{Upstream}
@@ -17,7 +17,7 @@ use Rattle.yw_spec.specs.declared.spec.Net.{Net}
 use Rattle.yw_spec.specs.declared.spec.Spec.{Spec}
 use Rattle.yw_state.proofs.MapEntries.{get-of_entries, of_entries-push}
 use Rattle.yw_state.proofs.MapLemmas.{by_name as order, get-insert_other, get-insert_same}
-use Rattle.yw_state.proofs.Tests.{nowhere, some_same}
+use Rattle.yw_state.proofs.Tests.{by_option, nowhere, some_same}
 use Rattle.yw_state.specs.Map.{get, insert, lexical, of_entries}
 use Rattle.yw_state.specs.declared.loaded.Loaded.{Loaded}
 use Rattle.yw_within.proofs.Finding.{after_within, before_within}
@@ -127,3 +127,34 @@ known_net known seen rows k n g text ups is are all at row of_spec up =
 pub are_named : (known : Holdings) (rows : List (List Upstream)) → AreKnown known.specs rows → AreNamed known
 unfolding with_library
 are_named known rows are = are.named
+
+-- ---- a whole library
+
+-- one row more
+pub rows-push : (specs : List Loaded) (rows : List (List Upstream)) (n : ℕ) (ups : List Upstream) → HaveRows specs rows n
+    → ((l : Loaded) → slice_get specs n ≡ Some l → IsWithin l.spec × AreUpstreams l.spec.nets ups) → HaveRows specs (rows ++ ups ∷ []) (n + 1)
+rows-push specs rows n ups have row =
+    record {
+      len = (let e = have.len in omega (arith, e, length-append rows (ups ∷ [])));
+      fit = λ k l us at there. by k l us at (at_push rows ups k us there);
+    }
+  where
+    by : (k : ℕ) (l : Loaded) (us : List Upstream) → slice_get specs k ≡ Some l → (slice_get rows k ≡ Some us) ⊎ ((k ≡ length rows) × (ups ≡ us))
+        → IsWithin l.spec × AreUpstreams l.spec.nets us
+    by k l us at (inl h) = have.fit k l us at h
+    by k l us at (inr h) =
+        let both = row l (ap (slice_get specs) (sym have.len ∙ sym h.0) ∙ at) in
+        subst (λ (z : List Upstream). IsWithin l.spec × AreUpstreams l.spec.nets z) h.1 both
+
+pub rows_known : (library : Holdings) (rows : List (List Upstream)) → HaveRows library.specs rows (length library.specs) → AreNamed library → AreKnown library.specs rows
+unfolding with_library
+rows_known library rows have named =
+    record {
+      len = have.len;
+      rows_fit = λ k l ups at row. (have.fit k l ups at row).1;
+      within = λ k l at.
+          by_option (slice_get rows k)
+          (λ none. not_before rows k none (let within = slice_get_within library.specs k l at in let e = have.len in omega arith))
+          (λ ups row. (have.fit k l ups at row).0);
+      named = named;
+    }

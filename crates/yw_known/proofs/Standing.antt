@@ -8,9 +8,8 @@ use Rattle.yw_known.specs.Held.{IsHeld}
 use Rattle.yw_known.specs.Here.{IsNetHere}
 use Rattle.yw_known.specs.Known.{IsKnownNet, net_numbered}
 use Rattle.yw_known.specs.Names.{name_in, names_of}
-use Rattle.yw_known.specs.Upstreams.{AreNamed}
+use Rattle.yw_library.specs.Holdings.{AreNamed, Holdings, IsKept, state_of, with_library}
 use Rattle.yw_known.specs.declared.here.NetHere.{NetHere}
-use Rattle.yw_library.specs.Holdings.{Holdings, IsKept, state_of, with_library}
 use Rattle.yw_nest.proofs.Known.{net_known, part_known}
 use Rattle.yw_nest.proofs.NetFound.{net_there}
 use Rattle.yw_spec.specs.declared.spec.Spec.{Spec}

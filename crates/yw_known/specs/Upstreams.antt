@@ -1,6 +1,6 @@
 -- What is kept beside the specifications. Our own.
 use Rattle.std.specs.Prelude.{◌≡◌, ◌⊎◌, ℕ, List, Some, length, map, slice_get}
-use Rattle.yw_library.specs.Holdings.{Holdings, nothing, spec_under, state_of}
+use Rattle.yw_library.specs.Holdings.{Holdings, nothing, spec_under}
 use Rattle.yw_path.specs.Upstream.{IsUpstreamOf}
 use Rattle.yw_path.specs.declared.upstream.Upstream.{Upstream}
 use Rattle.yw_spec.specs.declared.spec.Net.{Net}
@@ -24,9 +24,10 @@ pub record AreKnown (specs : List Loaded) (rows : List (List Upstream)) : Type 0
   pub within : (k : ℕ) (l : Loaded) → slice_get specs k ≡ Some l → IsWithin l.spec
   pub named : (k : ℕ) (l : Loaded) → slice_get specs k ≡ Some l → get (by_name specs) l.spec.name ≡ Some l
 
--- each specification is found under its name
-abbrev pub AreNamed : Holdings → Type 0
-AreNamed known = (k : ℕ) (l : Loaded) → slice_get known.specs k ≡ Some l → get (state_of known).specs l.spec.name ≡ Some l
+-- The first n specifications have a row each, with the upstreams of their nets, and are within.
+pub record HaveRows (specs : List Loaded) (rows : List (List Upstream)) (n : ℕ) : Type 0 where
+  pub len : length rows ≡ n
+  pub fit : (k : ℕ) (l : Loaded) (ups : List Upstream) → slice_get specs k ≡ Some l → slice_get rows k ≡ Some ups → IsWithin l.spec × AreUpstreams l.spec.nets ups
 
 -- what stays where memory lacks: all, or nothing
 abbrev pub IsAllOrNothing : Holdings → Holdings → Type 0

@@ -1,11 +1,11 @@
 // Persons, specifications, and the upstream of each net.
 ghost use Rattle.std.specs.Prelude.{◌≡◌, Option, None, Some, Ok, true, All, IfOk, OnOk, OnErr, MatchOption};
 ghost use Rattle.yw_known.specs.Known.{IsKnownNet, net_numbered};
-ghost use Rattle.yw_known.specs.Upstreams.{AreNamed, IsAllOrNothing};
+ghost use Rattle.yw_known.specs.Upstreams.{IsAllOrNothing};
 ghost use Rattle.yw_library.specs.Accepts.{Answers, IfRefused};
 ghost use Rattle.yw_library.specs.Always.{AlwaysBreaks, AlwaysLeads, IsTried};
 ghost use Rattle.yw_library.specs.Holdings as kept;
-ghost use Rattle.yw_library.specs.Holdings.{AddsSpec, IsKept, state_of, with_library, with_person};
+ghost use Rattle.yw_library.specs.Holdings.{AddsSpec, AreNamed, IsKept, state_of, with_library, with_person};
 ghost use Rattle.yw_model.specs.Texts.{reader};
 ghost use Rattle.yw_state.specs.Broken.{Breaks};
 ghost use Rattle.yw_state.specs.Events.{after};
@@ -16,7 +16,7 @@ ghost use Rattle.yw_state.specs.declared.command.Command.TheVariants as commands
 ghost use Rattle.yw_state.specs.declared.event.Event.TheVariants as events;
 ghost use Rattle.yw_state.specs.declared.rule.Refusal.{Refusal};
 
-use crate::upstreams::{UpstreamRows, keep_upstreams};
+use crate::upstreams::{UpstreamRows, keep_upstreams, rows_of};
 use std::alloc::{AllocError, Global};
 use std::marker::Model;
 use yw_base::{Items, Name, NameList};
@@ -72,6 +72,20 @@ impl Known {
             library: Library::new(alloc),
             rows: Items::new(alloc),
         }
+    }
+
+    /// What a library holds. The upstreams of its nets are made here. An `Err` says that no memory was left.
+    pub fn of(alloc: Global, library: Library) -> Result<Known, AllocError>
+        ensures { IfOk result (λ known. known ≡ library) }
+    {
+        // No work is done here: it says that specifications are found under their names.
+        library.are_named();
+        let rows = rows_of(alloc, &library)?;
+        Ok(Known {
+            alloc,
+            library,
+            rows,
+        })
     }
 
     /// The person has these roles from now on, and no others, as `Library::person` says. An `Err` says that no memory was left, and changes

@@ -1,6 +1,6 @@
 // The upstreams of the nets of specifications.
-ghost use Rattle.std.specs.Prelude.{◌≡◌, ◌++◌, ◌∷◌, [], List, None, Some, IfOk, OnOk, OnErr, slice_get};
-ghost use Rattle.yw_known.specs.Upstreams.{AreKnown, AreUpstreams, by_name};
+ghost use Rattle.std.specs.Prelude.{◌≡◌, ◌++◌, ◌∷◌, [], List, None, Some, IfOk, OnOk, OnErr, length, slice_get};
+ghost use Rattle.yw_known.specs.Upstreams.{AreKnown, AreUpstreams, HaveRows, by_name};
 ghost use Rattle.yw_library.specs.Holdings as kept;
 ghost use Rattle.yw_state.specs.Map.{get};
 ghost use Rattle.yw_state.specs.declared.loaded.Loaded.{Loaded};
@@ -39,6 +39,17 @@ fn row_of(alloc: Global, library: &Library, number: usize) -> Result<UpstreamLis
         Some(loaded) => upstreams_of(alloc, &loaded.spec),
         None => Ok(Items::new(alloc)),
     }
+}
+
+/// The upstreams of the nets of each specification of a library. An `Err` says that no memory was left.
+pub fn rows_of(alloc: Global, library: &Library) -> Result<UpstreamRows, AllocError>
+    ensures { IfOk result (λ rows. HaveRows library.now.specs rows (length library.now.specs)) }
+{
+    let mut rows = Items::new(alloc);
+    for number in 0..library.specs().len() {
+        rows.push(row_of(alloc, library, number)?)?;
+    }
+    Ok(rows)
 }
 
 /// Puts behind the rows that of the specification whose number comes next. An `Err` says that no memory was left.

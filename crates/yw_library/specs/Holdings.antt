@@ -84,3 +84,7 @@ pub record IsKept (library : Holdings) (name : List ℕ) (spec : Spec) (number :
   pub kept : get (state_of library).specs name ≡ Some (record { text = text; spec = spec })
   pub stands : slice_get library.specs number ≡ Some (record { text = text; spec = spec })
   pub accepted : IsAccepted text spec
+
+-- each specification is found under its name
+abbrev pub AreNamed : Holdings → Type 0
+AreNamed library = (k : ℕ) (l : Loaded) → slice_get library.specs k ≡ Some l → get (state_of library).specs l.spec.name ≡ Some l

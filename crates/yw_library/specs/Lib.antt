@@ -2,3 +2,5 @@ pub mod Numbers
 pub mod Accepts
 pub mod Holdings
 pub mod Always
+pub mod Ended
+pub mod Parts

@@ -13,7 +13,7 @@ ghost use Rattle.yw_model.specs.Texts.{reader};
 ghost use Rattle.yw_library.specs.Accepts.{Answers, IfRefused};
 ghost use Rattle.yw_library.specs.Always.{AlwaysBreaks, AlwaysLeads, IsTried};
 ghost use Rattle.yw_library.specs.Holdings as kept;
-ghost use Rattle.yw_library.specs.Holdings.{AddsSpec, IsFresh, IsKept, SaysItsText, person_name, spec_name, state_of, with_library, with_person, with_spec};
+ghost use Rattle.yw_library.specs.Holdings.{AddsSpec, AreNamed, IsFresh, IsKept, SaysItsText, person_name, spec_name, state_of, with_library, with_person, with_spec};
 ghost use Rattle.yw_library.specs.Numbers.{IsNumberOf, NoneNamed};
 
 use crate::accepted::{accepted, placeless};
@@ -243,6 +243,13 @@ impl Library {
             Some(person) => Some(&person.roles),
             None => None,
         }
+    }
+
+    /// Each specification is found under its name. A law: nothing is done.
+    pub fn are_named(&self)
+        ensures { AreNamed self.now }
+    {
+        let _ = &self.specs;
     }
 
     /// The persons in the order in which they came first.

@@ -82,7 +82,7 @@ fn has(engine: &Engine, persons: usize, specs: usize, next: u64) -> bool {
 }
 
 fn decides(alloc: Global) -> bool {
-    let mut engine = Engine::new(alloc);
+    let mut engine = Engine::opening(alloc);
     person_is_decided(alloc, &mut engine)
         && load_is_decided(alloc, &mut engine)
         && !load_is_decided(alloc, &mut engine)
@@ -90,7 +90,7 @@ fn decides(alloc: Global) -> bool {
 }
 
 fn applies(alloc: Global) -> bool {
-    let mut engine = Engine::new(alloc);
+    let mut engine = Engine::opening(alloc);
     person_is_applied(alloc, &mut engine) && has(&engine, 1, 0, 1)
 }
 

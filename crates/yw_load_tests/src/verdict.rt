@@ -1,7 +1,7 @@
 // What no clause says: that a call can succeed, what the lines look like, and that the definitions mean what is wanted.
 use std::alloc::{AllocError, Global};
 use yw_documents::{loan, seq};
-use yw_outside::{Fill, Image, MemDesk, MemSource, NeverDesk, NeverSource};
+use yw_outside::{Fill, Image, MemDesk, MemSource, NeverDesk, NeverSource, PIECE_BYTES};
 use yw_verdict::{Verdict, judge_input};
 
 /// The same with a condition on no path.
@@ -103,7 +103,7 @@ fn is_found(alloc: Global, bytes: &[u8], most: usize, verdict: Verdict, line: &s
 /// A text, its verdict, and the line that is said.
 fn is_found_of(alloc: Global, text: &str, verdict: Verdict, line: &str) -> bool {
     is_found(alloc, text.as_bytes(), 7, verdict, line)
-        && is_found(alloc, text.as_bytes(), 65_536, verdict, line)
+        && is_found(alloc, text.as_bytes(), PIECE_BYTES, verdict, line)
 }
 
 const V3: &str = "{\"at\":\"V3 main x\",\"ok\":false,\"rule\":\"SpecCheck\"}\n";
@@ -135,7 +135,7 @@ fn seq_with(alloc: Global, end: &[u8], length: usize) -> Result<Vec<u8>, AllocEr
 
 fn is_found_with(alloc: Global, end: &[u8], length: usize, verdict: Verdict, line: &str) -> bool {
     match seq_with(alloc, end, length) {
-        Ok(bytes) => is_found(alloc, &bytes, 65_536, verdict, line),
+        Ok(bytes) => is_found(alloc, &bytes, PIECE_BYTES, verdict, line),
         Err(AllocError) => false,
     }
 }

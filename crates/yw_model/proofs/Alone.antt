@@ -8,7 +8,6 @@ use Rattle.yw_state.specs.State.{State}
 use Rattle.yw_state.specs.Texts.{Reader}
 use Rattle.yw_state.specs.declared.command.Command.{Command}
 use Rattle.yw_state.specs.declared.event.Event.{Event}
-use Rattle.yw_model.specs.Texts.{reader}
 
 -- the one event that is asked is a legal entry, however texts are read
 pub alone_is_legal : (texts : Reader) (s : State) (c : Command) (e : Event) (t : State)
@@ -27,8 +26,3 @@ alone_is_legal texts s c e t unbroken asked none leads = record {
   is_quiet = (λ h. subst (λ (o : Option ℕ). QuietIfCase t o) (sym none) tt, λ h. refl);
   spent = λ h. cc;
 }
-
--- as they are read here
-pub legal_alone : (s : State) (c : Command) (e : Event) (t : State)
-    → Breaks reader s c None → IsAsked reader s c e → case_of e ≡ None → Leads reader s e t → IsLegal reader s c (e ∷ []) true t
-legal_alone = alone_is_legal reader

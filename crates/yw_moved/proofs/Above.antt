@@ -2,7 +2,7 @@
 use Rattle.std.specs.Prelude.{◌≡◌, ◌≤◌, ℕ, zero, suc, ◌+◌, ◌==◌, ◌&&◌, Bool, true, false, not, List, [], ◌∷◌, length, map, fold, nat_lt, Option, Some, None, option_map, option_and_then, unwrap_or, refl, if◌then◌else◌}
 use Rattle.std.specs.List.{All, list_any, range_with_len}
 use Rattle.std.proofs.Common.{sym, ◌∙◌, ap, subst, arith, inl, inr}
-use Rattle.std.proofs.lemmas.Bool.{and_from, and_right, false_from_ne_true, le-ltb}
+use Rattle.std.proofs.lemmas.Bool.{and_from, and_parts, and_right, false_from_ne_true, le-ltb}
 use Rattle.std.proofs.lemmas.List.Elements.{All-head, All-tail}
 use Rattle.std.proofs.lemmas.List.Folds.{list_all-append}
 use Rattle.yw_base.specs.Identity.{under}
@@ -15,8 +15,7 @@ use Rattle.yw_state.proofs.Absent.{part-kept}
 use Rattle.yw_state.proofs.Drawing.{first-drawn}
 use Rattle.yw_state.proofs.Elsewhere.{children}
 use Rattle.yw_state.proofs.MapLemmas.{by_name, get-retain_kept}
-use Rattle.yw_state.proofs.Parts.{first_of_both, second_of_both}
-use Rattle.yw_state.proofs.Tests.{by_test, never, or_cases, there_and}
+use Rattle.yw_state.proofs.Tests.{and_left, by_test, never, or_cases, there_and}
 use Rattle.yw_state.proofs.Under.{all_parent, under_parent}
 use Rattle.yw_state.specs.After.{change, complete, completed, enter, exit, idents, items_gone, make_due, produce, region_emptied, take, values_assigned, where_some, wipe, with_item, with_net, without_items}
 use Rattle.yw_state.specs.Allowed.{Allowed, allows, place_numbers}
@@ -137,15 +136,15 @@ no_both Completed ready runs = never ready
 -- no net stands at an item that is ready
 not_ready : (s : State) (j : Ident) (n : NetPart) (x : ItemAt) → NetsStand s → net_part s j ≡ Some n → item_at s j ≡ Some x
     → is_ready x.part.stage ≡ true → ⊥
-not_ready s j n x nets has item ready = no_both x.part.stage ready (first_of_both _ _ (first_of_both _ _ (nets.of_item j n x has item)))
+not_ready s j n x nets has item ready = no_both x.part.stage ready (and_left _ _ (and_left _ _ (nets.of_item j n x has item)))
 
 own_kind : (s : State) (e : Event) (said : Said) (j : Ident) (n : NetPart) → NetsStand s → net_part s (parent j) ≡ Some n → is_plain_event e ≡ true
     → Allowed s e said → removes s e j ≡ false → is_some_and (done_at e) (same j) ≡ false → list_any (same (parent j)) (made_by e) ≡ false
     → is_some_and (done_at e) (same (parent j)) ≡ true → kind_at (after s e said) (parent j) ≡ kind_at s (parent j)
 unfolding after allows removes
 own_kind s (events.Enter i t places first count) said j n nets has is ok stays other new here =
-    found-kind (parent j) (task_at s i t) s _ _ (second_of_both _ _ ok.0) (λ x may.
-    enter-kind (parent j) s i places first count x (first_of_both _ _ (second_of_both _ _ (first_of_both _ _ may))) new)
+    found-kind (parent j) (task_at s i t) s _ _ ((and_parts _ _ ok.0).1) (λ x may.
+    enter-kind (parent j) s i places first count x (and_left _ _ ((and_parts _ _ (and_left _ _ may)).1)) new)
 own_kind s (events.Start i who) said j n nets has is ok stays other new here = change-kind (parent j) s i _ (λ x. refl)
 own_kind s (events.Complete i out) said j n nets has is ok stays other new here =
     some-kind (parent j) (item_at s i) s _ (λ x. complete-kind (parent j) s i out x)
@@ -155,8 +154,8 @@ own_kind s (events.Exit i t places) said j n nets has is ok stays other new here
 own_kind s (events.Add i t value m) said j n nets has is ok stays other new here =
     site-kind (parent j) s (after s (events.Add i t value m) said) (added-same (parent j) s i t value m new)
 own_kind s (events.StartSub i) said j n nets has is ok stays other new here =
-    let (x, item, may) = there_and (item_at s i) _ (second_of_both _ _ ok.0) in
-    absurd (not_ready s i n x nets (ap (net_part s) (sym (is_same (parent j) i here)) ∙ has) item (first_of_both _ _ may))
+    let (x, item, may) = there_and (item_at s i) _ ((and_parts _ _ ok.0).1) in
+    absurd (not_ready s i n x nets (ap (net_part s) (sym (is_same (parent j) i here)) ∙ has) item (and_left _ _ may))
 own_kind s (events.CompleteSub i) said j n nets has is ok stays other new here =
     let lies = under_parent j i (ap (under (parent j)) (sym (is_same (parent j) i here)) ∙ under_itself (parent j)) in
     never (sym stays ∙ and_from (under j i) _ lies (ap not other))

@@ -10,8 +10,7 @@ use Rattle.yw_spec.specs.declared.task.Task.{Task}
 use Rattle.yw_state.proofs.Alike.{item_in, net_by, net_in}
 use Rattle.yw_state.proofs.Apart.{leaves_other_cases}
 use Rattle.yw_state.proofs.MapLemmas.{by_name, get-insert_other}
-use Rattle.yw_state.proofs.Parts.{is_not, second_of_both}
-use Rattle.yw_state.proofs.Tests.{by_option, never, nowhere}
+use Rattle.yw_state.proofs.Tests.{and_right, by_option, is_not, never, nowhere}
 use Rattle.yw_state.specs.Allowed.{Allowed, allows}
 use Rattle.yw_state.specs.Automatic.{case_of}
 use Rattle.yw_state.specs.Events.{after}
@@ -37,7 +36,7 @@ caseless_stays : (s : State) (e : Event) (said : Said) → is_plain_event e ≡ 
 unfolding after allows
 caseless_stays s (events.Person other roles) said is none ok name loaded = refl
 caseless_stays s (events.Load other text) (a_spec spec) is none ok name loaded =
-    let new : has_key s.specs other ≡ false = is_not _ (second_of_both (bytes_eq spec.name other) _ ok.0) in
+    let new : has_key s.specs other ≡ false = is_not _ (and_right (bytes_eq spec.name other) _ ok.0) in
     get-insert_other by_name s.specs other _ name (λ here. never (sym new ∙ ap (has_key s.specs) (sym here) ∙ loaded))
 caseless_stays s (events.Load other text) said is none ok name loaded = never ok.0
 caseless_stays s (events.AddRule p at side when conclusion number) said is none ok name loaded = never is

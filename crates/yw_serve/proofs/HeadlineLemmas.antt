@@ -276,7 +276,7 @@ module _ {D : Type 0} (g : Ghosts D) (said_by_now : (d : D) (k : Image) → g.ma
             past = subst (λ (m : ℕ). m < n) a.limited a.why.7;
           }
 
-      -- while it is said that a file has no room, the answered lines are held
+      -- while it is said where the next entry would end, the answered lines are held
       notice_left : (n : ℕ) (mid : D) (k : Image) → EndsShort g c s full_at limit (stops.Full n) bytes left piece opened mid → After (Speaks (full_line n)) (g.may_leave mid) k → Prefix k
       notice_left n mid k z after_notice =
           let a = z.answered in

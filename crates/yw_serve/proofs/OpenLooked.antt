@@ -1,5 +1,5 @@
 -- How looks at a desk join, and what their faults are from the start.
-use Rattle.std.proofs.Common.{◌≡◌, ℕ, Option, None, Some, MatchOption, Result, Ok, Err, IfErr, OnOk, inl, sym, ap, ◌∙◌, subst, arith}
+use Rattle.std.proofs.Common.{◌≡◌, ℕ, List, Option, None, Some, MatchOption, MatchResult, Result, Ok, Err, length, inl, sym, ap, ◌∙◌, subst, arith}
 use Rattle.yw_outside.specs.declared.desk.File.{File}
 use Rattle.yw_outside.specs.declared.image.Image.{Image}
 use Rattle.yw_outside.specs.Causes.{Rose}
@@ -9,6 +9,8 @@ use Rattle.yw_journal.proofs.Passing.{and_then, weakened}
 use Rattle.yw_serve.specs.Opening.{HasFaultCause, IsUnsynced, LeftAfterSyncs, OnlyLooked, OpenFaults, OpensBy}
 use Rattle.yw_serve.specs.declared.opening.OpenFault.{OpenFault}
 use Rattle.yw_serve.specs.declared.opening.OpenFault.TheVariants.{Disk, Damaged, Memory}
+use Rattle.yw_serve.specs.Window.{IsAtHand, Shows}
+use Rattle.yw_serve.specs.declared.window.Window.{Window}
 use Rattle.yw_outside.specs.declared.desk.Desk.{Ghosts}
 
 -- a fault of a later part is one of the whole
@@ -18,17 +20,13 @@ fault_further found whole before mid now Disk cause x here same = subst (λ (n :
 fault_further found whole before mid now (Damaged f place) cause x here same = (here f place (λ y. (cause y).0), (cause x).1 ∙ same)
 fault_further found whole before mid now Memory cause x here same = cause x ∙ same
 
--- the damage that is answered was found
-pub damage_of : {T : Type 0} (found : File → ℕ → Type 0) (before now : ℕ) (result : Result T OpenFault) → IfErr result (HasFaultCause found before now) → (f : File) (place : ℕ) → result ≡ Err (Damaged f place) → found f place
-damage_of found before now result cause f place is = (subst (λ r. IfErr r (HasFaultCause found before now)) is cause).0
-
 -- the count of an opening after calls that didn't fail
 pub open_faults : {D T : Type 0} (g : Ghosts D) (found : File → ℕ → Type 0) (old new : D) (before : ℕ) (result : Result T OpenFault) → before ≡ g.disk_faults old
-    → OnOk result (g.disk_faults new ≡ before) → IfErr result (HasFaultCause found before (g.disk_faults new)) → OpenFaults g result old new
-open_faults g found old new before (Ok v) same ok cause = ok ∙ same
-open_faults g found old new before (Err Disk) same ok cause = subst (λ (n : ℕ). Rose n (g.disk_faults new)) same cause
-open_faults g found old new before (Err (Damaged f place)) same ok cause = cause.1 ∙ same
-open_faults g found old new before (Err Memory) same ok cause = cause ∙ same
+    → MatchResult result (λ v. g.disk_faults new ≡ before) (HasFaultCause found before (g.disk_faults new)) → OpenFaults g result old new
+open_faults g found old new before (Ok v) same cause = cause ∙ same
+open_faults g found old new before (Err Disk) same cause = subst (λ (n : ℕ). Rose n (g.disk_faults new)) same cause
+open_faults g found old new before (Err (Damaged f place)) same cause = cause.1 ∙ same
+open_faults g found old new before (Err Memory) same cause = cause ∙ same
 
 pub some_case : {T : Type 0} (o : Option T) (v : T) (P : Type 0) (Q : T → Type 0) → o ≡ Some v → MatchOption o P Q → Q v
 some_case o v P Q e m = let F : Option _ → Type 0 = λ w. MatchOption w P Q in subst F e m
@@ -46,6 +44,15 @@ module _ {D : Type 0} (g : Ghosts D) where
     telling = b.telling ∙ a.telling;
     disk = omega (arith, a.disk, b.disk);
     say = b.say ∙ a.say;
+  }
+
+  -- what is at hand stays so where a desk holds the same and tells as before
+  pub still_at_hand : (old new : D) (len : ℕ) (window : Window) (piece : List ℕ) → g.state new ≡ g.state old → g.tells new ≡ g.tells old
+      → IsAtHand g old len window piece → IsAtHand g new len window piece
+  still_at_hand old new len window piece same telling here = record {
+    size = λ tells. here.size (sym telling ∙ tells) ∙ ap (λ (i : Image). length i.a) (sym same);
+    fits = here.fits;
+    shows = λ tells. subst (λ (i : Image). Shows i.a piece window) (sym same) (here.shows (sym telling ∙ tells));
   }
 
   -- what is settled stays so

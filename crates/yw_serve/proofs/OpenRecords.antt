@@ -1,6 +1,7 @@
 -- How the reading of the records goes on, and where it stops.
 use Rattle.std.proofs.Common.{◌≡◌, ℕ, ◌+◌, ◌≤◌, List, [], ◌∷◌, ◌++◌, length, take, drop, inl, inr, refl, sym, ap, ◌∙◌, subst, arith, append_assoc, length-append, length-take, length-drop, take-append-drop}
 use Rattle.std.proofs.lemmas.List.{append-nil, drop-drop}
+use Rattle.yw_journal.proofs.Appending.{AreOpen-push}
 use Rattle.yw_outside.specs.declared.desk.File.TheVariants.{A}
 use Rattle.yw_journal.specs.Files.{Meaning, LeadsTo, Reaches, head_of, snapshot_of, snapshot_size_of}
 use Rattle.yw_journal.specs.Records.{IsFrame, AreOpen, IsAt}
@@ -12,18 +13,6 @@ use Rattle.yw_serve.specs.Opening.{IsClosedHere, IsCutHere, IsDamagedAt, IsOpenH
 pub LeadsTo-append : {S : Type 0} (m : Meaning S) (s : S) (xs : List (List ℕ)) (mid : S) (ys : List (List ℕ)) (t : S) → LeadsTo m s xs mid → LeadsTo m mid ys t → LeadsTo m s (xs ++ ys) t
 LeadsTo-append m s [] mid ys t first next = subst (λ x. LeadsTo m x ys t) first next
 LeadsTo-append m s (x ∷ xs) mid ys t first next = (first.0, first.1, LeadsTo-append m first.0 xs mid ys t first.2 next)
-
--- a record more
-are_open_more : (opened : List ℕ) (records : List (List ℕ)) (frame bytes : List ℕ) → AreOpen opened records → IsFrame frame bytes → AreOpen (opened ++ 1 ∷ frame) (records ++ bytes ∷ [])
-are_open_more opened [] frame bytes are is =
-    (frame, [], ap (λ (l : List ℕ). l ++ 1 ∷ frame) are ∙ ap (λ (l : List ℕ). 1 ∷ l) (sym (append-nil frame)), is, refl)
-are_open_more opened (r ∷ rs) frame bytes are is = (
-  are.0,
-  are.1 ++ 1 ∷ frame,
-  ap (λ (l : List ℕ). l ++ 1 ∷ frame) are.2 ∙ ap (λ (l : List ℕ). 1 ∷ l) (append_assoc are.0 are.1 (1 ∷ frame)),
-  are.3,
-  are_open_more are.1 rs frame bytes are.4 is,
-)
 
 -- the record behind an open gate
 pub record IsFrameHere (size : ℕ) (rest : List ℕ) : Type 0 where
@@ -111,7 +100,7 @@ module _ (file : List ℕ) (at : ℕ) (records : List (List ℕ)) (s : State) (i
             ∙ sym (append_assoc (take 29 file ++ is.opened) (1 ∷ here.frame) (drop (5 + size) (drop at file)))
             ∙ ap (λ (l : List ℕ). l ++ drop (5 + size) (drop at file)) (append_assoc (take 29 file) is.opened (1 ∷ here.frame))
             ∙ ap (λ (l : List ℕ). (take 29 file ++ (is.opened ++ 1 ∷ here.frame)) ++ l) (drop-drop (5 + size) at file ∙ ap (λ (n : ℕ). drop n file) (omega arith));
-        are_open = are_open_more is.opened records here.frame bytes is.are_open here.is_frame;
+        are_open = AreOpen-push is.opened records here.frame bytes is.are_open here.is_frame;
         place = omega (arith, is.place, here.all, length-append (take 29 file) (is.opened ++ 1 ∷ here.frame), length-append is.opened (1 ∷ here.frame), length-append (take 29 file) is.opened);
         state = LeadsTo-append meaning opening records s (bytes ∷ []) t is.state (t, some, refl);
       }

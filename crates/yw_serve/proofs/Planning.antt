@@ -3,6 +3,7 @@ use Rattle.std.proofs.Common.{◌≡◌, ℕ, List, [], ◌∷◌, Option, None,
 use Rattle.yw_journal.specs.Records.{IsFramed}
 use Rattle.yw_lines.specs.Meaning.{meaning}
 use Rattle.yw_lines.specs.Replies.{done_line, refused_line}
+use Rattle.yw_model.proofs.Answering.{answers_by}
 use Rattle.yw_model.specs.Run.{Answers, Entry, Step, built_words, MeaningAnswers}
 use Rattle.yw_model.specs.Texts.{reader}
 use Rattle.yw_state.specs.Broken.{Breaks, placeless}
@@ -46,16 +47,11 @@ refused_so s t n c refusal plan buffer breaks plans same = record {
   does = refuses_does n refusal plan buffer plans;
 }
 
--- what comes of a line's meaning comes of the line
-of_meaning : (s : State) (n : ℕ) (line : List ℕ) (m : Result Asked Rule) (step : Step) (t : State) → meaning built_words line ≡ m → MeaningAnswers m s n step t → Answers s n line step t
-unfolding Answers
-of_meaning s n line m step t means a = subst (λ (x : Result Asked Rule). MeaningAnswers x s n step t) (sym means) a
-
 -- a line that asks nothing is refused
 rule_line : (s : State) (n : ℕ) (line : List ℕ) (rule : Rule) (plan : Plan) (buffer : List ℕ) → meaning built_words line ≡ Err rule → Refuses n (placeless rule) plan → IsPlan s n line plan buffer s
 rule_line s n line rule plan buffer means plans = record {
   step = refusal_step n (placeless rule);
-  answers = of_meaning s n line (Err rule) (refusal_step n (placeless rule)) s means (record { nothing = refl; told = refl; same = refl });
+  answers = answers_by s n line (Err rule) (refusal_step n (placeless rule)) s means (record { nothing = refl; told = refl; same = refl });
   does = refuses_does n (placeless rule) plan buffer plans;
 }
 
@@ -70,7 +66,7 @@ pub query_line : (s : State) (n : ℕ) (line : List ℕ) (q : Query) (plan : Pla
     → IsPlan s n line plan buffer s
 query_line s n line q plan buffer means plans = record {
   step = refusal_step n (placeless NotBuilt);
-  answers = of_meaning s n line (Ok (asked.Query q)) (refusal_step n (placeless NotBuilt)) s means (record { nothing = refl; told = refl; same = refl });
+  answers = answers_by s n line (Ok (asked.Query q)) (refusal_step n (placeless NotBuilt)) s means (record { nothing = refl; told = refl; same = refl });
   does = refuses_does n (placeless NotBuilt) plan buffer plans;
 }
 
@@ -79,7 +75,7 @@ pub command_line : (s t : State) (n : ℕ) (line : List ℕ) (c : Command) (plan
     → IsPlan s n line plan buffer t
 command_line s t n line c plan buffer means p = record {
   step = p.step;
-  answers = of_meaning s n line (Ok (asked.Command c)) p.step t means p.answers;
+  answers = answers_by s n line (Ok (asked.Command c)) p.step t means p.answers;
   does = p.does;
 }
 

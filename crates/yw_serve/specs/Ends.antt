@@ -1,6 +1,6 @@
 -- How a run over an input ends: what was taken of it, which lines are answered, and what a crash at each moment leaves.
--- The source had `bytes`, has `left` now, and its last read gave `piece` bytes. At most `limit` bytes are answered, and no file gets longer
--- than `full_at`. The desk was `old` when the files had been opened with content c and state s, and is `new`.
+-- The source had `bytes`, has `left` now, and its last read gave `piece` bytes. At most `limit` bytes are answered, and no entry that is taken
+-- ends past `full_at`. The desk was `old` when the files had been opened with content c and state s, and is `new`.
 use Rattle.std.specs.Prelude.{◌≡◌, ◌==◌, ◌+◌, ◌-◌, ◌<◌, ◌≤◌, ℕ, List, [], ◌∷◌, ◌++◌, length, take, drop, Bool, true, false, Option, Some}
 use Rattle.yw_outside.specs.Since.{LeavesOnly}
 use Rattle.yw_journal.specs.Files.{Content}

@@ -35,8 +35,8 @@ pub record IsReplying (steps : List Step) (old now : List ℕ) : Type 0 where
   pub split : steps ≡ done ++ step ∷ []
   pub part : SaysPart (old ++ said_by done) step.reply now
 
--- In state s the first of these lines, which has number n, may be answered by an entry with which a file of this content would end past the
--- limit, at this offset.
+-- In state s the first of these lines, which has number n, may be answered by an entry that would end at this offset, after the entries of this
+-- content, and past the limit.
 pub record HasNoRoomFor (limit : ℕ) (c : Content) (s : State) (n : ℕ) (lines : List (List ℕ)) (end : ℕ) : Type 0 where
   pub line : List ℕ
   pub later : List (List ℕ)
@@ -56,7 +56,7 @@ pub record IsTellingFull (limit : ℕ) (c : Content) (s : State) (n : ℕ) (line
   pub part : SaysPart (old ++ said_by steps) (full_line end) now
 
 -- The files hold the state to which a prefix of the lines leads. So each command that was answered, even in part, is in it: what was said
--- since are the replies of these lines, the last perhaps in part, or all of them and a prefix of the line that the next has no room.
+-- since are the replies of these lines, the last perhaps in part, or all of them and a prefix of the line that says where the next entry would end.
 pub record HoldsPrefix (limit : ℕ) (s : State) (all : List (List ℕ)) (old : List ℕ) (i : Image) : Type 0 where
   pub lines : List (List ℕ)
   pub more : List (List ℕ)

@@ -1,4 +1,4 @@
--- The two lines that are said beside replies: a damage of the files, and a file that has no room.
+-- The two lines that are said beside replies: a damage of the files, and where the next entry would end, past the limit.
 use Rattle.std.specs.Prelude.{ℕ, List, codes}
 use Rattle.serde_json.specs.Data.{Data, unsigned, number, string, object, no_members, member}
 use Rattle.yw_lines.specs.Replies.{line_of}

@@ -1,5 +1,5 @@
 -- What the opening of the files finds and leaves.
-use Rattle.std.specs.Prelude.{◌≡◌, ◌≢◌, ◌⊎◌, ℕ, ◌+◌, ◌≤◌, ◌<◌, ◌^◌, List, [], ◌∷◌, ◌++◌, length, take, drop, Bool, true, false, Option, None, MatchOption, Result, Ok, Err, IfErr, IsTrue, MatchResult}
+use Rattle.std.specs.Prelude.{◌≡◌, ◌≢◌, ◌⊎◌, ℕ, ◌+◌, ◌≤◌, ◌<◌, ◌^◌, List, [], ◌∷◌, ◌++◌, length, take, drop, Bool, true, false, Option, None, MatchOption, Result, Ok, Err, IsTrue, MatchResult}
 use Rattle.std.specs.Bool.{MatchBool}
 use Rattle.std.specs.Int.{w32, from_be_bytes}
 use Rattle.yw_outside.specs.Causes.{Rose}
@@ -42,9 +42,9 @@ HasFaultCause found before now Disk = Rose before now
 HasFaultCause found before now (Damaged f place) = found f place × (now ≡ before)
 HasFaultCause found before now Memory = now ≡ before
 
--- an Err has its cause, by the counts of these desks' faults
-abbrev pub FailsBy : {D T : Type 0} → Ghosts D → Result T OpenFault → (File → ℕ → Type 0) → D → D → Type 0
-FailsBy g result found old new = IfErr result (HasFaultCause found (g.disk_faults old) (g.disk_faults new))
+-- under Ok no call of the files failed, and an Err has its cause, by the counts of these desks' faults
+abbrev pub HasOpenCause : {D T : Type 0} → Ghosts D → Result T OpenFault → (File → ℕ → Type 0) → D → D → Type 0
+HasOpenCause g result found old new = MatchResult result (λ v. g.disk_faults new ≡ g.disk_faults old) (HasFaultCause found (g.disk_faults old) (g.disk_faults new))
 
 -- this holds of each damage that is answered
 abbrev pub OnDamage : {T : Type 0} → Result T OpenFault → (File → ℕ → Type 0) → Type 0

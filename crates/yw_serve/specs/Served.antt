@@ -1,6 +1,6 @@
 -- What each status says of a run over an input, of the files and of the output.
--- The source had `bytes`, has `left` now, and its last read gave `piece` bytes. At most `limit` bytes are answered, and no file is longer than
--- `full_at`. The desk was `old` and is `new`.
+-- The source had `bytes`, has `left` now, and its last read gave `piece` bytes. At most `limit` bytes are answered, and no entry that is taken ends
+-- past `full_at`. The desk was `old` and is `new`.
 use Rattle.std.specs.Prelude.{◌≡◌, ◌⊎◌, ℕ, List, Option}
 use Rattle.yw_outside.specs.Moments.{IsSettled}
 use Rattle.yw_outside.specs.Tells.{Tells, TellsWhole}

@@ -44,7 +44,7 @@ abbrev pub file_after : List ℕ → Content → List Entry → List ℕ
 file_after file c [] = file
 file_after file c (e ∷ es) = file_after (appended file (end_of c) (framed e.events)) (with_entries c (e ∷ [])) es
 
--- no entry is taken, or the file with those that are ends within the limit
+-- no entry is taken, or those that are end within the limit
 abbrev pub HasRoom : ℕ → Content → List Step → Type 0
 HasRoom limit c steps = (taken_by steps ≡ []) ⊎ (end_of (with_steps c steps) ≤ limit)
 

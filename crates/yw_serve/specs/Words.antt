@@ -15,7 +15,7 @@ least_limit = 64
 abbrev pub greatest_limit : ℕ
 greatest_limit = 2 ^ 30
 
--- a file's limit that the words may give
+-- the limit that the words may give
 pub record IsLimit (text : List ℕ) (limit : ℕ) : Type 0 where
   pub spelled : Spells text limit
   pub least : least_limit ≤ limit

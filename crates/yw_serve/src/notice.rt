@@ -40,7 +40,7 @@ fn full_value(alloc: Global, length: u64) -> Result<Value, AllocError>
     json!(in alloc; {"full": length})
 }
 
-/// The line that names the length for which a file has no room. An `Err` says that no memory was left.
+/// The line that says where the next entry would end, past the limit. An `Err` says that no memory was left.
 #[tactic(auto, unfolding(crate::specs::Notices::full_line))]
 pub fn write_full(alloc: Global, length: u64) -> Result<Bytes, AllocError>
     ensures { IfOk result (λ line. line ≡ full_line length) }

@@ -7,7 +7,7 @@ ghost use Rattle.yw_outside.specs.Causes.{HasCause};
 ghost use Rattle.yw_outside.specs.Moments.{IsSettled};
 ghost use Rattle.yw_serve.specs.Damage.{heads_damage, IsDamagedNow};
 ghost use Rattle.yw_serve.specs.Desks.{Stands, KeepsCounts};
-ghost use Rattle.yw_serve.specs.Opening.{DamageIsAnswered, FailsBy, HeldIsAnswered, IsChosen, IsHeadRead, IsOpenedAt, IsSized, IsUnsynced, LeftAfterSyncs, OnDamage, OnlyLooked, OpenFaults, OpensBy};
+ghost use Rattle.yw_serve.specs.Opening.{DamageIsAnswered, HasOpenCause, HeldIsAnswered, IsChosen, IsHeadRead, IsOpenedAt, IsSized, IsUnsynced, LeftAfterSyncs, OnDamage, OnlyLooked, OpenFaults, OpensBy};
 
 use crate::header::{Head, header_fault, read_head, u64_in};
 use crate::opening_entries::read_entries;
@@ -100,8 +100,7 @@ fn choose<D: Desk>(desk: &mut D) -> Result<Option<Head>, OpenFault>
     ensures size { IfOk result (λ found. IfSome found IsSized) }
     ensures counted { IfOk result (λ found. IfSome found (λ head. count_of head.bytes ≤ greatest)) }
     ensures looked { OnlyLooked D.Desk desk.old desk.new }
-    ensures none_failed { OnOk result (D.disk_faults desk.new ≡ D.disk_faults desk.old) }
-    ensures fault { FailsBy D.Desk result (λ f place. IsTrue (D.tells desk.old)
+    ensures cause { HasOpenCause D.Desk result (λ f place. IsTrue (D.tells desk.old)
         → heads_damage (D.state desk.old) ≡ Some (f, place)) desk.old desk.new }
 {
     let a = read_head(desk, File::A)?;
@@ -132,11 +131,10 @@ fn resume<D: Desk>(
     ensures limited { IfOk result (λ server. server.journal.limit ≡ limit) }
     ensures file { IfOk result (λ server. server.journal.file ≡ File.A) }
     ensures looked { OnlyLooked D.Desk desk.old desk.new }
-    ensures none_failed { OnOk result (D.disk_faults desk.new ≡ D.disk_faults desk.old) }
-    ensures fault { FailsBy D.Desk result (λ f place. IsTrue (D.tells desk.old)
+    ensures cause { HasOpenCause D.Desk result (λ f place. IsTrue (D.tells desk.old)
         → IsDamagedNow (D.state desk.old) f place) desk.old desk.new }
 {
-    let mut engine = Engine::new(alloc);
+    let mut engine = Engine::opening(alloc);
     let tail = read_entries(alloc, piece, desk, head.len, &mut engine)?;
     let journal = Journal {
         file: File::A,
@@ -162,12 +160,11 @@ fn begin<D: Desk>(alloc: Global, limit: u64, desk: &mut D) -> Result<Server, Ope
     ensures any_moment { Leaves D.Desk LeftAfterSyncs desk.old desk.new }
     ensures counts { KeepsCounts D.Desk desk.old desk.new }
     ensures say_faults { D.say_faults desk.new ≡ D.say_faults desk.old }
-    ensures none_failed { OnOk result (D.disk_faults desk.new ≡ D.disk_faults desk.old) }
-    ensures fault { FailsBy D.Desk result (λ f place. ⊥) desk.old desk.new }
+    ensures cause { HasOpenCause D.Desk result (λ f place. ⊥) desk.old desk.new }
 {
     match Journal::make(desk, File::A, 1, 0, &[0; 9], limit) {
         Ok(journal) => {
-            let engine = Engine::new(alloc);
+            let engine = Engine::opening(alloc);
             Ok(Server::new(alloc, engine, journal))
         }
         Err(AppendFault::Disk) => Err(OpenFault::Disk),
@@ -177,13 +174,13 @@ fn begin<D: Desk>(alloc: Global, limit: u64, desk: &mut D) -> Result<Server, Ope
 
 impl Server {
     /// Starts a server on the files of a desk: syncs both, looks at their headers, makes file A where none is live, and else
-    /// reads its entries one after another. Lines are then answered one by one. No file gets longer than the limit by an entry.
+    /// reads its entries one after another. Lines are then answered one by one. No entry that is taken ends past the limit.
     ///
     /// `Damaged` names the first damage, and comes only where the synced files hold no state that is read, and there unless
     /// a call failed or no memory was left; not one byte is changed then. `Disk` comes only where a call of the files failed,
     /// and `Memory` where no memory was left. Up to the syncs a crash leaves what it might have left before. After them it
     /// leaves the files as they are; or, where no file is live, none that is, or file A begun with generation 1, number 0 and
-    /// no record. The memory that it takes is that of the persons and specifications and of the longest entry. The entries
+    /// no record. The memory that it takes is that of what the files hold and of the longest entry. The entries
     /// are read through the piece, so that one read serves as many as it has room for; what it had is lost.
     pub fn start<D: Desk>(
         alloc: Global,

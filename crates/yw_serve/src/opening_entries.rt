@@ -4,8 +4,8 @@ ghost use Rattle.std.specs.List.{list_all};
 ghost use Rattle.yw_built.specs.Built.{is_built};
 ghost use Rattle.yw_engine.specs.Held as held;
 ghost use Rattle.yw_outside.specs.Causes.{HasCause};
-ghost use Rattle.yw_serve.specs.Opening.{AreApplied, EndsAt, EntryIsApplied, FailsBy, IsApplied, IsDamagedFrom, IsReached, OnlyLooked, ReachesNext, StandsHere, record_at};
-ghost use Rattle.yw_serve.specs.Window.{Shows};
+ghost use Rattle.yw_serve.specs.Opening.{AreApplied, EndsAt, EntryIsApplied, HasOpenCause, IsApplied, IsDamagedFrom, IsReached, OnlyLooked, ReachesNext, StandsHere, record_at};
+ghost use Rattle.yw_serve.specs.Window.{IsAtHand, LeavesAtHand};
 
 use crate::opening::OpenFault;
 use crate::window::{Window, part, reach};
@@ -33,17 +33,13 @@ fn gate_at<D: Desk>(
     len: u64,
     at: u64,
 ) -> Result<GateByte, Failed>
-    requires len { IsTrue (D.tells desk.old) → len ≡ length (D.state desk.old).a }
     requires room { 5 ≤ length piece.old }
     requires within { at ≤ len }
-    requires fits { window.old.count ≤ length piece.old }
-    requires shows { IsTrue (D.tells desk.old) → Shows (D.state desk.old).a piece.old window.old }
+    requires at_hand { IsAtHand D.Desk desk.old len window.old piece.old }
     ensures stands { IsTrue (D.tells desk.old)
         → IfOk result (StandsHere (drop at (D.state desk.old).a)) }
     ensures within { (size : ℕ) → result ≡ Ok (GateByte.Open size) → at + 5 + size ≤ len }
-    ensures fits { window.new.count ≤ length piece.new }
-    ensures shows { IsTrue (D.tells desk.old)
-        → OnOk result (Shows (D.state desk.old).a piece.new window.new) }
+    ensures at_hand { LeavesAtHand D.Desk desk.old window.new piece.new result }
     ensures looked { OnlyLooked D.Desk desk.old desk.new }
     ensures cause { HasCause (D.disk_faults desk.old) (D.disk_faults desk.new) result }
 {
@@ -92,8 +88,7 @@ fn record_at<D: Desk>(alloc: Global, desk: &mut D, at: u64, size: u32) -> Result
     ensures bytes { IfOk result (λ bytes. IsTrue (D.tells desk.old)
         → bytes.items ≡ record_at (D.state desk.old).a at size) }
     ensures looked { OnlyLooked D.Desk desk.old desk.new }
-    ensures none_failed { OnOk result (D.disk_faults desk.new ≡ D.disk_faults desk.old) }
-    ensures fault { FailsBy D.Desk result (λ f place. ⊥) desk.old desk.new }
+    ensures cause { HasOpenCause D.Desk result (λ f place. ⊥) desk.old desk.new }
 {
     let mut bytes = vec![in alloc; 0u8; size as usize]?;
     desk.read(File::A, at + 5, &mut bytes)?;
@@ -158,20 +153,15 @@ fn apply_record<D: Desk>(
     size: u32,
     engine: &mut Engine,
 ) -> Result<bool, OpenFault>
-    requires len { IsTrue (D.tells desk.old) → len ≡ length (D.state desk.old).a }
     requires bound { len < 2 ^ 63 }
     requires within { at + 5 + size ≤ len }
-    requires fits { window.old.count ≤ length piece.old }
-    requires shows { IsTrue (D.tells desk.old) → Shows (D.state desk.old).a piece.old window.old }
+    requires at_hand { IsAtHand D.Desk desk.old len window.old piece.old }
     ensures applied { IsTrue (D.tells desk.old) → IfOk result (λ allowed.
         EntryIsApplied (held.state_of engine.old) (record_at (D.state desk.old).a at size)
         allowed (held.state_of engine.new)) }
-    ensures fits { window.new.count ≤ length piece.new }
-    ensures shows { IsTrue (D.tells desk.old)
-        → OnOk result (Shows (D.state desk.old).a piece.new window.new) }
+    ensures at_hand { LeavesAtHand D.Desk desk.old window.new piece.new result }
     ensures looked { OnlyLooked D.Desk desk.old desk.new }
-    ensures none_failed { OnOk result (D.disk_faults desk.new ≡ D.disk_faults desk.old) }
-    ensures fault { FailsBy D.Desk result (λ f place. ⊥) desk.old desk.new }
+    ensures cause { HasOpenCause D.Desk result (λ f place. ⊥) desk.old desk.new }
 {
     let count = size as usize;
     if count > piece.len() {
@@ -194,23 +184,18 @@ fn next_entry<D: Desk>(
     at: u64,
     engine: &mut Engine,
 ) -> Result<Option<u64>, OpenFault>
-    requires len { IsTrue (D.tells desk.old) → len ≡ length (D.state desk.old).a }
     requires bound { len < 2 ^ 63 }
     requires room { 5 ≤ length piece.old }
     requires within { at ≤ len }
-    requires fits { window.old.count ≤ length piece.old }
-    requires shows { IsTrue (D.tells desk.old) → Shows (D.state desk.old).a piece.old window.old }
+    requires at_hand { IsAtHand D.Desk desk.old len window.old piece.old }
     ensures reached { IsTrue (D.tells desk.old) → (records : List (List ℕ))
         → IsReached (D.state desk.old).a at records (held.state_of engine.old)
         → IfOk result (ReachesNext (D.state desk.old).a at records (held.state_of engine.new)) }
     ensures same { result ≡ Ok None → engine.new ≡ engine.old }
     ensures progress { IfOk result (λ next. IfSome next (λ after. (at < after) × (after ≤ len))) }
-    ensures fits { window.new.count ≤ length piece.new }
-    ensures shows { IsTrue (D.tells desk.old)
-        → OnOk result (Shows (D.state desk.old).a piece.new window.new) }
+    ensures at_hand { LeavesAtHand D.Desk desk.old window.new piece.new result }
     ensures looked { OnlyLooked D.Desk desk.old desk.new }
-    ensures none_failed { OnOk result (D.disk_faults desk.new ≡ D.disk_faults desk.old) }
-    ensures fault { (records : List (List ℕ)) → FailsBy D.Desk result
+    ensures cause { (records : List (List ℕ)) → HasOpenCause D.Desk result
         (IsDamagedFrom D.Desk desk.old at records (held.state_of engine.old)) desk.old desk.new }
 {
     match gate_at(window, piece, desk, len, at)? {
@@ -251,8 +236,7 @@ pub fn read_entries<D: Desk>(
     ensures bound { IfOk result (λ tail.
         (29 ≤ tail.gate) × (tail.gate ≤ len) × (tail.records ≤ tail.gate)) }
     ensures looked { OnlyLooked D.Desk desk.old desk.new }
-    ensures none_failed { OnOk result (D.disk_faults desk.new ≡ D.disk_faults desk.old) }
-    ensures fault { FailsBy D.Desk result
+    ensures cause { HasOpenCause D.Desk result
         (IsDamagedFrom D.Desk desk.old 29 [] (held.state_of engine.old)) desk.old desk.new }
 {
     let mut window = Window { at: 0, count: 0 };

@@ -5,9 +5,10 @@ ghost use Rattle.yw_serve.specs.Kept.{kept_of};
 
 use memchr::memchr;
 use std::alloc::AllocError;
+use yw_wire::LINE_LIMIT;
 
 /// How much of a line is kept, in bytes: one more than a line may have.
-pub const MOST_KEPT: usize = 1_048_577;
+pub const MOST_KEPT: usize = LINE_LIMIT + 1;
 
 /// The bytes before the first newline, and those after it.
 pub fn split_line(bytes: &[u8]) -> Option<(&[u8], &[u8])>

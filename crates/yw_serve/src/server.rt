@@ -24,7 +24,7 @@ pub enum Stop {
     Write,
     /// No memory was left.
     Memory,
-    /// The file with the entry would be this long, which is more than its limit.
+    /// The entry would end at this offset, which is past the limit.
     Full(u64),
 }
 
@@ -117,7 +117,7 @@ impl Server {
     /// all that is too long. What the line does is on the disk before its reply is said. A refusal is a reply.
     ///
     /// An `Err` says where the server stopped: `Disk` only where a call of the files failed, `Write` only where the say did,
-    /// `Full` only where the file with the entry would pass its limit, and `Memory` where no memory was left. The server isn't
+    /// `Full` only where the entry would end past the limit, and `Memory` where no memory was left. The server isn't
     /// used again then: `Server::start` opens the files anew.
     pub fn line<D: Desk>(&mut self, desk: &mut D, n: u64, line: &[u8]) -> Result<(), Stop>
         requires stands { Stands D.Desk self.old.journal desk.old }

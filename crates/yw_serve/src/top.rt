@@ -52,7 +52,7 @@ pub enum Status {
     Write,
     /// The files hold no state.
     Damaged,
-    /// A file would be longer than its limit.
+    /// The next entry would end past the limit.
     Full,
     /// More bytes came than an input may have.
     InputLimit,
@@ -76,7 +76,7 @@ fn tell_notice<D: Desk>(line: Result<Bytes, AllocError>, status: Status, desk: &
     }
 }
 
-/// Says that a file has no room.
+/// Says where the next entry would end, past the limit.
 fn tell_full<D: Desk>(alloc: Global, length: u64, desk: &mut D) -> Status
     ensures told { IsTrue (D.tells desk.old)
         → IsTold D.Desk result Status.Full (full_line length) desk.old desk.new }
@@ -96,7 +96,7 @@ fn tell_damage<D: Desk>(alloc: Global, file: File, place: u64, desk: &mut D) -> 
     tell_notice(write_damage(alloc, file, place), Status::Damaged, desk)
 }
 
-/// The status of a run that stopped. Where a line had no room, it is said first.
+/// The status of a run that stopped. Where the next entry would end past the limit, its end is said first.
 fn status_of_stop<D: Desk>(alloc: Global, stop: Stop, desk: &mut D) -> Status
     ensures ends { IsTrue (D.tells desk.old) → (c : Content) (s : State) (full_at limit piece : ℕ)
         (bytes : List ℕ) (left : Option (List ℕ)) (start : D)
@@ -192,11 +192,11 @@ fn serve_files<S: Source, D: Desk>(
     }
 }
 
-/// All that the program does. The words are `run`, or `run --limit N` with 64 to 2^30 for N, which is the length
-/// that no file may pass; without it, it is 2^30. The files are opened, and each line of the source is answered by
-/// one line said on the desk, in order, when its newline or the end of the input has come. What a line does is on
-/// the disk before its reply is said. The answers and the files' entries are a run over the lines, as `yw_model`
-/// defines it, from the state on that the files held.
+/// All that the program does. The words are `run`, or `run --limit N` with 64 to 2^30 for N, the offset past which no
+/// entry that is taken ends; without it, it is 2^30. A file that is longer is opened all the same. The files are
+/// opened, and each line of the source is answered by one line said on the desk, in order, when its newline or the
+/// end of the input has come. What a line does is on the disk before its reply is said. The answers and the files'
+/// entries are a run over the lines, as `yw_model` defines it, from the state on that the files held.
 ///
 /// Or the words are `check`: the source gives the TOML text of one specification, and one line says whether it is
 /// accepted, or else the first fault, as `judge_input` of `yw_verdict` says it. No file is touched.

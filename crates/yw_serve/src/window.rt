@@ -2,7 +2,7 @@
 ghost use Rattle.std.specs.Prelude.{◌≡◌, ◌≤◌, ◌+◌, List, ℕ, IsTrue, OnOk, drop, length, take};
 ghost use Rattle.yw_outside.specs.Causes.{HasCause};
 ghost use Rattle.yw_serve.specs.Opening.{OnlyLooked};
-ghost use Rattle.yw_serve.specs.Window.{Covers, Shows};
+ghost use Rattle.yw_serve.specs.Window.{Covers, IsAtHand, LeavesAtHand, Shows};
 
 use yw_outside::{Desk, Failed, File};
 
@@ -25,15 +25,11 @@ pub fn reach<D: Desk>(
     at: u64,
     count: usize,
 ) -> Result<(), Failed>
-    requires len { IsTrue (D.tells desk.old) → len ≡ length (D.state desk.old).a }
     requires room { count ≤ length piece.old }
     requires within { at + count ≤ len }
-    requires fits { window.old.count ≤ length piece.old }
-    requires shows { IsTrue (D.tells desk.old) → Shows (D.state desk.old).a piece.old window.old }
+    requires at_hand { IsAtHand D.Desk desk.old len window.old piece.old }
     ensures covers { OnOk result (Covers window.new at count) }
-    ensures fits { window.new.count ≤ length piece.new }
-    ensures shows { IsTrue (D.tells desk.old)
-        → OnOk result (Shows (D.state desk.old).a piece.new window.new) }
+    ensures at_hand { LeavesAtHand D.Desk desk.old window.new piece.new result }
     ensures looked { OnlyLooked D.Desk desk.old desk.new }
     ensures cause { HasCause (D.disk_faults desk.old) (D.disk_faults desk.new) result }
 {

@@ -33,7 +33,7 @@ fn limit_in(text: &str) -> Option<u64>
     }
 }
 
-/// The limit of a file's length that the words give, and `None` exactly where they aren't those of a run.
+/// The limit that the words give, which is the offset past which no entry that is taken ends, and `None` exactly where they aren't those of a run.
 pub fn file_limit(words: &[String]) -> Option<u64>
     ensures some { IfSome result (IsRun words.now) }
     ensures none { IsNone result → (limit : ℕ) → ¬ IsRun words.now limit }

@@ -1,10 +1,11 @@
 -- The same stands but for marks and checks, and perhaps more specifications and rules are known: what is well stays well.
-use Rattle.std.specs.Prelude.{◌≡◌, ◌⊎◌, ◌≤◌, ℕ, ◌&&◌, ◌||◌, ◌==◌, Bool, true, false, not, List, [], ◌∷◌, length, Option, Some, None, Ok, is_some, option_map, option_and_then, slice_get, unwrap_or, nat_lt, refl, IsTrue, IsSome, if◌then◌else◌}
+use Rattle.std.specs.Prelude.{◌≡◌, ◌⊎◌, ◌≤◌, ℕ, ◌&&◌, ◌||◌, ◌==◌, Bool, true, false, List, [], ◌∷◌, length, Option, Some, None, Ok, is_some, option_map, option_and_then, slice_get, unwrap_or, nat_lt, refl, IsTrue, IsSome, if◌then◌else◌}
 use Rattle.std.specs.List.{list_all}
 use Rattle.std.proofs.Common.{sym, ◌∙◌, ap, subst, inl, inr}
 use Rattle.std.proofs.lemmas.Bool.{and_parts, and_from}
 use Rattle.std.proofs.lemmas.List.Elements.{All-weaker}
 use Rattle.yw_spec.specs.declared.spec.Spec.{Spec}
+use Rattle.yw_state.proofs.NetLevels.{deep_alike}
 use Rattle.yw_state.proofs.MapLemmas.{by_option, nowhere, never}
 use Rattle.yw_state.specs.Allowed.{are_roles}
 use Rattle.yw_state.specs.Identity.{Ident, is_case_ident, parent}
@@ -16,8 +17,7 @@ use Rattle.yw_state.specs.RuleTree.{TreeRule}
 use Rattle.yw_state.specs.State.{State, Site, Sites, NetPart, ItemPart, ItemAt, NetAt, due_at, is_suspended, is_target, item_at, item_part, items_of, net_at, net_part, no_checks, run_part, spec_called, task_in}
 use Rattle.yw_state.specs.declared.loaded.Loaded.{Loaded}
 use Rattle.yw_state.specs.Texts.{Reader}
-use Rattle.yw_state.specs.Well.{NumbersFit, NetsStand, ParentsStand, MarksStand, ContentFits, IsWell, RulesFit, DepthFits, IsAtLevel, Stands, is_child_of, is_composite, is_top, item_limit, wants_net}
-use Rattle.yw_state.specs.Well.IsAtLevel.{first, further}
+use Rattle.yw_state.specs.Well.{NumbersFit, NetsStand, ParentsStand, MarksStand, ContentFits, IsWell, RulesFit, DepthFits, Stands, is_child_of, is_composite, is_top, item_limit, wants_net}
 use Rattle.yw_state.specs.Words.{has_check, is_ready}
 use Rattle.yw_state.specs.declared.tree.Conclusion.{Conclusion}
 use Rattle.yw_state.specs.declared.tree.Conclusion.TheVariants.{Worklet, Exlet}
@@ -263,12 +263,8 @@ module _ (s : State) (specs : Map lexical Loaded) (persons : Map lexical (List (
             select = λ j e. ap (λ o. is_some_and o (λ x. is_ready x.stage)) (alike.item j) ∙ (alike.due j Select e).ready refl;
           }
 
-      level_before : {j : Ident} {k : ℕ} → IsAtLevel t j k → IsAtLevel s j k
-      level_before (first j level) = first j (ap (λ o. not (is_some_and o is_composite)) (sym (item_at_same j)) ∙ level)
-      level_before (further j k nested level) = further j k (ap (λ o. is_some_and o is_composite) (sym (item_at_same j)) ∙ nested) (level_before level)
-
       depth_kept : DepthFits s → DepthFits t
-      depth_kept depth j n k e level = depth j n k (sym (alike.net j) ∙ e) (level_before level)
+      depth_kept depth j n e = deep_alike s t (λ i. ap (λ o. is_some_and o is_composite) (item_at_same i)) j (depth j n (sym (alike.net j) ∙ e))
 
       -- ---- conclusions
 

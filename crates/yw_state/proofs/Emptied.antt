@@ -19,7 +19,7 @@ use Rattle.yw_state.specs.declared.tree.TreeKind.TheVariants.{Post}
 use Rattle.yw_state.specs.declared.tree.TreePlace.{TreePlace}
 use Rattle.yw_state.proofs.Absent.{idents_of, part-kept}
 use Rattle.yw_state.proofs.MapLemmas.{by_name, by_test, get-retain_gone, get-retain_kept, get-update_same, never}
-use Rattle.yw_state.proofs.Parts.{first_of_both, found, is_not, second_of_both}
+use Rattle.yw_state.proofs.Tests.{and_left, and_right, is_not, there_and}
 
 -- ---- counts
 
@@ -143,6 +143,6 @@ module _ (i : Ident) (c : ℕ) where
 pub emptied : (s : State) (i : Ident) (t : List ℕ) (places : List Place) (said : Said) (c : ℕ) → is_some_and (task_at s i t) (exit_empties places c) ≡ true → tokens_on (after s (events.Exit i t places) said) i c ≡ 0
 unfolding after
 emptied s i t places said c empties =
-    let x = found (task_at s i t) (exit_empties places c) empties in
-    let cs = found (place_numbers x.0.within.net places) (λ ds. not (is_among ds c)) (second_of_both _ _ x.2) in
-    rw x.1 (exit-empty i c s places x.0 cs.0 cs.1 (first_of_both _ _ x.2) (is_not _ cs.2))
+    let x = there_and (task_at s i t) (exit_empties places c) empties in
+    let cs = there_and (place_numbers x.0.within.net places) (λ ds. not (is_among ds c)) (and_right _ _ x.2) in
+    rw x.1 (exit-empty i c s places x.0 cs.0 cs.1 (and_left _ _ x.2) (is_not _ cs.2))

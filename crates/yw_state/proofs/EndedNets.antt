@@ -22,7 +22,7 @@ use Rattle.yw_state.specs.declared.tree.Primitive.TheVariants.{RestartItem, Comp
 use Rattle.yw_state.proofs.Absent.{part-kept}
 use Rattle.yw_state.proofs.Gone.{same_item_at, taken}
 use Rattle.yw_state.proofs.MapLemmas.{by_name, by_test, get-retain_gone, get-retain_kept, get-update_same, nowhere, some_same}
-use Rattle.yw_state.proofs.Parts.{first_of_both, found, is_not, second_of_both, there}
+use Rattle.yw_state.proofs.Tests.{and_left, and_right, is_not, there, there_and}
 
 without_net : (o : Option Site) → option_and_then (λ (x : Site). x.net) (option_map (λ (x : Site). record x { net = None }) o) ≡ None
 without_net None = refl
@@ -60,8 +60,8 @@ module _ (j : Ident) where
   ended-none : (s : State) (made : NetAt → ItemAt → Row) (a : Bool) (p : ItemAt → Bool) (q : NetAt → Bool)
       → (a && is_some_and (item_at s j) p && is_some_and (net_at s j) q) ≡ true → NoNet (where_some (item_at s j) s (end_net s j made))
   ended-none s made a p q allowed =
-      let x = found (item_at s j) p (second_of_both a _ (first_of_both _ _ allowed)) in
-      let n = found (net_at s j) q (second_of_both _ _ allowed) in
+      let x = there_and (item_at s j) p (and_right a _ (and_left _ _ allowed)) in
+      let n = there_and (net_at s j) q (and_right _ _ allowed) in
       where_some-none (item_at s j) s _ x.0 x.1 (where_some-none (net_at s j) s _ n.0 n.1 (complete-none (with_sites s (bare s.sites j)) (made n.0 x.0) x.0 (cut-none s _)))
 
   -- ---- an item begins anew, or counts as completed
@@ -80,7 +80,7 @@ module _ (j : Ident) where
 
   completed-none : (s : State) (r : Ident) → is_some_and (item_at s j) (λ x. not (is_completed x.part.stage)) ≡ true → NoNet (primitive s r j CompleteItem)
   completed-none s r some =
-      let x = found (item_at s j) _ some in
+      let x = there_and (item_at s j) _ some in
       where_some-none (item_at s j) s _ x.0 x.1 (rw (is_not _ x.2) (cut_back-none s r (completed (made_of_given x.0))))
 
   compensated-none : (s : State) → NoNet (end_compensation s j)

@@ -6,8 +6,8 @@ use Rattle.std.specs.Ordering.{eq_by_cmp, is_eq, is_lt}
 use Rattle.std.specs.declared.cmp.Ordering.{Ordering}
 use Rattle.std.specs.declared.cmp.Ordering.TheVariants.{Less, Equal, Greater}
 use Rattle.std.proofs.Common.{sym, ◌∙◌, ap}
-use Rattle.yw_state.proofs.MapLemmas.{KeyOrder, by_option, by_test, never, nowhere, some_same, tied, tied_self}
-use Rattle.yw_state.specs.Map.{Map, entries, get, insert, of_sorted, update}
+use Rattle.yw_state.proofs.MapLemmas.{KeyOrder, by_option, by_test, never, nowhere, of_sorted_list, some_same, tied, tied_self}
+use Rattle.yw_state.specs.Map.{Map, entries, get, insert, update}
 
 both_parts : (a b : Bool) → T (a && b) → T a × T b
 both_parts true b h = (tt, h)
@@ -46,17 +46,13 @@ module _ {K X : Type 0} {R : K → K → Ordering} (o : KeyOrder R) where
           | Greater ↦ λ r. same_length (g e) (g e) _ _ refl (length-put es parts.1 (sym (ap (λ c. cond (is_eq c) (Some e.1) (find R k es)) r) ∙ found))
         ] refl
 
-  of_sorted_list : (es : List (K × X)) (b : Bool) (e : is_sorted R es ≡ b) (m : Map R X) → T b → (of_sorted es b e m).list ≡ es
-  of_sorted_list es true e m h = refl
-  of_sorted_list es false e m h = absurd h
-
   -- so many are of the kind after a value is changed, if it is of the kind as before
   pub length-update : {B : Type 0} (g : K × X → Option B) (m : Map R X) (k : K) (f : X → X) → ((q : K) (v : X) → is_some (g (q, f v)) ≡ is_some (g (q, v))) → length (filter_map g (entries (update m k f))) ≡ length (filter_map g (entries m))
   length-update g m k f alike =
       by_option (get m k)
       (λ none. ap (λ n. length (filter_map g (entries n))) (update_none none))
       (λ v some. ap (λ n. length (filter_map g (entries n))) (update_some v some)
-      ∙ ap (λ es. length (filter_map g es)) (of_sorted_list _ _ refl m (is_sorted-put R o.total k (f v) m.list m.sorted))
+      ∙ ap (λ es. length (filter_map g es)) (of_sorted_list o _ _ refl m (is_sorted-put R o.total k (f v) m.list m.sorted))
       ∙ length-put g k v (f v) (λ q. alike q v) m.list m.sorted some)
     where
       update_none : get m k ≡ None → update m k f ≡ m
@@ -80,7 +76,7 @@ module _ {K X : Type 0} {R : K → K → Ordering} (o : KeyOrder R) where
   -- so many are of the kind after another comes that isn't
   pub length-insert_other : {B : Type 0} (g : K × X → Option B) (m : Map R X) (k : K) (w : X) → ((q : K) → is_some (g (q, w)) ≡ false) → get m k ≡ None → length (filter_map g (entries (insert m k w))) ≡ length (filter_map g (entries m))
   length-insert_other g m k w other absent =
-      ap (λ es. length (filter_map g es)) (of_sorted_list _ _ refl m (is_sorted-put R o.total k w m.list m.sorted)) ∙ length-put_other g k w other m.list m.sorted absent
+      ap (λ es. length (filter_map g es)) (of_sorted_list o _ _ refl m (is_sorted-put R o.total k w m.list m.sorted)) ∙ length-put_other g k w other m.list m.sorted absent
 
   -- ---- none of the kind
 

@@ -1,5 +1,5 @@
 -- A net of a case or a run comes, under a number that wasn't drawn: what is well stays well.
-use Rattle.std.specs.Prelude.{◌≡◌, ◌≤◌, ◌+◌, ℕ, ◌&&◌, ◌||◌, ◌==◌, Bool, true, false, not, List, length, Option, Some, None, is_some, option_map, option_and_then, unwrap_or, nat_lt, refl, IsNone, if◌then◌else◌}
+use Rattle.std.specs.Prelude.{◌≡◌, ◌≤◌, ◌+◌, ℕ, ◌&&◌, ◌||◌, ◌==◌, Bool, true, false, length, Option, Some, None, is_some, option_map, option_and_then, unwrap_or, nat_lt, refl, IsNone, if◌then◌else◌}
 use Rattle.std.specs.List.{list_all}
 use Rattle.std.specs.Ordering.{eq_by_cmp}
 use Rattle.std.proofs.Common.{sym, ◌∙◌, ap, subst, arith}
@@ -10,17 +10,17 @@ use Rattle.yw_state.proofs.EntryCounts.{length-insert_other, length-none}
 use Rattle.yw_state.proofs.MapLemmas.{by_name, by_option, by_test, get-insert_other, get-insert_same, never, nowhere, some_same, tied, tied_self}
 use Rattle.yw_state.proofs.TreePlaces.{case_has_rule, case_is_target}
 use Rattle.yw_state.proofs.Under.{all_above, all_parent}
+use Rattle.yw_state.proofs.NetLevels.{deep_alike}
+use Rattle.yw_state.proofs.Unchanged.{content_stays}
 use Rattle.yw_state.specs.After.{put, with_next}
 use Rattle.yw_state.specs.Identity.{Ident, case_number, is_case_ident, is_child, parent}
 use Rattle.yw_state.specs.Judged.{case_place, has_rule, has_rules, is_select}
 use Rattle.yw_state.specs.Map.{get, insert, lexical}
 use Rattle.yw_state.specs.NewRule.{are_fit, most_primitives}
 use Rattle.yw_state.specs.Options.{is_some_and}
-use Rattle.yw_state.specs.RuleTree.{TreeRule}
 use Rattle.yw_state.specs.State.{State, Site, Sites, NetPart, ItemPart, RunPart, ItemAt, NetAt, due_at, is_target, item_at, item_of_task, item_part, items_of, net_at, net_part, no_checks, run_part}
 use Rattle.yw_state.specs.Texts.{Reader}
-use Rattle.yw_state.specs.Well.{NumbersFit, NetsStand, ParentsStand, MarksStand, ContentFits, IsWell, NetFits, RulesFit, DepthFits, IsAtLevel, has_work, is_composite, is_drawn, is_top, item_limit}
-use Rattle.yw_state.specs.Well.IsAtLevel.{first, further}
+use Rattle.yw_state.specs.Well.{NumbersFit, NetsStand, ParentsStand, MarksStand, ContentFits, IsWell, NetFits, DepthFits, has_work, is_composite, is_drawn, is_top, item_limit, net_level}
 use Rattle.yw_state.specs.Words.{has_check, is_ready}
 use Rattle.yw_state.specs.declared.tree.TreeKind.{TreeKind}
 use Rattle.yw_state.specs.declared.tree.TreeKind.TheVariants.{Select}
@@ -255,16 +255,13 @@ module _ (s : State) (j : Ident) (x : Site) (next : ℕ) (may : MayCome s j x ne
   nested_same : (k : Ident) → is_some_and (item_at t k) is_composite ≡ is_some_and (item_at s k) is_composite
   nested_same k = ap (λ o. is_some_and o is_composite) (item_at_same k)
 
-  level_before : {k : Ident} {l : ℕ} → IsAtLevel t k l → IsAtLevel s k l
-  level_before (first k level) = first k (ap not (sym (nested_same k)) ∙ level)
-  level_before (further k l nested level) = further k l (sym (nested_same k) ∙ nested) (level_before level)
-
   depth_kept : DepthFits s → DepthFits t
-  depth_kept depth k n l e level =
-      read_now (λ z. z.net) (λ i y. IsAtLevel s i l → length i ≤ 30 + l) (λ y f level. one_number (eqb-true (length j) 1 (may.net y f).is_case)) (λ i y f level. depth i y l f level) k n e (level_before level)
+  depth_kept depth k n e =
+      deep_alike s t nested_same k
+      (read_now (λ z. z.net) (λ i y. length i ≤ 30 + net_level s i) (λ y f. one_number (eqb-true (length j) 1 (may.net y f).is_case)) (λ i y f. depth i y f) k n e)
     where
-      one_number : length j ≡ 1 → length j ≤ 30 + l
-      one_number e = omega arith
+      one_number : length j ≡ 1 → length j ≤ 30 + net_level s j
+      one_number e = omega (arith, e)
 
   -- ---- items of a task
 
@@ -290,10 +287,7 @@ module _ (s : State) (j : Ident) (x : Site) (next : ℕ) (may : MayCome s j x ne
 
   content_kept : (reader : Reader) → ContentFits reader s → ContentFits reader t
   content_kept reader content =
-      record {
-        spec_text = content.spec_text;
-        spec_name = content.spec_name;
-        person = content.person;
+      content_stays reader s sites next s.ended content (record {
         of_spec = λ k n e.
             ap is_some (ap (option_and_then (net_by s)) e) ∙ read_now (λ z. z.net) (λ i y. is_some (net_by s y) ≡ true) (λ y f. ap is_some (may.net y f).of_spec) old_spec k n e;
         net = λ k a e. fits_now k a e;
@@ -304,8 +298,7 @@ module _ (s : State) (j : Ident) (x : Site) (next : ℕ) (may : MayCome s j x ne
             (λ there. subst (λ c. c ≤ item_limit task.many) (sym (count_same i n)) (content.count i a n task (sym (net_at_same i there) ∙ e) f));
         run_length = read_now (λ z. z.run) (λ k r. length r.rest ≤ most_primitives) (λ r e. (may.run r e).short) content.run_length;
         run_fit = read_now (λ z. z.run) (λ k r. are_fit s (is_case_ident (parent k)) r.rest ≡ true) (λ r e. (may.run r e).fit) content.run_fit;
-        rules = λ key rs e. same_rules key rs (content.rules key rs e);
-      }
+      })
     where
       old_spec : (k : Ident) (n : NetPart) → net_part s k ≡ Some n → is_some (net_by s n) ≡ true
       old_spec k n e = ap is_some (sym (ap (option_and_then (net_by s)) e)) ∙ content.of_spec k n e
@@ -323,21 +316,6 @@ module _ (s : State) (j : Ident) (x : Site) (next : ℕ) (may : MayCome s j x ne
               (λ n some.
               let case = may.net n some in
               subst NetFits (some_same case.found a (sym case.of_spec ∙ ap (option_and_then (net_by s)) (sym some) ∙ f)) case.fits)
-
-      same_rules : (key : List (List ℕ)) (rs : List TreeRule) → RulesFit reader s key rs → RulesFit reader t key rs
-      same_rules key rs fit =
-          record {
-            place = fit.place;
-            spec = fit.spec;
-            here = fit.here;
-            of_spec = fit.of_spec;
-            is_place = fit.is_place;
-            some = fit.some;
-            most = fit.most;
-            free = fit.free;
-            conclude = fit.conclude;
-            spelt = fit.spelt;
-          }
 
 pub come_is_well : (reader : Reader) (s : State) (j : Ident) (x : Site) (next : ℕ) → MayCome s j x next → IsWell reader s → IsWell reader (with_next (put s j x) next)
 come_is_well reader s j x next may well =

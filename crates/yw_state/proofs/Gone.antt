@@ -26,7 +26,7 @@ use Rattle.yw_state.specs.declared.tree.Primitive.TheVariants.{SuspendItem, Cont
 use Rattle.yw_state.proofs.Absent.{IsGone, change-keeps, each-keeps, end_if_over-keeps, if-keeps, make_select_due-keeps, part-kept, update-keeps, where_some-gone}
 use Rattle.yw_state.proofs.Leaving.{Stays, drop-gone, net-stays, region-gone, step, without_items-gone, without_items-stays}
 use Rattle.yw_state.proofs.MapLemmas.{by_name, get-retain_gone, never}
-use Rattle.yw_state.proofs.Parts.{either, first_of_both, found, is_not, second_of_both, there}
+use Rattle.yw_state.proofs.Tests.{and_left, and_right, is_not, or_cases, there, there_and}
 
 -- ---- restrictions
 
@@ -86,7 +86,7 @@ module _ (k : Ident) where
 
   emptied-gone : (s : State) (i : Ident) (x : TaskAt) → exit_removes s i k x ≡ true → IsGone k (region_emptied s i x)
   emptied-gone s i x some =
-      elim (either _ _ some) [
+      elim (or_cases _ _ some) [
         | inl own ↦
             each-keeps k i x.task.drop_tasks (without_tokens s i x)
             (change-keeps k (values_assigned s i x) i _ (change-keeps k (items_gone s i x) i _ (without_items-gone s i x.number k own)))
@@ -107,14 +107,14 @@ module _ (k : Ident) where
 
   restarted-gone : (s : State) (r : Ident) → (is_some (item_at s (parent r)) && cut_back_removes r k) ≡ true → IsGone k (primitive s r (parent r) RestartItem)
   restarted-gone s r removed =
-      let x = there (item_at s (parent r)) (first_of_both _ _ removed) in
-      let cut = cut_back-gone s r (parent r) (λ y. record y { stage = Ready; who = None; made = [] }) (second_of_both _ _ removed) in
+      let x = there (item_at s (parent r)) (and_left _ _ removed) in
+      let cut = cut_back-gone s r (parent r) (λ y. record y { stage = Ready; who = None; made = [] }) (and_right _ _ removed) in
       where_some-gone k (item_at s (parent r)) s _ x.0 x.1 (make_select_due-keeps k _ (parent r) x.0.of_task cut)
 
   completed-gone : (s : State) (r : Ident) → (is_some_and (item_at s (parent r)) (λ x. not (is_completed x.part.stage)) && cut_back_removes r k) ≡ true → IsGone k (primitive s r (parent r) CompleteItem)
   completed-gone s r removed =
-      let x = found (item_at s (parent r)) _ (first_of_both _ _ removed) in
-      let cut = cut_back-gone s r (parent r) (completed (made_of_given x.0)) (second_of_both _ _ removed) in
+      let x = there_and (item_at s (parent r)) _ (and_left _ _ removed) in
+      let cut = cut_back-gone s r (parent r) (completed (made_of_given x.0)) (and_right _ _ removed) in
       where_some-gone k (item_at s (parent r)) s _ x.0 x.1 (rw (is_not _ x.2) cut)
 
   primitive-gone : (s : State) (r : Ident) (p : Primitive) → primitive_removes s r k p ≡ true → IsGone k (primitive s r (parent r) p)
@@ -146,20 +146,20 @@ module _ (k : Ident) where
   -- ---- the law
 
   has_net : (s : State) (j : Ident) (p : NetAt → Bool) → is_some_and (net_at s j) p ≡ true → is_some (net_at s j) ≡ true
-  has_net s j p e = let n = found (net_at s j) p e in ap is_some n.1
+  has_net s j p e = let n = there_and (net_at s j) p e in ap is_some n.1
 
   has_item : (s : State) (j : Ident) (p : ItemAt → Bool) → is_some_and (item_at s j) p ≡ true → is_some (item_at s j) ≡ true
-  has_item s j p e = let x = found (item_at s j) p e in ap is_some x.1
+  has_item s j p e = let x = there_and (item_at s j) p e in ap is_some x.1
 
   net_ended-gone : (s : State) (j : Ident) (made : NetAt → ItemAt → Row) (a : Bool) (p : ItemAt → Bool) (q : NetAt → Bool)
       → (a && is_some_and (item_at s j) p && is_some_and (net_at s j) q) ≡ true → strictly_under k j ≡ true → IsGone k (where_some (item_at s j) s (end_net s j made))
   net_ended-gone s j made a p q allowed below =
-      ended-gone s j made (has_item s j p (second_of_both a _ (first_of_both _ _ allowed))) (has_net s j q (second_of_both _ _ allowed)) below
+      ended-gone s j made (has_item s j p (and_right a _ (and_left _ _ allowed))) (has_net s j q (and_right _ _ allowed)) below
 
   pub removed-gone : (s : State) (e : Event) (said : Said) → Allowed s e said → removes s e k ≡ true → IsGone k (after s e said)
   unfolding after allows removes
   removed-gone s (events.Exit i t places) said allowed removed =
-      let x = found (task_at s i t) (exit_removes s i k) removed in
+      let x = there_and (task_at s i t) (exit_removes s i k) removed in
       where_some-gone k (task_at s i t) s _ x.0 x.1 (exit-gone s i places x.0 x.2)
   removed-gone s (events.Finish n) said allowed removed = drop-gone s.sites (case_ident n) k removed
   removed-gone s (events.Cancel n) said allowed removed = drop-gone s.sites (case_ident n) k removed

@@ -12,7 +12,7 @@ use Rattle.yw_state.specs.State.{ItemPart, NetPart, Site, Sites, State, drop, dr
 use Rattle.yw_state.proofs.Absent.{IsGone, drop_all-keeps, each-keeps, idents_of, part-kept, retain-keeps, update-keeps}
 use Rattle.yw_state.proofs.Entries.{IsIn, comes_from, entry-found, find-entry, mapped_in, passes, passing}
 use Rattle.yw_state.proofs.MapLemmas.{by_name, by_test, get-retain_gone, get-retain_kept, never, nowhere, some_same}
-use Rattle.yw_state.proofs.Parts.{first_of_both, second_of_both}
+use Rattle.yw_state.proofs.Tests.{and_left, and_right}
 
 -- ---- identities
 
@@ -21,8 +21,8 @@ under-trans k j [] a b = refl
 under-trans k [] (x ∷ i) a b = never b
 under-trans [] (y ∷ j) (x ∷ i) a b = never a
 under-trans (z ∷ k) (y ∷ j) (x ∷ i) a b =
-    let first : (x == z) ≡ true = ap (λ n. x == n) (sym (eqb-true y z (first_of_both _ _ a))) ∙ first_of_both _ _ b in
-    ap (λ c. c && under k i) first ∙ under-trans k j i (second_of_both _ _ a) (second_of_both _ _ b)
+    let first : (x == z) ≡ true = ap (λ n. x == n) (sym (eqb-true y z (and_left _ _ a))) ∙ and_left _ _ b in
+    ap (λ c. c && under k i) first ∙ under-trans k j i (and_right _ _ a) (and_right _ _ b)
 
 -- ---- all under an identity goes
 

@@ -6,7 +6,6 @@ pub mod Elsewhere
 pub mod Standing
 pub mod Drawing
 pub mod Apart
-pub mod Parts
 pub mod Absent
 pub mod Entries
 pub mod Leaving
@@ -14,11 +13,16 @@ pub mod Gone
 pub mod Emptied
 pub mod EndedNets
 pub mod OneRule
+pub mod Under
+pub mod NetLevels
 pub mod Alike
 pub mod PersonWell
 pub mod LoadWell
 pub mod EntryCounts
 pub mod ChangeWell
+pub mod ItemsAlike
+pub mod Unchanged
+pub mod Updated
 pub mod ItemWell
 pub mod Clear
 pub mod StageWell
@@ -26,7 +30,6 @@ pub mod MarksWell
 pub mod TreePlaces
 pub mod AddRuleWell
 pub mod RetainWell
-pub mod Under
 pub mod EndWell
 pub mod FreshWell
 pub mod LaunchWell

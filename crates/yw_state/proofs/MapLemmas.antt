@@ -43,7 +43,7 @@ module _ {K : Type 0} {R : K → K → Ordering} (o : KeyOrder R) where
   apart q k other = by_test (eq_by_cmp R q k) (λ e. absurd (other (tied q k e))) (λ e. e)
 
   module _ {X : Type 0} where
-    of_sorted_list : (es : List (K × X)) (b : Bool) (e : is_sorted R es ≡ b) (m : Map R X) → T b → (of_sorted es b e m).list ≡ es
+    pub of_sorted_list : (es : List (K × X)) (b : Bool) (e : is_sorted R es ≡ b) (m : Map R X) → T b → (of_sorted es b e m).list ≡ es
     of_sorted_list es true e m h = refl
     of_sorted_list es false e m h = absurd h
 

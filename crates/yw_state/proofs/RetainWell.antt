@@ -1,19 +1,19 @@
 -- Some of what stands goes, and with it all under it: what is well stays well.
-use Rattle.std.specs.Prelude.{◌≡◌, ◌≤◌, ℕ, ◌&&◌, ◌||◌, Bool, true, false, not, cond, List, [], ◌∷◌, length, Option, Some, None, is_some, option_and_then, refl}
+use Rattle.std.specs.Prelude.{◌≡◌, ◌≤◌, ◌&&◌, ◌||◌, Bool, true, false, cond, List, [], ◌∷◌, length, Option, Some, None, is_some, option_and_then, refl}
 use Rattle.std.specs.List.{cons_option, filter, filter_map}
 use Rattle.std.specs.Ordering.{nat_cmp}
 use Rattle.std.proofs.Common.{sym, ◌∙◌, ap, arith, le_trans}
 use Rattle.yw_state.proofs.Alike.{asked_of, due_test, item_in, net_by}
 use Rattle.yw_state.proofs.MapLemmas.{by_name, by_test, get-retain_gone, get-retain_kept, never, nowhere, retain_stands}
+use Rattle.yw_state.proofs.NetLevels.{deep_as_before}
+use Rattle.yw_state.proofs.Unchanged.{content_stays}
 use Rattle.yw_state.specs.Identity.{Ident, is_case_ident, parent}
 use Rattle.yw_state.specs.Judged.{has_rule}
 use Rattle.yw_state.specs.Map.{Map, get, retain}
 use Rattle.yw_state.specs.Options.{is_some_and}
-use Rattle.yw_state.specs.RuleTree.{TreeRule}
 use Rattle.yw_state.specs.State.{State, Site, NetPart, ItemPart, RunPart, ItemAt, NetAt, due_at, is_target, item_at, item_of_task, item_part, net_at, net_part, run_part}
 use Rattle.yw_state.specs.Texts.{Reader}
-use Rattle.yw_state.specs.Well.{NumbersFit, NetsStand, ParentsStand, MarksStand, ContentFits, IsWell, RulesFit, DepthFits, IsAtLevel, is_composite}
-use Rattle.yw_state.specs.Well.IsAtLevel.{first, further}
+use Rattle.yw_state.specs.Well.{NumbersFit, NetsStand, ParentsStand, MarksStand, ContentFits, IsWell, DepthFits, is_composite}
 use Rattle.yw_state.specs.Words.{has_check, is_ready}
 use Rattle.yw_state.specs.declared.part.Way.{Way}
 use Rattle.yw_state.specs.declared.tree.TreeKind.{TreeKind}
@@ -158,20 +158,14 @@ module _ (s : State) (p : Ident → Bool) (ended : Map nat_cmp Way) where
             let before = test_before (λ o. is_some_and o (λ (x : Site). has_check x.due kind)) refl k (sym (due_test kind (get t.sites k)) ∙ e) in
             (before.0, due_test kind (get s.sites k) ∙ before.1)
 
-    level_before : {k : Ident} {l : ℕ} → p k ≡ true → IsAtLevel t k l → IsAtLevel s k l
-    level_before here (first k level) = first k (ap (λ o. not (is_some_and o is_composite)) (sym (item_at_kept k here)) ∙ level)
-    level_before here (further k l nested level) =
-        further k l (ap (λ o. is_some_and o is_composite) (sym (item_at_kept k here)) ∙ nested) (level_before (closed k here) level)
-
     depth_kept : DepthFits s → DepthFits t
-    depth_kept depth k n l e level = let before = net_before k n e in depth k n l before.1 (level_before before.0 level)
+    depth_kept depth k n e =
+        let before = net_before k n e in
+        deep_as_before s t (λ i. p i ≡ true) (λ i here. ap (λ o. is_some_and o is_composite) (item_at_kept i here)) (λ i here nested. closed i here) k before.0 (depth k n before.1)
 
     content_kept : (reader : Reader) → ContentFits reader s → ContentFits reader t
     content_kept reader content =
-        record {
-          spec_text = content.spec_text;
-          spec_name = content.spec_name;
-          person = content.person;
+        content_stays reader s (retain s.sites p) s.next ended content (record {
           of_spec = λ k n e. let before = net_before k n e in ap is_some (net_at_kept k before.0) ∙ content.of_spec k n before.1;
           net = λ k n e. content.net k n (net_at_before k n e).1;
           item = λ k x e. content.item k x (item_at_before k x e).1;
@@ -179,23 +173,7 @@ module _ (s : State) (p : Ident → Bool) (ended : Map nat_cmp Way) where
               le_trans (length-where (λ e. item_of_task i k e.0 e.1) p s.sites.list) (content.count i n k task (net_at_before i n e).1 f);
           run_length = λ k r e. content.run_length k r (run_before k r e).1;
           run_fit = λ k r e. content.run_fit k r (run_before k r e).1;
-          rules = λ key rs e. same_rules key rs (content.rules key rs e);
-        }
-      where
-        same_rules : (key : List (List ℕ)) (rs : List TreeRule) → RulesFit reader s key rs → RulesFit reader t key rs
-        same_rules key rs fit =
-            record {
-              place = fit.place;
-              spec = fit.spec;
-              here = fit.here;
-              of_spec = fit.of_spec;
-              is_place = fit.is_place;
-              some = fit.some;
-              most = fit.most;
-              free = fit.free;
-              conclude = fit.conclude;
-              spelt = fit.spelt;
-            }
+        })
 
     pub retained_is_well : (reader : Reader) → NumbersFit t → IsWell reader s → IsWell reader t
     retained_is_well reader numbers well =

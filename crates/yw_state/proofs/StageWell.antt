@@ -6,10 +6,11 @@ use Rattle.yw_spec.specs.declared.task.Kind.{Kind}
 use Rattle.yw_spec.specs.declared.task.Kind.TheVariants as kinds
 use Rattle.yw_spec.specs.declared.task.Task.{Task}
 use Rattle.yw_state.proofs.Clear.{none_due}
-use Rattle.yw_state.proofs.ItemWell.{GoesOn, going_on_is_well, item_renewed, renewed}
+use Rattle.yw_state.proofs.ItemWell.{GoesOn, going_on_is_well, item_renewed}
 use Rattle.yw_state.proofs.MapLemmas.{never}
 use Rattle.yw_state.proofs.MarksWell.{item_due_is_well}
-use Rattle.yw_state.proofs.Parts.{found}
+use Rattle.yw_state.proofs.Tests.{there_and}
+use Rattle.yw_state.proofs.Updated.{renewed}
 use Rattle.yw_state.specs.After.{begun, change, complete, completed, where_some, with_item}
 use Rattle.yw_state.specs.Allowed.{Allowed, allows, may_complete}
 use Rattle.yw_state.specs.Events.{after}
@@ -132,5 +133,5 @@ pub complete_keeps_well : (reader : Reader) (s : State) (j : Ident) (out : Row) 
 unfolding allows after
 complete_keeps_well reader s j out said well allowed =
     let parts = and_parts (clear s j && not (busy s j)) (is_some_and (item_at s j) (may_complete s j out)) allowed.0 in
-    let x = found (item_at s j) (may_complete s j out) parts.1 in
+    let x = there_and (item_at s j) (may_complete s j out) parts.1 in
     subst (λ o. IsWell reader (where_some o s (complete s j out))) (sym x.1) (completed_is_well reader s j well parts.0 out parts.1 x.0 x.1)

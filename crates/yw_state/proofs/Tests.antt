@@ -1,6 +1,8 @@
--- Tests, and what may be there.
-use Rattle.std.specs.Prelude.{◌≡◌, ◌⊎◌, ◌&&◌, ◌||◌, Bool, true, false, cond, Option, Some, None, refl, is_some, option_and_then, option_map}
-use Rattle.std.proofs.Common.{subst, inl, inr}
+-- Tests, what may be there, and lists of numbers.
+use Rattle.std.specs.Prelude.{◌≡◌, ◌⊎◌, ◌&&◌, ◌||◌, ℕ, Bool, true, false, not, cond, List, [], ◌∷◌, Option, Some, None, refl, is_some, nat_eq, option_and_then, option_map}
+use Rattle.std.specs.Cmp.Lexicographic.{pointwise}
+use Rattle.std.proofs.Common.{◌∙◌, ap, subst, inl, inr}
+use Rattle.std.proofs.lemmas.Bool.{and_parts, eqb-true}
 use Rattle.yw_state.specs.Options.{is_some_and}
 
 -- ---- tests
@@ -24,6 +26,10 @@ and_right false b e = never e
 pub or_cases : (a b : Bool) → (a || b) ≡ true → (a ≡ true) ⊎ (b ≡ true)
 or_cases true b e = inl refl
 or_cases false b e = inr e
+
+pub is_not : (a : Bool) → not a ≡ true → a ≡ false
+is_not true e = never e
+is_not false e = refl
 
 -- ---- what may be there
 
@@ -53,3 +59,13 @@ then_some f (Some x) y e = (x, refl, e)
 pub map_some : {A B : Type 0} (f : A → B) (o : Option A) (y : B) → option_map f o ≡ Some y → (x : A) × (o ≡ Some x) × (f x ≡ y)
 map_some f None y e = nowhere e
 map_some f (Some x) y e = (x, refl, some_same (f x) y e)
+
+-- ---- lists of numbers
+
+pub same_numbers : (xs ys : List ℕ) → pointwise nat_eq xs ys ≡ true → xs ≡ ys
+same_numbers [] [] e = refl
+same_numbers [] (y ∷ ys) e = never e
+same_numbers (x ∷ xs) [] e = never e
+same_numbers (x ∷ xs) (y ∷ ys) e =
+    let parts = and_parts (nat_eq x y) (pointwise nat_eq xs ys) e in
+    ap (λ n. n ∷ xs) (eqb-true x y parts.0) ∙ ap (λ ns. y ∷ ns) (same_numbers xs ys parts.1)

@@ -1,11 +1,16 @@
 -- What is under what.
-use Rattle.std.specs.Prelude.{◌≡◌, ℕ, ◌==◌, Bool, true, not, [], ◌∷◌, refl}
+use Rattle.std.specs.Prelude.{◌≡◌, ◌≤◌, ℕ, ◌+◌, ◌==◌, Bool, true, not, [], ◌∷◌, length, refl}
 use Rattle.std.specs.List.{list_all}
-use Rattle.std.proofs.Common.{sym, ◌∙◌, ap}
+use Rattle.std.proofs.Common.{sym, ◌∙◌, ap, arith}
 use Rattle.std.proofs.lemmas.Bool.{and_from, and_parts, eq-eqb, eqb-true, false_from_ne_true, not-true, not_from_false}
 use Rattle.yw_base.specs.Identity.{is_identity, under}
 use Rattle.yw_state.proofs.MapLemmas.{never}
 use Rattle.yw_state.specs.Identity.{Ident, case_ident, case_number, parent}
+
+pub shorter : (k : Ident) → 1 ≤ length k → length k ≡ length (parent k) + 1
+shorter [] some = absurd (omega arith)
+shorter (x ∷ []) some = refl
+shorter (x ∷ y ∷ ys) some = let rest = shorter (y ∷ ys) (omega arith) in omega (arith, rest)
 
 pub under_parent : (k j : Ident) → under (parent k) j ≡ true → under k j ≡ true
 under_parent k [] e = refl

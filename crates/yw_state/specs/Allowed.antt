@@ -41,7 +41,7 @@ use Rattle.yw_state.specs.declared.tree.TreePlace.{TreePlace}
 
 -- ---- numbers: so many are drawn, from the counter on
 
-abbrev draws : State → ℕ → ℕ → Bool
+abbrev pub draws : State → ℕ → ℕ → Bool
 draws s first count = first == s.next && nat_le (first + count) number_end
 
 abbrev pub is_next : State → ℕ → Bool
@@ -83,13 +83,13 @@ may_launch s n name vals = is_next s n && is_some_and (top_called s name) (λ (n
 abbrev pub place_numbers : Net → List Place → Option (List ℕ)
 place_numbers net ps = all_of (map (place_number net) ps)
 
-abbrev takes_from : State → Ident → TaskAt → List Place → Bool
+abbrev pub takes_from : State → Ident → TaskAt → List Place → Bool
 takes_from s i x places = is_some_and (place_numbers x.within.net places) (joins x.task.join s i x.task.before)
 
-abbrev makes : TaskAt → ℕ → Bool
+abbrev pub makes : TaskAt → ℕ → Bool
 makes x count = is_some_and (entry_values x.task x.within.part.vals) (λ rows. length rows == count) && within_bounds x.task.many count
 
-abbrev may_enter : State → Ident → List Place → ℕ → ℕ → TaskAt → Bool
+abbrev pub may_enter : State → Ident → List Place → ℕ → ℕ → TaskAt → Bool
 may_enter s i places first count x = not (active s i x.number) && takes_from s i x places && makes x count && draws s first count
 
 -- ---- items
@@ -143,10 +143,11 @@ most_tokens = 1000000
 abbrev pub has_room_for : State → Ident → TaskAt → ℕ → Bool
 has_room_for s i x c = is_among x.task.drop_places c || nat_lt (tokens_on s i c) most_tokens
 
-abbrev puts_on : State → Ident → TaskAt → List ℕ → Bool
+-- the numbers are those of the places that the splits choose, and none has too many tokens then
+abbrev pub puts_on : State → Ident → TaskAt → List ℕ → Bool
 puts_on s i x cs = pointwise nat_eq cs (split_places x.task (exit_values s i x)) && list_all (has_room_for s i x) cs
 
-abbrev may_exit : State → Ident → List Place → TaskAt → Bool
+abbrev pub may_exit : State → Ident → List Place → TaskAt → Bool
 may_exit s i places x = active s i x.number && may_leave s i x && is_some_and (place_numbers x.within.net places) (puts_on s i x)
 
 -- ---- checks, worklets and exlets

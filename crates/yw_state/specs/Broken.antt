@@ -78,7 +78,7 @@ First (fault P ∷ cs) found = ((refusal : Refusal) × P refusal × (found ≡ S
 abbrev is_stranger : State → List ℕ → Bool
 is_stranger s who = not (has_key s.persons who)
 
-abbrev has_role : List (List ℕ) → Option (List ℕ) → Bool
+abbrev pub has_role : List (List ℕ) → Option (List ℕ) → Bool
 has_role roles None = true
 has_role roles (Some role) = list_any (bytes_eq role) roles
 
@@ -105,7 +105,7 @@ no_target s j = test (is_case_ident j && not (is_case s j)) UnknownCase ∷ test
 
 -- ---- undefined expressions, by what they are for
 
-abbrev undefined_value : Row → Param → Bool
+abbrev pub undefined_value : Row → Param → Bool
 undefined_value row p = is_some_and p.value (λ e. is_none (val e row))
 
 abbrev pub undefined_in : TaskAt → Option (List ℕ)
@@ -212,7 +212,7 @@ complete_checks s who j gs =
     ∷ test_at (option_and_then (undefined_complete s j gs) (item_at s j)) Mapping
     ∷ []
 
-abbrev bad_element : Option Value → TaskAt → Option (List ℕ)
+abbrev pub bad_element : Option Value → TaskAt → Option (List ℕ)
 bad_element value x = if is_none (element_value x.task value) then Some (codes "value") else None
 
 abbrev add_checks : State → List ℕ → Ident → List ℕ → Option Value → List Check

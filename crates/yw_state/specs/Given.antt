@@ -25,28 +25,28 @@ abbrev pub as_sort : Sort → Option Value → Option Value
 as_sort sort v = option_and_then (λ x. if_fitting sort (meant sort x)) v
 
 -- the value that is given under a name
-abbrev given_under : List Given → List ℕ → Option Value
+abbrev pub given_under : List Given → List ℕ → Option Value
 given_under gs name = option_and_then (λ (g : Given). g.value) (find (λ (g : Given). bytes_eq g.name name) gs)
 
 -- the least in byte order, where there are names
-abbrev least : List (List ℕ) → Option (List ℕ)
+abbrev pub least : List (List ℕ) → Option (List ℕ)
 least [] = None
 least (name ∷ names) = Some (lesser name (least names))
 
 -- the first name in byte order whose value fails the test
-abbrev first_failing : (Given → Bool) → List Given → Option (List ℕ)
+abbrev pub first_failing : (Given → Bool) → List Given → Option (List ℕ)
 first_failing p gs = least (map (λ (g : Given). g.name) (filter (λ g. not (p g)) gs))
 
 -- ---- launch
 
-abbrev launch_value : List Given → Var → Value
+abbrev pub launch_value : List Given → Var → Value
 launch_value gs x = if comes_in x.usage then unwrap_or (as_sort x.sort (given_under gs x.name)) x.init else x.init
 
 -- a variable into which a value comes has the one that is given, and any other its own first value
 abbrev pub launch_values : List Var → List Given → Row
 launch_values xs gs = map (launch_value gs) xs
 
-abbrev is_wanted : List Var → Given → Bool
+abbrev pub is_wanted : List Var → Given → Bool
 is_wanted xs g = list_any (λ (x : Var). bytes_eq x.name g.name && comes_in x.usage && is_some (as_sort x.sort g.value)) xs
 
 -- the first name that no such variable has, or whose value is of another sort
@@ -55,14 +55,14 @@ unwanted xs gs = first_failing (is_wanted xs) gs
 
 -- ---- complete
 
-abbrev made_value : List Given → Param → Option Value
+abbrev pub made_value : List Given → Param → Option Value
 made_value gs p = as_sort p.sort (given_under gs p.name)
 
 -- the values of all parameters, or nothing where one lacks
 abbrev pub made_values : List Param → List Given → Option Row
 made_values ps gs = all_of (map (made_value gs) ps)
 
-abbrev lacking : List Param → List Given → Option (List ℕ)
+abbrev pub lacking : List Param → List Given → Option (List ℕ)
 lacking ps gs = option_map (λ (p : Param). p.name) (find (λ p. is_none (made_value gs p)) ps)
 
 abbrev unknown : List Param → List Given → Option (List ℕ)

@@ -40,7 +40,7 @@ elements_for None row = Some (None ∷ [])
 elements_for (Some m) row = option_map (λ v. map Some (elements_of v)) (val m.each row)
 
 -- a parameter without an expression has the element
-abbrev given_value : Row → Option Value → Option Tree → Option Value
+abbrev pub given_value : Row → Option Value → Option Tree → Option Value
 given_value row element None = element
 given_value row element (Some e) = val e row
 
@@ -75,20 +75,20 @@ made_rows_with es j out = made_rows (map (as_completed j out) es)
 
 -- ---- what is kept of it
 
-abbrev int_in : Value → Option ℤ
+abbrev pub int_in : Value → Option ℤ
 int_in (values.Int z) = Some z
 int_in v = None
 
-abbrev text_in : Value → Option (List ℕ)
+abbrev pub text_in : Value → Option (List ℕ)
 text_in (values.Text t) = Some t
 text_in v = None
 
-abbrev list_of : Sort → List Value → Value
+abbrev pub list_of : Sort → List Value → Value
 list_of sorts.Text vs = values.Texts (filter_map text_in vs)
 list_of sort vs = values.Ints (filter_map int_in vs)
 
 -- the list of the values that the items made, or where the task has one item its value
-abbrev out_value : Option Many → Sort → List Value → Value
+abbrev pub out_value : Option Many → Sort → List Value → Value
 out_value (Some m) sort vs = list_of sort vs
 out_value None sort [] = zero_of sort
 out_value None sort (v ∷ vs) = v

@@ -12,7 +12,7 @@ use Rattle.yw_spec.specs.declared.spec.Var.{Var}
 use Rattle.yw_spec.specs.declared.task.Many.{Many}
 use Rattle.yw_spec.specs.declared.task.Task.{Task}
 use Rattle.yw_state.specs.Allowed.{are_roles, most_tokens}
-use Rattle.yw_state.specs.Identity.{Ident, case_number, is_case_ident, parent}
+use Rattle.yw_state.specs.Identity.{Ident, case_number, child, is_case_ident, parent}
 use Rattle.yw_state.specs.Judged.{has_rule, is_tree_place, place_key}
 use Rattle.yw_state.specs.Map.{get}
 use Rattle.yw_state.specs.Nets.{child_net, is_atomic}
@@ -162,17 +162,21 @@ pub record ContentFits (reader : Reader) (s : State) : Type 0 where
 
 -- ---- 6 depth
 
-abbrev is_nested : State → Ident → Bool
+abbrev pub is_nested : State → Ident → Bool
 is_nested s j = is_some_and (item_at s j) is_composite
 
--- the net at j is so many levels down from its case, its worklet or its compensation, itself counted
-pub data IsAtLevel (s : State) : Ident → ℕ → Type 0 where
-  first : (j : Ident) → IsTrue (not (is_nested s j)) → IsAtLevel s j 1
-  further : (j : Ident) (k : ℕ) → IsTrue (is_nested s j) → IsAtLevel s (parent j) k → IsAtLevel s j (k + 1)
+-- from i, whose net is k levels down, to the end of these numbers: one level more at each item of a composite task, and the first at all else
+abbrev pub level_from : State → Ident → ℕ → List ℕ → ℕ
+level_from s i k [] = k
+level_from s i k (n ∷ js) = level_from s (child i n) (if is_nested s (child i n) then k + 1 else 1) js
+
+-- how many levels down from its case, its worklet or its compensation the net at j is, itself counted
+abbrev pub net_level : State → Ident → ℕ
+net_level s j = level_from s [] 1 j
 
 -- a net at level k has an identity of at most 30 + k numbers
 abbrev pub DepthFits : State → Type 0
-DepthFits s = (j : Ident) (n : NetPart) (k : ℕ) → net_part s j ≡ Some n → IsAtLevel s j k → length j ≤ 30 + k
+DepthFits s = (j : Ident) (n : NetPart) → net_part s j ≡ Some n → length j ≤ 30 + net_level s j
 
 -- ---- all
 

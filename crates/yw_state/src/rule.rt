@@ -76,7 +76,7 @@ pub enum Rule {
     Mark = 35,
     /// No numbers are left, or the tree has as many rules as it may have.
     Numbers = 36,
-    /// The word isn't built yet, or a specification uses what isn't. It goes when all is built.
+    /// The word isn't built yet. It goes when all is built.
     NotBuilt = 99,
 }
 

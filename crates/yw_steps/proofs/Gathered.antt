@@ -19,14 +19,15 @@ use Rattle.yw_state.proofs.MapLemmas.{by_name, tied}
 use Rattle.yw_state.proofs.Tests.{by_test, never, nowhere, some_same}
 use Rattle.yw_state.specs.Identity.{Ident, same}
 use Rattle.yw_state.specs.Map.{lexical}
-use Rattle.yw_state.specs.Passing.{made_rows, made_rows_with, row_fits, set_row}
+use Rattle.yw_state.specs.Passing as passing
+use Rattle.yw_state.specs.Passing.{int_in, list_of, made_rows, made_rows_with, row_fits, set_row, text_in}
 use Rattle.yw_state.specs.State.{ItemPart, Site}
 use Rattle.yw_state.specs.Values.{Row}
 use Rattle.yw_state.specs.Words.{is_completed}
 use Rattle.yw_state.specs.declared.part.Stage.TheVariants.{Completed}
 use Rattle.yw_steps.specs.Completes.{listed_once, made_once, outs_once}
 use Rattle.yw_task.proofs.MadeLaw.{made_rows_are, set_row_is}
-use Rattle.yw_task.specs.Making.{int_in, is_text, listed, made_by, out_value, outs_from, text_in}
+use Rattle.yw_task.specs.Making.{is_text, listed, made_by, out_value, outs_from}
 use Rattle.yw_tree.proofs.Rows.{row_parts}
 use Rattle.yw_tree.specs.declared.NetState.{NetState}
 use Rattle.yw_tree.specs.declared.Node.{Node, Node-F, out-Node, out-roll-Node, roll-Node}
@@ -102,32 +103,22 @@ module _ (j : Ident) (out : Row) where
 
 -- ---- of a task with one item
 
--- as `set_row` has it
-abbrev list_of : Sort → List Value → Value
-list_of sorts.Text vs = values.Texts (filter_map text_in vs)
-list_of sort vs = values.Ints (filter_map int_in vs)
-
-abbrev value_of : Option Many → Sort → List Value → Value
-value_of (Some m) sort vs = list_of sort vs
-value_of None sort [] = zero_of sort
-value_of None sort (v ∷ vs) = v
-
 row_of_one : (at : ℕ → Option Value) (n : ℕ) (ps : List Param) (vs : Row) → row_fits ps vs ≡ true → ((k : ℕ) → at (n + k) ≡ slice_get vs k)
-    → map (λ (e : ℕ × Param). value_of None e.1.sort (cons_option (at e.0) [])) (enumerate_from n ps) ≡ vs
+    → map (λ (e : ℕ × Param). passing.out_value None e.1.sort (cons_option (at e.0) [])) (enumerate_from n ps) ≡ vs
 row_of_one at n [] [] f h = refl
 row_of_one at n [] (v ∷ vs) f h = never f
 row_of_one at n (p ∷ ps) [] f h = never f
 row_of_one at n (p ∷ ps) (v ∷ vs) f h =
     let here : at n ≡ Some v = (let e : n ≡ n + 0 = omega arith in ap at e ∙ h 0) in
-    let rest : Row = map (λ (e : ℕ × Param). value_of None e.1.sort (cons_option (at e.0) [])) (enumerate_from (n + 1) ps) in
-    ap (λ (o : Option Value). value_of None p.sort (cons_option o []) ∷ rest) here
+    let rest : Row = map (λ (e : ℕ × Param). passing.out_value None e.1.sort (cons_option (at e.0) [])) (enumerate_from (n + 1) ps) in
+    ap (λ (o : Option Value). passing.out_value None p.sort (cons_option o []) ∷ rest) here
     ∙ ap (λ (r : Row). v ∷ r) (row_of_one at (n + 1) ps vs (and_parts (may_hold p.sort v) (row_fits ps vs) f).1 (λ k. let e : n + 1 + k ≡ n + suc k = omega arith in ap at e ∙ h (suc k)))
 
 pub speaks_one : (t : Task) → t.many ≡ None → (j : Ident) (out : Row) → row_fits t.outs out ≡ true → (p : ItemPart) (vals : Row) → set_row t (made_rows_with ((j, p) ∷ []) j out) vals ≡ out ++ vals
 speaks_one t one j out fits p vals =
     let q : ItemPart = record p { stage = Completed; made = out } in
     ap (λ (b : Bool). set_row t (made_rows (cond b (j, q) (j, p) ∷ [])) vals) (same_refl j)
-    ∙ ap (λ (o : Option Many). map (λ (e : ℕ × Param). value_of o e.1.sort (cons_option (slice_get out e.0) [])) (enumerate_from 0 t.outs) ++ vals) one
+    ∙ ap (λ (o : Option Many). map (λ (e : ℕ × Param). passing.out_value o e.1.sort (cons_option (slice_get out e.0) [])) (enumerate_from 0 t.outs) ++ vals) one
     ∙ ap (λ (r : Row). r ++ vals) (row_of_one (slice_get out) 0 t.outs out fits (λ k. let e : 0 + k ≡ k = omega arith in ap (slice_get out) e))
 
 -- ---- a list of one

@@ -13,7 +13,7 @@ use Rattle.yw_state.specs.Broken.{First}
 use Rattle.yw_state.specs.Given.{made_values, misfit}
 use Rattle.yw_state.specs.Identity.{Ident, parent, same}
 use Rattle.yw_state.specs.Judged.{has_rules, task_place}
-use Rattle.yw_state.specs.Passing.{row_fits}
+use Rattle.yw_state.specs.Passing.{int_in, row_fits, text_in}
 use Rattle.yw_state.specs.State.{ItemAt, State, item_at, items_of, net_part}
 use Rattle.yw_state.specs.Texts.{Said}
 use Rattle.yw_state.specs.Values.{Row}
@@ -26,7 +26,7 @@ use Rattle.yw_state.specs.declared.rule.Refusal.{Refusal}
 use Rattle.yw_state.specs.declared.tree.TreeKind.TheVariants.{Post}
 use Rattle.yw_steps.specs.Stands.{DoesWhere}
 use Rattle.yw_task.specs.Completes.{complete_rest, completion_fault}
-use Rattle.yw_task.specs.Making.{int_in, is_text, made_by, text_in}
+use Rattle.yw_task.specs.Making.{is_text, made_by}
 use Rattle.yw_tree.specs.Forest.{item_of, sites_of}
 use Rattle.yw_tree.specs.Places.{net_at}
 use Rattle.yw_tree.specs.Shows.{items_in}

@@ -3,8 +3,8 @@ ghost use Rattle.std.specs.Prelude.{◌≡◌, IfOk, is_some, true};
 ghost use Rattle.std.specs.List.{filter_map};
 ghost use Rattle.std.specs.Option.{option_copied};
 ghost use Rattle.std.specs.Prelude.{option_and_then};
+ghost use Rattle.yw_state.specs.Passing.{int_in, text_in};
 ghost use Rattle.yw_steps.specs.Completes.{listed_once, made_once, outs_once};
-ghost use Rattle.yw_task.specs.Making.{int_in, text_in};
 
 use std::alloc::{AllocError, Global};
 use yw_base::{Ident, Items, Row, Sort, Text, TextList, Value};

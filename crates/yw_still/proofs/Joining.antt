@@ -6,12 +6,12 @@ use Rattle.std.proofs.Common.{◌∙◌, ap, sym}
 use Rattle.std.proofs.lemmas.Bool.{and_parts, and_from}
 use Rattle.yw_base.specs.declared.gate.Gate.{Gate}
 use Rattle.yw_base.specs.declared.gate.Gate.TheVariants.{And, Xor, Or}
-use Rattle.yw_state.proofs.Tests.{never}
+use Rattle.yw_state.proofs.Tests.{never, same_numbers}
 use Rattle.yw_state.specs.Identity.{Ident}
 use Rattle.yw_state.specs.Joins.{has_tokens, joins, marked}
 use Rattle.yw_state.specs.Nets.{is_among}
 use Rattle.yw_state.specs.State.{State}
-use Rattle.yw_still.proofs.Numbers.{alike, all_filtered, among_passes, kept_some, one_of_all, same_numbers, some_kept, some_one}
+use Rattle.yw_still.proofs.Numbers.{alike, all_filtered, among_passes, kept_some, one_of_all, some_kept, some_one}
 
 module _ (s : State) (i : Ident) (before : List ℕ) where
   pub joins_tokens : (g : Gate) (taken : List ℕ) → joins g s i before taken ≡ true → has_tokens g s i before ≡ true

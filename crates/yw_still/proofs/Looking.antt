@@ -12,7 +12,7 @@ use Rattle.yw_spec.specs.declared.task.Many.{Many}
 use Rattle.yw_spec.specs.declared.task.Task.{Task}
 use Rattle.yw_state.proofs.Elsewhere.{children}
 use Rattle.yw_state.proofs.Tests.{there_and}
-use Rattle.yw_state.specs.Allowed.{exit_values, may_leave, most_tokens}
+use Rattle.yw_state.specs.Allowed.{exit_values, has_room_for, may_leave, most_tokens}
 use Rattle.yw_state.specs.Identity.{Ident, case_number, is_case_ident, is_child}
 use Rattle.yw_state.specs.Joins.{Waits, at_output, has_tokens, holds_token, marked}
 use Rattle.yw_state.specs.Judged.{is_manual}
@@ -23,7 +23,7 @@ use Rattle.yw_state.specs.State.{State, ItemAt, ItemPart, NetAt, NetPart, RunPar
 use Rattle.yw_state.specs.Words.{active, any_due, busy, clear, done, is_at_work, is_executing, is_ready, urgent}
 use Rattle.yw_state.specs.declared.part.Stage.{Stage}
 use Rattle.yw_still.specs.Looked.{LooksSame, stage_and_task}
-use Rattle.yw_still.specs.Still.{IsStill, can_be_entered, has_room_on, is_entering, is_leaving, item_begins, item_ends, item_goes_on, may_be_made, task_numbered}
+use Rattle.yw_still.specs.Still.{IsStill, can_be_entered, is_entering, is_leaving, item_begins, item_ends, item_goes_on, may_be_made, task_numbered}
 
 -- ---- tests that answer alike
 
@@ -85,17 +85,17 @@ module _ (s t : State) (j : Ident) (same : LooksSame s t j) where
       ∙ ap (λ es. list_all (λ e. done s e.0 e.1) (items_of s j x.number) || is_some_and x.task.many (λ (m : Many). nat_le m.threshold (length es)))
       (filter_alike IsBelow (λ e. done t e.0 e.1) (λ e. done s e.0 e.1) (λ e. same.done e.0 e.1) (items_of s j x.number) (children s j x.number))
 
-  room_same : (x : TaskAt) → list_all (has_room_on t j x) (split_places x.task (exit_values t j x)) ≡ list_all (has_room_on s j x) (split_places x.task (exit_values s j x))
+  room_same : (x : TaskAt) → list_all (has_room_for t j x) (split_places x.task (exit_values t j x)) ≡ list_all (has_room_for s j x) (split_places x.task (exit_values s j x))
   room_same x =
       let cs = split_places x.task (exit_values s j x) in
-      ap (λ es. list_all (has_room_on t j x) (split_places x.task (kept_values x.task (made_rows es) x.within.part.vals))) (same.items x.number)
-      ∙ all_alike (λ c. Unit {0}) (has_room_on t j x) (has_room_on s j x) (λ c u. ap (λ k. is_among x.task.drop_places c || nat_lt k most_tokens) (tokens_same c)) cs (any_number cs)
+      ap (λ es. list_all (has_room_for t j x) (split_places x.task (kept_values x.task (made_rows es) x.within.part.vals))) (same.items x.number)
+      ∙ all_alike (λ c. Unit {0}) (has_room_for t j x) (has_room_for s j x) (λ c u. ap (λ k. is_among x.task.drop_places c || nat_lt k most_tokens) (tokens_same c)) cs (any_number cs)
 
   leaving_same : (x : TaskAt) → is_leaving t j x ≡ is_leaving s j x
   leaving_same x =
-      ap (λ b. b && active t j x.number && may_leave t j x && list_all (has_room_on t j x) (split_places x.task (exit_values t j x))) same.clear
-      ∙ ap (λ b. clear s j && b && may_leave t j x && list_all (has_room_on t j x) (split_places x.task (exit_values t j x))) (active_same x.number)
-      ∙ ap (λ b. clear s j && active s j x.number && b && list_all (has_room_on t j x) (split_places x.task (exit_values t j x))) (leave_same x)
+      ap (λ b. b && active t j x.number && may_leave t j x && list_all (has_room_for t j x) (split_places x.task (exit_values t j x))) same.clear
+      ∙ ap (λ b. clear s j && b && may_leave t j x && list_all (has_room_for t j x) (split_places x.task (exit_values t j x))) (active_same x.number)
+      ∙ ap (λ b. clear s j && active s j x.number && b && list_all (has_room_for t j x) (split_places x.task (exit_values t j x))) (leave_same x)
       ∙ ap (λ b. clear s j && active s j x.number && may_leave s j x && b) (room_same x)
 
   -- ---- a task that may be entered

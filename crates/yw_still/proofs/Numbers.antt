@@ -14,16 +14,6 @@ pub alike : (cs : List ℕ) → pointwise nat_eq cs cs ≡ true
 alike [] = refl
 alike (c ∷ cs) = and_from (nat_eq c c) (pointwise nat_eq cs cs) (eq-eqb c c refl) (alike cs)
 
-pub same_numbers : (cs ds : List ℕ) → pointwise nat_eq cs ds ≡ true → cs ≡ ds
-same_numbers [] [] e = refl
-same_numbers [] (d ∷ ds) e = never e
-same_numbers (c ∷ cs) [] e = never e
-same_numbers (c ∷ cs) (d ∷ ds) e =
-    let parts = and_parts (nat_eq c d) (pointwise nat_eq cs ds) e in
-    let one = eqb-true c d parts.0 in
-    let rest = same_numbers cs ds parts.1 in
-    cc
-
 module _ (p : ℕ → Bool) where
   pub one_of_all : (cs : List ℕ) (c : ℕ) → list_all p cs ≡ true → is_among cs c ≡ true → p c ≡ true
   one_of_all [] c all among = never among

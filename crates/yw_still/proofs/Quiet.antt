@@ -7,8 +7,8 @@ use Rattle.std.proofs.lemmas.Bool.{and_parts, and_from, eqb-true, or_left, or_ri
 use Rattle.yw_base.specs.Identity.{number_end}
 use Rattle.yw_spec.specs.declared.spec.Place.{Place}
 use Rattle.yw_state.proofs.Standing.{Standing, at_item, at_net, at_run_part, at_task}
-use Rattle.yw_state.proofs.Tests.{never, some_same, there_and, then_some}
-use Rattle.yw_state.specs.Allowed.{allows, exit_values, may_leave, place_numbers}
+use Rattle.yw_state.proofs.Tests.{never, same_numbers, some_same, then_some, there_and}
+use Rattle.yw_state.specs.Allowed.{allows, exit_values, has_room_for, may_exit, may_leave, place_numbers}
 use Rattle.yw_state.specs.Automatic.{IsQuiet}
 use Rattle.yw_state.specs.Identity.{Ident, case_ident, case_number}
 use Rattle.yw_state.specs.Joins.{NoWait, at_output, joins}
@@ -25,8 +25,8 @@ use Rattle.yw_state.specs.declared.part.Checks.{Checks}
 use Rattle.yw_state.specs.declared.tree.TreeKind.{TreeKind}
 use Rattle.yw_state.specs.declared.tree.TreeKind.TheVariants as kinds
 use Rattle.yw_still.proofs.Joining.{joins_tokens}
-use Rattle.yw_still.proofs.Numbers.{clash, same_numbers}
-use Rattle.yw_still.specs.Still.{CaseIsStill, IsStill, has_room_on, item_begins, item_ends, item_goes_on, may_be_made, task_numbered}
+use Rattle.yw_still.proofs.Numbers.{clash}
+use Rattle.yw_still.specs.Still.{CaseIsStill, IsStill, item_begins, item_ends, item_goes_on, may_be_made, task_numbered}
 
 -- ---- checks
 
@@ -121,14 +121,13 @@ module _ (s : State) (n : ℕ) (still : CaseIsStill s n) where
         let waits = (still_at i here stands).entered is_task.0 x is_task.1 (and_from _ _ by_itself enters) in
         no_wait waits.0 waits.1
 
-    not_left : (places : List Place)
-        → (active s i x.number && may_leave s i x && is_some_and (place_numbers x.within.net places) (λ cs. pointwise nat_eq cs (split_places x.task (exit_values s i x)) && list_all (has_room_on s i x) cs)) ≡ true → ⊥
+    not_left : (places : List Place) → may_exit s i places x ≡ true → ⊥
     not_left places may =
         let parts = and_parts (active s i x.number && may_leave s i x) _ may in
         let goes = and_parts (active s i x.number) (may_leave s i x) parts.0 in
         let (cs, cs_are, puts) = there_and (place_numbers x.within.net places) _ parts.1 in
-        let on = and_parts (pointwise nat_eq cs (split_places x.task (exit_values s i x))) (list_all (has_room_on s i x) cs) puts in
-        let room = ap (list_all (has_room_on s i x)) (sym (same_numbers cs (split_places x.task (exit_values s i x)) on.0)) ∙ on.1 in
+        let on = and_parts (pointwise nat_eq cs (split_places x.task (exit_values s i x))) (list_all (has_room_for s i x) cs) puts in
+        let room = ap (list_all (has_room_for s i x)) (sym (same_numbers cs (split_places x.task (exit_values s i x)) on.0)) ∙ on.1 in
         clash ((still_at i here stands).left is_task.0 x is_task.1) (and_from _ _ (and_from _ _ (and_from _ _ free goes.0) goes.1) room)
 
   pub quiet : IsQuiet s n

@@ -10,7 +10,7 @@ use Rattle.yw_base.specs.declared.gate.Gate.TheVariants.{And, Xor, Or}
 use Rattle.yw_spec.specs.declared.spec.Place.{Place}
 use Rattle.yw_spec.specs.declared.task.Task.{Task}
 use Rattle.yw_state.proofs.Tests.{some_same, there_and}
-use Rattle.yw_state.specs.Allowed.{Allowed, allows, exit_values, may_leave, place_numbers}
+use Rattle.yw_state.specs.Allowed.{Allowed, allows, exit_values, has_room_for, may_exit, may_leave, place_numbers, puts_on}
 use Rattle.yw_state.specs.Identity.{Ident, case_number}
 use Rattle.yw_state.specs.Joins.{NoWait, has_tokens, joins}
 use Rattle.yw_state.specs.Judged.{is_manual}
@@ -23,7 +23,7 @@ use Rattle.yw_state.specs.Words.{active, clear}
 use Rattle.yw_state.specs.declared.event.Event.TheVariants as events
 use Rattle.yw_still.proofs.Joining.{can_take}
 use Rattle.yw_still.proofs.Numbers.{alike, all_filtered}
-use Rattle.yw_still.specs.Still.{SomethingComes, can_be_entered, has_room_on, is_entering, is_leaving, may_be_made, task_numbered}
+use Rattle.yw_still.specs.Still.{SomethingComes, can_be_entered, is_entering, is_leaving, may_be_made, task_numbered}
 use Rattle.yw_within.proofs.Finding.{OfTask, net_within, numbered_of, places_are_named, task_found}
 use Rattle.yw_within.specs.Within.{HoldsWithin, has_number}
 
@@ -85,21 +85,20 @@ module _ (s : State) (holds : HoldsWithin s) (i : Ident) (x : TaskAt) (of : OfTa
   unfolding allows
   left may =
       let (spec, within) = net_within s holds i x.within of.stands in
-      let parts = and_parts (clear s i && active s i x.number && may_leave s i x) (list_all (has_room_on s i x) (split_places x.task (exit_values s i x))) may in
+      let parts = and_parts (clear s i && active s i x.number && may_leave s i x) (list_all (has_room_for s i x) (split_places x.task (exit_values s i x))) may in
       let goes = and_parts (clear s i && active s i x.number) (may_leave s i x) parts.0 in
       let free = and_parts (clear s i) (active s i x.number) goes.0 in
       let cs = split_places x.task (exit_values s i x) in
       let all = among_after x.task (exit_values s i x) (has_number x.within.net.places) (within.each_task x.number x.task of.task).after in
       let (places, are) = places_are_named spec x.within.net within cs all in
-      let puts = ap (λ o. is_some_and o (λ ds. pointwise nat_eq ds cs && list_all (has_room_on s i x) ds)) are ∙ and_from _ _ (alike cs) parts.1 in (
+      let puts = ap (λ o. is_some_and o (puts_on s i x)) are ∙ and_from _ _ (alike cs) parts.1 in (
         events.Exit i x.task.name places,
         record {
           here = refl;
           automatic = refl;
           allowed = (
             and_from _ _ free.0
-                (ap (λ o. is_some_and o (λ (y : TaskAt). active s i y.number && may_leave s i y
-                && is_some_and (place_numbers y.within.net places) (λ ds. pointwise nat_eq ds (split_places y.task (exit_values s i y)) && list_all (has_room_on s i y) ds))) (task_found s holds i x of)
+                (ap (λ o. is_some_and o (may_exit s i places)) (task_found s holds i x of)
                 ∙ and_from _ _ (and_from _ _ free.1 goes.1) puts),
             tt,
           );

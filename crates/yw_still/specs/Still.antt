@@ -1,18 +1,18 @@
 -- What may come of itself at one identity: tests over what stands there and directly below it, and over whether its case is held or urgent.
 -- By these a case is seen to be quiet, identity by identity and task by task. Our own.
-use Rattle.std.specs.Prelude.{◌≡◌, ℕ, ◌+◌, ◌&&◌, ◌||◌, Bool, true, false, not, List, length, Option, Some, is_some, option_and_then, nat_lt, nat_le, IsTrue}
+use Rattle.std.specs.Prelude.{◌≡◌, ℕ, ◌+◌, ◌&&◌, ◌||◌, Bool, true, false, not, List, length, Option, Some, is_some, option_and_then, nat_le, IsTrue}
 use Rattle.std.specs.List.{list_all}
 use Rattle.yw_base.specs.Gates.{is_or}
 use Rattle.yw_base.specs.Identity.{number_end}
-use Rattle.yw_state.specs.Allowed.{exit_values, may_leave, most_tokens}
+use Rattle.yw_state.specs.Allowed.{exit_values, has_room_for, may_leave}
 use Rattle.yw_state.specs.Automatic.{Comes}
 use Rattle.yw_state.specs.Identity.{Ident, case_number, is_case_ident}
 use Rattle.yw_state.specs.Joins.{Waits, at_output, has_tokens}
 use Rattle.yw_state.specs.Judged.{is_manual}
-use Rattle.yw_state.specs.Nets.{child_net, is_among, is_atomic, is_empty}
+use Rattle.yw_state.specs.Nets.{child_net, is_atomic, is_empty}
 use Rattle.yw_state.specs.Options.{is_some_and}
 use Rattle.yw_state.specs.Passing.{entry_values, split_places, within_bounds}
-use Rattle.yw_state.specs.State.{State, Site, ItemAt, RunPart, TaskAt, due_at, item_at, net_at, run_part, task_in, tokens_on}
+use Rattle.yw_state.specs.State.{State, Site, ItemAt, RunPart, TaskAt, due_at, item_at, net_at, run_part, task_in}
 use Rattle.yw_state.specs.Values.{Row}
 use Rattle.yw_state.specs.Well.{Stands}
 use Rattle.yw_state.specs.Words.{active, any_due, busy, clear, is_at_work, is_executing, is_ready, urgent}
@@ -56,13 +56,9 @@ case_ends s j = is_case_ident j && clear s j && not (busy s j) && at_output s j
 abbrev pub task_numbered : State → Ident → ℕ → Option TaskAt
 task_numbered s i k = option_and_then (λ n. task_in n k) (net_at s i)
 
--- one token more is not too many, once the removal set is emptied
-abbrev pub has_room_on : State → Ident → TaskAt → ℕ → Bool
-has_room_on s i x c = is_among x.task.drop_places c || nat_lt (tokens_on s i c) most_tokens
-
 -- the task may be left
 abbrev pub is_leaving : State → Ident → TaskAt → Bool
-is_leaving s i x = clear s i && active s i x.number && may_leave s i x && list_all (has_room_on s i x) (split_places x.task (exit_values s i x))
+is_leaving s i x = clear s i && active s i x.number && may_leave s i x && list_all (has_room_for s i x) (split_places x.task (exit_values s i x))
 
 -- as many items as the task may have, for which numbers are left
 abbrev pub may_be_made : State → TaskAt → List Row → Bool

@@ -11,9 +11,9 @@ use Rattle.yw_spec.specs.declared.spec.Place.{Place}
 use Rattle.yw_spec.specs.declared.spec.Spec.{Spec}
 use Rattle.yw_spec.specs.declared.task.Task.{Task}
 use Rattle.yw_state.proofs.MapLemmas.{by_name, get-update_same}
-use Rattle.yw_state.proofs.Tests.{never, some_same, there_and}
+use Rattle.yw_state.proofs.Tests.{never, same_numbers, some_same, there_and}
 use Rattle.yw_state.specs.After.{change, count_on, empty_region, exit, idents, no_more, one_more, post_at_output, produce, set_values, where_some, with_net, without_items}
-use Rattle.yw_state.specs.Allowed.{Allowed, allows, exit_values, may_leave, most_tokens, place_numbers}
+use Rattle.yw_state.specs.Allowed.{Allowed, allows, exit_values, has_room_for, may_exit, may_leave, most_tokens, place_numbers, puts_on}
 use Rattle.yw_state.specs.Events.{after}
 use Rattle.yw_state.specs.Identity.{Ident}
 use Rattle.yw_state.specs.Map.{get}
@@ -106,24 +106,6 @@ module _ (s : State) (i : Ident) (p : NetPart) (is : net_part s i ≡ Some p) (t
 
 -- ---- where it is allowed
 
-same_numbers : (xs ys : List ℕ) → pointwise nat_eq xs ys ≡ true → xs ≡ ys
-same_numbers [] [] e = refl
-same_numbers [] (y ∷ ys) e = never e
-same_numbers (x ∷ xs) [] e = never e
-same_numbers (x ∷ xs) (y ∷ ys) e =
-    let parts = and_parts (nat_eq x y) (pointwise nat_eq xs ys) e in
-    ap (λ n. n ∷ xs) (eqb-true x y parts.0) ∙ ap (λ ns. y ∷ ns) (same_numbers xs ys parts.1)
-
--- as `may_exit` says where a task may go on
-abbrev has_room_for : State → Ident → TaskAt → ℕ → Bool
-has_room_for s i x c = is_among x.task.drop_places c || nat_lt (tokens_on s i c) most_tokens
-
-abbrev puts_on : State → Ident → TaskAt → List ℕ → Bool
-puts_on s i x cs = pointwise nat_eq cs (split_places x.task (exit_values s i x)) && list_all (has_room_for s i x) cs
-
-abbrev may_go : State → Ident → List Place → TaskAt → Bool
-may_go s i places x = active s i x.number && may_leave s i x && is_some_and (place_numbers x.within.net places) (puts_on s i x)
-
 module _ (net : Net) (t : ℕ) (old new : NetState) (task : Task) (vals : Row) (numbers : List ℕ) (kept : vals ≡ kept_values task (rows_made (items_in old t)) (out-NetState old).vals) (split : numbers ≡ split_places task vals) (left : Leaves task t vals numbers old new)
     (names : ℕ → List ℕ) (f : Forest) (s : State) (i : Ident) (spec : Spec) (h : NetStands names f s i net old) (within : NetIsWithin spec net) (at : slice_get net.tasks t ≡ Some task) where
   abbrev x : TaskAt
@@ -154,8 +136,8 @@ module _ (net : Net) (t : ℕ) (old new : NetState) (task : Task) (vals : Row) (
   exit_there places said allowed =
       let y : TaskAt = x in
       let stands : task_at s i task.name ≡ Some y = task_stands names f s i net old h spec within t task at in
-      let parts = and_parts (clear s i) (is_some_and (task_at s i task.name) (may_go s i places)) allowed.0 in
-      let may : may_go s i places y ≡ true = sym (ap (λ o. is_some_and o (may_go s i places)) stands) ∙ parts.1 in
+      let parts = and_parts (clear s i) (is_some_and (task_at s i task.name) (may_exit s i places)) allowed.0 in
+      let may : may_exit s i places y ≡ true = sym (ap (λ o. is_some_and o (may_exit s i places)) stands) ∙ parts.1 in
       let puts = (and_parts (active s i t && may_leave s i y) (is_some_and (place_numbers net places) (puts_on s i y)) may).1 in
       let c = there_and (place_numbers net places) (puts_on s i y) puts in
       let same : c.0 ≡ numbers = places_are c.0 c.2 in

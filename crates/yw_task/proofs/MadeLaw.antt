@@ -15,11 +15,12 @@ use Rattle.yw_spec.specs.declared.task.Many.{Many}
 use Rattle.yw_spec.specs.declared.task.Param.{Param}
 use Rattle.yw_spec.specs.declared.task.Task.{Task}
 use Rattle.yw_state.specs.Identity.{Ident}
-use Rattle.yw_state.specs.Passing.{kept_values, made_rows, set_row}
+use Rattle.yw_state.specs.Passing as passing
+use Rattle.yw_state.specs.Passing.{int_in, kept_values, list_of, made_rows, set_row, text_in}
 use Rattle.yw_state.specs.State.{ItemPart}
 use Rattle.yw_state.specs.Values.{Row}
 use Rattle.yw_state.specs.Words.{is_completed}
-use Rattle.yw_task.specs.Making.{assigned, column, first_or, int_in, listed, made_by, out_value, outs_from, rows_made, text_in}
+use Rattle.yw_task.specs.Making.{assigned, column, first_or, listed, made_by, out_value, outs_from, rows_made}
 use Rattle.yw_tree.proofs.Rows.{row_parts}
 use Rattle.yw_tree.specs.declared.Node.{Node, out-Node}
 
@@ -56,33 +57,24 @@ column_is k (n ∷ ns) =
 
 -- ---- of all parameters
 
-abbrev list_of : Sort → List Value → Value
-list_of sorts.Text vs = values.Texts (filter_map text_in vs)
-list_of sort vs = values.Ints (filter_map int_in vs)
-
-abbrev by_rows : Option Many → Sort → List Value → Value
-by_rows (Some m) sort vs = list_of sort vs
-by_rows None sort [] = zero_of sort
-by_rows None sort (v ∷ vs) = v
-
 lists_are : (sort : Sort) (k : ℕ) (ns : List Node) → listed sort k ns ≡ list_of sort (column k ns)
 lists_are sorts.Text k ns = ap (λ ts. values.Texts ts) (sym (filter_map_twice (made_by k) text_in ns))
 lists_are sort k ns = ap (λ zs. values.Ints zs) (sym (filter_map_twice (made_by k) int_in ns))
 
-one_is : (sort : Sort) (vs : List Value) → first_or (zero_of sort) vs ≡ by_rows None sort vs
+one_is : (sort : Sort) (vs : List Value) → first_or (zero_of sort) vs ≡ passing.out_value None sort vs
 one_is sort [] = refl
 one_is sort (v ∷ vs) = refl
 
-by_rows_is : (m : Option Many) (sort : Sort) (k : ℕ) (ns : List Node) → out_value m sort k ns ≡ by_rows m sort (column k ns)
+by_rows_is : (m : Option Many) (sort : Sort) (k : ℕ) (ns : List Node) → out_value m sort k ns ≡ passing.out_value m sort (column k ns)
 by_rows_is (Some m) sort k ns = lists_are sort k ns
 by_rows_is None sort k ns = one_is sort (column k ns)
 
 outs_are : (t : Task) (ns : List Node) (k : ℕ) (ps : List Param)
-    → outs_from t ns k ps ≡ map (λ (e : ℕ × Param). by_rows t.many e.1.sort (filter_map (λ (row : Row). slice_get row e.0) (rows_made ns))) (enumerate_from k ps)
+    → outs_from t ns k ps ≡ map (λ (e : ℕ × Param). passing.out_value t.many e.1.sort (filter_map (λ (row : Row). slice_get row e.0) (rows_made ns))) (enumerate_from k ps)
 outs_are t ns k [] = refl
 outs_are t ns k (p ∷ ps) =
-    ap (λ v. v ∷ outs_from t ns (k + 1) ps) (by_rows_is t.many p.sort k ns ∙ ap (by_rows t.many p.sort) (sym (column_is k ns)))
-    ∙ ap (λ vs. by_rows t.many p.sort (filter_map (λ (row : Row). slice_get row k) (rows_made ns)) ∷ vs) (outs_are t ns (k + 1) ps)
+    ap (λ v. v ∷ outs_from t ns (k + 1) ps) (by_rows_is t.many p.sort k ns ∙ ap (passing.out_value t.many p.sort) (sym (column_is k ns)))
+    ∙ ap (λ vs. passing.out_value t.many p.sort (filter_map (λ (row : Row). slice_get row k) (rows_made ns)) ∷ vs) (outs_are t ns (k + 1) ps)
 
 pub set_row_is : (t : Task) (ns : List Node) (vals : Row) → outs_from t ns 0 t.outs ++ vals ≡ set_row t (rows_made ns) vals
 set_row_is t ns vals = ap (λ row. row ++ vals) (outs_are t ns 0 t.outs)

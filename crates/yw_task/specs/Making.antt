@@ -13,6 +13,7 @@ use Rattle.yw_spec.specs.declared.task.Param.{Param}
 use Rattle.yw_spec.specs.declared.task.Task.{Task}
 use Rattle.yw_state.specs.After.{count_on}
 use Rattle.yw_state.specs.Allowed.{most_tokens}
+use Rattle.yw_state.specs.Passing.{int_in, text_in}
 use Rattle.yw_state.specs.Values.{Row}
 use Rattle.yw_state.specs.Words.{is_completed}
 use Rattle.yw_tree.specs.declared.Node.{Node, out-Node}
@@ -30,14 +31,6 @@ made_by k n = if is_completed (out-Node n).stage then slice_get (out-Node n).mad
 -- what the items have made of it, in order of identity
 abbrev pub column : ℕ → List Node → List Value
 column k ns = filter_map (made_by k) ns
-
-abbrev pub int_in : Value → Option ℤ
-int_in (values.Int z) = Some z
-int_in v = None
-
-abbrev pub text_in : Value → Option (List ℕ)
-text_in (values.Text t) = Some t
-text_in v = None
 
 -- what an item that is completed has made of the parameter, if that is a whole number, or a text
 abbrev pub int_by : ℕ → Node → Option ℤ

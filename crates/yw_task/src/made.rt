@@ -3,9 +3,9 @@ ghost use Rattle.std.specs.Prelude.{◌≡◌, IfOk, OnOk, fold, slice_get, slic
 ghost use Rattle.std.specs.List.{filter_map};
 ghost use Rattle.std.specs.Option.{option_copied};
 ghost use Rattle.yw_base.specs.Values.{zero_of};
-ghost use Rattle.yw_state.specs.Passing.{kept_values, set_row};
+ghost use Rattle.yw_state.specs.Passing.{int_in, kept_values, set_row, text_in};
 ghost use Rattle.yw_state.specs.Words.{is_completed};
-ghost use Rattle.yw_task.specs.Making.{assigned, column, first_or, int_by, int_in, is_text, listed, made_by, out_value, rows_made, text_by, text_in};
+ghost use Rattle.yw_task.specs.Making.{assigned, column, first_or, int_by, is_text, listed, made_by, out_value, rows_made, text_by};
 ghost use Rattle.yw_tree.specs.Shows.{items_in};
 
 use crate::done::push_copies;

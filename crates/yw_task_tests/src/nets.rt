@@ -2,7 +2,7 @@
 // document order, and then the implicit places in the order of their flows.
 use std::alloc::Global;
 use yw_check::check;
-use yw_documents::seq;
+use yw_documents::{divides, joins, many, removes, seq, splits, waits};
 use yw_read::read_spec;
 use yw_spec::{Net, Spec};
 
@@ -33,129 +33,16 @@ pub enum Doc {
 pub fn text_of(doc: Doc) -> &'static str {
     match doc {
         Doc::Seq => seq(),
-        Doc::Xor => XOR,
-        Doc::Waits => WAITS,
-        Doc::Many => MANY,
-        Doc::Divides => DIVIDES,
-        Doc::Removes => REMOVES,
-        Doc::Splits => SPLITS,
+        Doc::Xor => joins(),
+        Doc::Waits => waits(),
+        Doc::Many => many(),
+        Doc::Divides => divides(),
+        Doc::Removes => removes(),
+        Doc::Splits => splits(),
         Doc::Undefined => UNDEFINED,
         Doc::Sums => SUMS,
     }
 }
-
-const XOR: &str = r#"name = "xj"
-top = "main"
-[[net]]
-name = "main"
-input = "i"
-output = "o"
-conditions = ["c1","c2"]
-flows = [["i","s"],["s","c1"],["s","c2"],["c1","x"],["c2","x"],["x","o"]]
-[[net.task]]
-name = "s"
-[[net.task]]
-name = "x"
-join = "xor"
-"#;
-
-const WAITS: &str = r#"name = "waits"
-top = "main"
-[[net]]
-name = "main"
-input = "i"
-output = "o"
-conditions = ["c1","c2","c3","d1","d2"]
-flows = [["i","s"],["s","c1"],["s","c2"],["s","c3"],["c1","p"],["p","d1"],["c2","q"],["q","d2"],["c3","k"],["k","d1"],["d1","j"],["d2","j"],["j","o"]]
-[[net.task]]
-name = "s"
-[[net.task]]
-name = "p"
-[[net.task]]
-name = "q"
-[[net.task]]
-name = "k"
-remove = ["q"]
-[[net.task]]
-name = "j"
-join = "or"
-"#;
-
-const MANY: &str = r#"name = "many"
-top = "main"
-[[net]]
-name = "main"
-input = "i"
-output = "o"
-vars = [{name="xs",sort="texts",use="in"}]
-flows = [["i","m"],["m","z"],["z","o"]]
-[[net.task]]
-name = "m"
-ins = [{name="x",sort="text"}]
-each = "xs"
-item = "x"
-min = 2
-max = 3
-threshold = 2
-dynamic = true
-[[net.task]]
-name = "z"
-"#;
-
-const DIVIDES: &str = r#"name = "divides"
-top = "main"
-[[net]]
-name = "main"
-input = "i"
-output = "o"
-vars = [{name="x",sort="int"}]
-flows = [["i","a"],["a","o"]]
-[[net.task]]
-name = "a"
-outs = [{name="den",sort="int"}]
-set = [{var="x",value="100 / den"}]
-"#;
-
-const REMOVES: &str = r#"name = "removes"
-top = "main"
-[[net]]
-name = "main"
-input = "i"
-output = "o"
-conditions = ["c","d"]
-flows = [["i","s"],["s","c"],["s","d"],["d","a"],["a","c"],["c","b"],["b","o"]]
-[[net.task]]
-name = "s"
-[[net.task]]
-name = "a"
-remove = ["c"]
-[[net.task]]
-name = "b"
-"#;
-
-const SPLITS: &str = r#"name = "splits"
-top = "main"
-[[net]]
-name = "main"
-input = "i"
-output = "o"
-conditions = ["c1","c2","c3","d1","d2","d3"]
-vars = [{name="n",sort="int",use="in"}]
-flows = [["i","s"],["s","c1"],["s","c2"],["s","c3"],["c1","p"],["c2","q"],["c3","r"],["p","d1"],["q","d2"],["r","d3"],["d1","j"],["d2","j"],["d3","j"],["j","o"]]
-[[net.task]]
-name = "s"
-split = "or"
-branch = [{to="c1",when="n > 0"},{to="c2",when="n > 10"},{to="c3"}]
-[[net.task]]
-name = "p"
-[[net.task]]
-name = "q"
-[[net.task]]
-name = "r"
-[[net.task]]
-name = "j"
-join = "or"
-"#;
 
 const UNDEFINED: &str = r#"name = "undefined"
 top = "main"

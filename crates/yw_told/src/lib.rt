@@ -37,7 +37,7 @@ pub fn lines_tell_entries<R: Reads>()
 {}
 
 /// In each state to which allowed events lead from the opening the line of an accepted command tells its entry, the flag and the
-/// state after it. What the events load are texts that can be loaded today.
+/// state after it. What the events load are accepted texts.
 pub fn reached_lines_tell_entries()
     ensures { (es : List Event) (s : State) → LeadAll reader opening es s → LinesTellEntries reader s }
 {}

@@ -10,7 +10,7 @@ use Rattle.yw_outside.specs.declared.desk.Desk.{Ghosts}
 
 module _ {D : Type 0} (g : Ghosts D) (old new : D) (may_old may_new : Image → Type 0)
     (only_now : (i : Image) → g.left_since old (g.moment old) i → may_old i) where
-  -- a crash leaves what might have been left before, and a front of the line
+  -- a crash leaves what might have been left before, and a prefix of the line
   pub told : (line : List ℕ) → Passes (Speaks line) (g.moment old) (g.moment new) (g.left_since old) (g.left_since new) may_old may_new → LeavesOnly g old new (After (Speaks line) may_old)
   told line time = record {
     later = time.later;

@@ -10,6 +10,7 @@ use yw_base::{Name, Text};
 use yw_check::{CheckFault, check};
 use yw_read::{RawSpec, ReadFault, read_spec};
 use yw_state::{Refusal, Rule};
+use yw_wire::LINE_LIMIT;
 
 /// What is found of a text.
 #[derive(Debug, Drop)]
@@ -21,7 +22,7 @@ pub enum Finding {
 }
 
 /// The most bytes of a text that is judged.
-pub const TEXT_LIMIT: usize = 1_048_576;
+pub const TEXT_LIMIT: usize = LINE_LIMIT;
 
 /// A rule without a place.
 fn placeless(alloc: Global, rule: Rule) -> Finding

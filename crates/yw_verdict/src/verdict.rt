@@ -24,7 +24,7 @@ pub enum Verdict {
     Memory,
     /// The input couldn't be read to its end. Nothing was said.
     Read,
-    /// The line couldn't be said whole. A front of it may have been said.
+    /// The line couldn't be said whole. A prefix of it may have been said.
     Write,
 }
 
@@ -73,8 +73,7 @@ fn tell<D: Desk>(alloc: Global, finding: &Finding, desk: &mut D) -> Verdict
 /// `{"ok":true,"spec":"NAME"}` where it is accepted, and else `{"at":AT,"ok":false,"rule":RULE}`. The rule is
 /// `SpecText`, `SpecShape` or `SpecCheck` with the place of its first fault, as `yw_model` defines it; bytes that
 /// aren't UTF-8 are no document. Of a text of more than 1,048,576 bytes the rule is `LineTooLong` without a
-/// place, and reading ends with the byte that is one too many. Whether the server has built all that the
-/// specification uses doesn't matter. The words and the line are our own.
+/// place, and reading ends with the byte that is one too many. The words and the line are our own.
 ///
 /// It makes no call of the desk's files. The time is that of `check` of `yw_check`, and the memory that of the text
 /// and its document.

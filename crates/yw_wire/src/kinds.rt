@@ -15,7 +15,7 @@ use std::alloc::Global;
 use yw_base::{Ident, IdentFault, Name, NameFault, NameList, Text};
 use yw_state::TreeKind;
 
-/// The most bytes of a line, without its newline.
+/// The most bytes of a line, without its newline, and of a text in it.
 pub const LINE_LIMIT: usize = 1_048_576;
 
 /// The most roles of a person.

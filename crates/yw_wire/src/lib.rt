@@ -12,5 +12,6 @@ mod steps;
 mod values;
 
 pub use fault::WireFault;
+pub use kinds::LINE_LIMIT;
 pub use read::read_command;
 pub use reply::{reply_done, reply_refused, value_line};

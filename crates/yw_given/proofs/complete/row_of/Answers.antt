@@ -3,8 +3,8 @@ use Rattle.yw_base.specs.declared.value.Value.{Value}
 use Rattle.yw_given.proofs.Finding.{read_at}
 use Rattle.yw_given.proofs.Making.{all_step, all_stops}
 use Rattle.yw_given.proofs.complete.row_of.Goals as goal
-use Rattle.yw_given.specs.Found.{made_value}
 use Rattle.yw_spec.specs.declared.task.Param.{Param}
+use Rattle.yw_state.specs.Given.{made_value}
 use Rattle.yw_state.specs.Options.{all_of}
 
 pub returns-in-None : goal.returns-in-None

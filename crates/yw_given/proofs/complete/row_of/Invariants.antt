@@ -1,6 +1,6 @@
 use Rattle.std.specs.Prelude.{◌≡◌, Some, map}
 use Rattle.std.proofs.Common.{take}
-use Rattle.yw_given.specs.Found.{made_value}
+use Rattle.yw_state.specs.Given.{made_value}
 use Rattle.yw_state.specs.Options.{all_of}
 use Rattle.yw_given.proofs.complete.row_of.Given as goal
 

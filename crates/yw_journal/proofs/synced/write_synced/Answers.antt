@@ -1,7 +1,8 @@
 use Rattle.std.proofs.Common.{length}
 use Rattle.yw_outside.specs.Image.{Writes, Stays}
+use Rattle.yw_outside.specs.LogLaws.{untorn}
 use Rattle.yw_outside.specs.Moments.{After}
-use Rattle.yw_journal.proofs.Passing.{started, goes_on, untorn, stayed}
+use Rattle.yw_journal.proofs.Passing.{started, goes_on, stayed}
 use Rattle.yw_journal.proofs.synced.write_synced.Goals as goal
 
 pub returns-clause-any_moment : goal.returns-clause-any_moment

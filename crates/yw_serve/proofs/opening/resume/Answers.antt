@@ -1,4 +1,4 @@
-use Rattle.std.proofs.Common.{◌≡◌, ◌≤◌, ◌+◌, ℕ, [], IsTrue, Result, Err, IfErr, inl, refl, sym, ap, ◌∙◌, subst, arith, rules}
+use Rattle.std.proofs.Common.{◌≡◌, ◌≤◌, ◌+◌, ℕ, [], IsTrue, Result, Err, inl, refl, sym, ap, ◌∙◌, subst, arith, rules}
 use Rattle.yw_outside.specs.declared.desk.File.{File}
 use Rattle.yw_outside.specs.declared.desk.File.TheVariants.{A}
 use Rattle.yw_outside.specs.declared.image.Image.{Image}
@@ -9,32 +9,32 @@ use Rattle.yw_engine.specs.Held as engine
 use Rattle.yw_state.specs.State.{State, opening}
 use Rattle.yw_serve.specs.Damage.{HoldNow, IsDamagedNow}
 use Rattle.yw_serve.specs.Desks.{Stands}
-use Rattle.yw_serve.specs.Opening.{HasFaultCause, IsDamagedAt, IsReached, IsOpened}
+use Rattle.yw_serve.specs.Opening.{HasFaultCause, HasOpenCause, IsDamagedAt, IsReached, IsOpened}
 use Rattle.yw_serve.specs.declared.opening.OpenFault.{OpenFault}
 use Rattle.yw_serve.specs.declared.server.Server.{Server}
 use Rattle.yw_serve.proofs.OpenHeld.{chosen_start, content_of, current_records, damaged_within, held_records}
 use Rattle.yw_serve.proofs.OpenLooked.{fault_further, still_settled}
 use Rattle.yw_serve.proofs.opening.resume.Goals as goal
 
-pub returns-in_err-tail-clause-fault : goal.returns-in_err-tail-clause-fault
-returns-in_err-tail-clause-fault g c =
+pub returns-in_err-tail-clause-cause : goal.returns-in_err-tail-clause-cause
+returns-in_err-tail-clause-cause g c =
     let D = g.D.Desk in
     let old = c.args.desk.now in
     let new = c.read_entries.new.desk in
     let i = D.state old in
-    let s : State = engine.state_of c.new-engine.result in
+    let s : State = engine.state_of c.opening-engine.result in
     let whole = λ (f : File) (place : ℕ). IsTrue (D.tells old) → IsDamagedNow i f place in
     let found = λ (_ : ℕ) (f : File) (place : ℕ). IsTrue (D.tells old) → IsReached i.a 29 [] s → IsDamagedAt i.a f place in
     let fault : OpenFault = c.in_err-tail.field-0.0 in
-    let nobody : opening ≡ s = sym c.new-engine.ensures.state in
+    let nobody : opening ≡ s = sym c.opening-engine.ensures.state in
     let is : c.from_residual.result ≡ Err fault = search rules in
     let cause : HasFaultCause whole (D.disk_faults old) (D.disk_faults new) fault =
-    fault_further found whole (D.disk_faults old) (D.disk_faults old) (D.disk_faults new) fault (λ n. c.in_err-tail.ensures.fault) 0
+    fault_further found whole (D.disk_faults old) (D.disk_faults old) (D.disk_faults new) fault (λ n. c.in_err-tail.ensures.cause) 0
     (λ f place all tells.
     let chosen = c.requires.chosen tells in
     damaged_within i c.args.head.now chosen f place (all 0 tells (subst (λ (p : State). IsReached i.a 29 [] p) nobody (chosen_start i c.args.head.now chosen))))
     refl in
-    subst (λ (r : Result Server OpenFault). IfErr r (HasFaultCause whole (D.disk_faults old) (D.disk_faults new))) (sym is) cause
+    subst (λ (r : Result Server OpenFault). HasOpenCause D r whole old new) (sym is) cause
 
 pub returns-clause-opened : goal.returns-clause-opened
 returns-clause-opened g c = λ tells.
@@ -43,8 +43,8 @@ returns-clause-opened g c = λ tells.
     let chosen = c.requires.chosen tells in
     let tail = c.in_ok-tail.tail in
     let s : State = engine.state_of c.read_entries.new.engine in
-    let first : State = engine.state_of c.new-engine.result in
-    let nobody : opening ≡ first = sym c.new-engine.ensures.state in
+    let first : State = engine.state_of c.opening-engine.result in
+    let nobody : opening ≡ first = sym c.opening-engine.ensures.state in
     let looked = c.in_ok-tail.ensures.looked in
     let read = c.in_ok-tail.ensures.reached tells (subst (λ (p : State). IsReached i.a 29 [] p) nobody (chosen_start i head chosen)) in
     let records = read.1.0 in
@@ -63,8 +63,8 @@ returns-clause-stands g c =
     let head = c.args.head.now in
     let tail = c.in_ok-tail.tail in
     let s : State = engine.state_of c.read_entries.new.engine in
-    let first : State = engine.state_of c.new-engine.result in
-    let nobody : opening ≡ first = sym c.new-engine.ensures.state in
+    let first : State = engine.state_of c.opening-engine.result in
+    let nobody : opening ≡ first = sym c.opening-engine.ensures.state in
     let looked = c.in_ok-tail.ensures.looked in
     let bound = c.in_ok-tail.ensures.bound in
     let few : c.u64_in-2.result ≤ greatest = subst (λ (n : ℕ). n ≤ greatest) (sym c.u64_in-2.ensures) c.requires.counted in

@@ -19,4 +19,4 @@ returns-clause-applied g c = λ tells.
     let t : State = engine.state_of c.apply_entry-2.new.engine in
     let allowed = c.in_ok-apply_entry-2.field-0 in
     subst (λ (bs : List ℕ). MatchBool allowed (EntryLeads s bs t) ((u : State) → EntryLeads s bs u → ⊥))
-    (c.part-bytes.ensures.bytes (g.D.Desk.state c.args.desk.now).a (c.in_ok-reach.ensures.shows tells)) c.in_ok-apply_entry-2.ensures
+    (c.part-bytes.ensures.bytes (g.D.Desk.state c.args.desk.now).a (c.in_ok-reach.ensures.at_hand.shows tells)) c.in_ok-apply_entry-2.ensures

@@ -6,7 +6,7 @@ pub returns-then-from-len-clause-stands : goal.returns-then-from-len-clause-stan
 returns-then-from-len-clause-stands g c = λ tells.
     let file = (g.D.Desk.state c.args.desk.now).a in
     let rest = drop c.args.at file in
-    let len : c.args.len ≡ length file = c.requires.len tells in
+    let len : c.args.len ≡ length file = c.requires.at_hand.size tells in
     let size = length-drop c.args.at file in
-    let e = c.part-start.ensures.bytes file (c.in_ok-reach.ensures.shows tells) in
+    let e = c.part-start.ensures.bytes file (c.in_ok-reach.ensures.at_hand.shows tells) in
     cut_by_size c.from_be_bytes-size.result rest (open_gate 5 rest c.part-start.result.now (omega arith) (omega arith) e (search rules)) (search rules) (omega arith)

@@ -9,8 +9,8 @@ use Rattle.yw_serve.specs.Opening.{IsReached, IsOpenHere, IsCutHere}
 use Rattle.yw_serve.proofs.OpenRecords.{cut_at, none_at, reached_further, frame_here}
 use Rattle.yw_serve.proofs.opening_entries.next_entry.Goals as goal
 
-pub returns-in-Cut-clause-fault : goal.returns-in-Cut-clause-fault
-returns-in-Cut-clause-fault g c = λ records. (
+pub returns-in-Cut-clause-cause : goal.returns-in-Cut-clause-cause
+returns-in-Cut-clause-cause g c = λ records. (
   (λ tells reached.
       let file = (g.D.Desk.state c.args.desk.now).a in
       let s : State = engine.state_of c.args.engine.now in
@@ -40,8 +40,8 @@ returns-then-branch-clause-reached g c = λ tells records reached.
           (reached_further file at records s reached size t (frame_here size rest open_) (subst (λ (bs : List ℕ). EntryLeads s bs t) same got)),
     )
 
-pub returns-else-branch-clause-fault : goal.returns-else-branch-clause-fault
-returns-else-branch-clause-fault g c = λ records. (
+pub returns-else-branch-clause-cause : goal.returns-else-branch-clause-cause
+returns-else-branch-clause-cause g c = λ records. (
   (λ tells reached.
       let D = g.D.Desk in
       let file = (D.state c.args.desk.now).a in
@@ -58,5 +58,5 @@ returns-else-branch-clause-fault g c = λ records. (
       let got : (u : State) → EntryLeads s there u → ⊥ = subst (λ (b : Bool). MatchBool b (EntryLeads s there t) ((u : State) → EntryLeads s there u → ⊥)) c.if-branch.false
       (c.in_ok-apply_record-in-Open.ensures.applied telling) in
       none_at file at records s reached size (frame_here size rest open_) (subst (λ (bs : List ℕ). (u : State) → EntryLeads s bs u → ⊥) same got)),
-  c.in_ok-apply_record-in-Open.ensures.none_failed ∙ c.in_ok-gate_at.ensures.cause.none_failed,
+  c.in_ok-apply_record-in-Open.ensures.cause ∙ c.in_ok-gate_at.ensures.cause.none_failed,
 )

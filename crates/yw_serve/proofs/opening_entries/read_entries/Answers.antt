@@ -1,17 +1,17 @@
-use Rattle.std.proofs.Common.{◌≡◌, ◌+◌, ℕ, List, [], ◌∷◌, ◌++◌, IsTrue, None, Result, Ok, Err, IfErr, drop, sym, ap, ◌∙◌, subst, rules, length-append}
+use Rattle.std.proofs.Common.{◌≡◌, ◌+◌, ℕ, List, [], ◌∷◌, ◌++◌, IsTrue, None, Result, Ok, Err, drop, sym, ap, ◌∙◌, subst, rules, length-append}
 use Rattle.yw_outside.specs.declared.desk.File.{File}
 use Rattle.yw_outside.specs.declared.image.Image.{Image}
 use Rattle.yw_engine.specs.Held as engine
 use Rattle.yw_state.specs.State.{State}
-use Rattle.yw_serve.specs.Opening.{HasFaultCause, IsClosedHere, IsDamagedAt, IsReached}
+use Rattle.yw_serve.specs.Opening.{HasFaultCause, HasOpenCause, IsClosedHere, IsDamagedAt, IsReached}
 use Rattle.yw_serve.specs.declared.opening.OpenFault.{OpenFault}
 use Rattle.yw_serve.specs.declared.opening_entries.Tail.{Tail}
 use Rattle.yw_serve.specs.Window.{Shows}
-use Rattle.yw_serve.proofs.OpenLooked.{fault_further, looked_on, none_case, some_case}
+use Rattle.yw_serve.proofs.OpenLooked.{fault_further, looked_on, none_case, some_case, still_at_hand}
 use Rattle.yw_serve.proofs.opening_entries.read_entries.Goals as goal
 
-pub returns-in_err-next-clause-fault : goal.returns-in_err-next-clause-fault
-returns-in_err-next-clause-fault g c =
+pub returns-in_err-next-clause-cause : goal.returns-in_err-next-clause-cause
+returns-in_err-next-clause-cause g c =
     let D = g.D.Desk in
     let old = c.args.desk.now in
     let mid = c.loop-next.desk in
@@ -24,21 +24,18 @@ returns-in_err-next-clause-fault g c =
     let fault : OpenFault = c.in_err-next.field-0.0 in
     let is : c.from_residual.result ≡ Err fault = search rules in
     let cause : HasFaultCause whole (D.disk_faults old) (D.disk_faults new) fault =
-    fault_further found whole (D.disk_faults old) (D.disk_faults mid) (D.disk_faults new) fault c.in_err-next.ensures.fault []
+    fault_further found whole (D.disk_faults old) (D.disk_faults mid) (D.disk_faults new) fault c.in_err-next.ensures.cause []
     (λ f place all tells start.
     let reached = inv.reached tells start in
     subst (λ (i : Image). IsDamagedAt i.a f place) inv.looked.same
     (all reached.0 (inv.looked.telling ∙ tells) (subst (λ (i : Image). IsReached i.a c.loop-next.gate reached.0 t) (sym inv.looked.same) reached.1)))
     inv.none_failed in
-    subst (λ (r : Result Tail OpenFault). IfErr r (HasFaultCause whole (D.disk_faults old) (D.disk_faults new))) (sym is) cause
+    subst (λ (r : Result Tail OpenFault). HasOpenCause D r whole old new) (sym is) cause
 
-pub next_entry-requires-clause-fits : goal.next_entry-requires-clause-fits
-next_entry-requires-clause-fits g c = c.loop-next.invariant.fits
-
-pub next_entry-requires-clause-shows : goal.next_entry-requires-clause-shows
-next_entry-requires-clause-shows g c = λ tells.
+pub next_entry-requires-clause-at_hand : goal.next_entry-requires-clause-at_hand
+next_entry-requires-clause-at_hand g c =
     let inv = c.loop-next.invariant in
-    subst (λ (i : Image). Shows i.a c.loop-next.piece c.loop-next.window) (sym inv.looked.same) (inv.shows (sym inv.looked.telling ∙ tells))
+    still_at_hand g.D.Desk c.args.desk.now c.loop-next.desk c.args.len c.loop-next.window c.loop-next.piece inv.looked.same inv.looked.telling inv.at_hand
 
 pub loop-next-preserved : goal.loop-next-preserved
 loop-next-preserved g c =
@@ -52,13 +49,16 @@ loop-next-preserved g c =
     let u : State = engine.state_of c.next_entry.new.engine in
     record {
       looked = looked_on D old mid new inv.looked c.in_ok-next.ensures.looked;
-      none_failed = c.in_ok-next.ensures.none_failed ∙ inv.none_failed;
+      none_failed = c.in_ok-next.ensures.cause [] ∙ inv.none_failed;
       low = search rules;
       within = search rules;
       few = search rules;
-      fits = c.in_ok-next.ensures.fits;
-      shows = λ tells.
-          subst (λ (i : Image). Shows i.a c.next_entry.new.piece c.next_entry.new.window) inv.looked.same (c.in_ok-next.ensures.shows (inv.looked.telling ∙ tells));
+      at_hand = record {
+        size = inv.at_hand.size;
+        fits = c.in_ok-next.ensures.at_hand.fits;
+        shows = λ tells.
+            subst (λ (i : Image). Shows i.a c.next_entry.new.piece c.next_entry.new.window) inv.looked.same (c.in_ok-next.ensures.at_hand.shows (inv.looked.telling ∙ tells));
+      };
       reached = λ tells start.
           let reached = inv.reached tells start in
           let next = c.in_ok-next.ensures.reached (inv.looked.telling ∙ tells) reached.0 (subst (λ (i : Image). IsReached i.a c.loop-next.gate reached.0 t) (sym inv.looked.same) reached.1) in
@@ -87,3 +87,6 @@ returns-clause-reached g c = λ tells start.
       subst (λ (i : Image). IsClosedHere (drop c.loop-next.gate i.a)) inv.looked.same here,
       (reached.0, subst (λ (p : State). IsReached (D.state c.args.desk.now).a c.loop-next.gate reached.0 p) as_before reached.1, reached.2),
     )
+
+pub returns-clause-cause : goal.returns-clause-cause
+returns-clause-cause g c = c.in_ok-next.ensures.cause [] ∙ c.loop-next.invariant.none_failed

@@ -3,11 +3,11 @@ use Rattle.std.specs.List.{filter_map}
 use Rattle.std.specs.Prelude.{option_and_then}
 use Rattle.std.proofs.lemmas.List.{take_all}
 use Rattle.std.specs.Option.{option_copied, option_to_list}
+use Rattle.yw_state.specs.Passing.{text_in}
 use Rattle.yw_steps.specs.Completes.{made_once}
 use Rattle.yw_task.proofs.MadeLaw.{found_more}
 use Rattle.yw_steps.proofs.together.texts.Goals as goal
 use Rattle.yw_steps.proofs.together.texts.Goals.{in-Some+in_ok-copy_of+in_ok-push, in_default}
-use Rattle.yw_task.specs.Making.{text_in}
 use Rattle.yw_tree.specs.declared.Node.{Node}
 
 pub loop-node-preserved : goal.loop-node-preserved

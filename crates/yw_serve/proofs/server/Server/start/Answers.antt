@@ -92,9 +92,9 @@ returns-in-None-clause-held g c = λ tells.
 pub returns-in-Some-clause-faults : goal.returns-in-Some-clause-faults
 returns-in-Some-clause-faults g c =
     let D = g.D.Desk in
-    open_faults D _ c.args.desk.now c.resume.new.desk _ c.resume.result (c.in_ok-head.ensures.none_failed ∙ c.in_ok-sync_both.ensures.cause.none_failed) c.resume.ensures.none_failed c.resume.ensures.fault
+    open_faults D _ c.args.desk.now c.resume.new.desk _ c.resume.result (c.in_ok-head.ensures.cause ∙ c.in_ok-sync_both.ensures.cause.none_failed) c.resume.ensures.cause
 
 pub returns-in-None-clause-faults : goal.returns-in-None-clause-faults
 returns-in-None-clause-faults g c =
     let D = g.D.Desk in
-    open_faults D _ c.args.desk.now c.begin.new.desk _ c.begin.result (c.in_ok-head.ensures.none_failed ∙ c.in_ok-sync_both.ensures.cause.none_failed) c.begin.ensures.none_failed c.begin.ensures.fault
+    open_faults D _ c.args.desk.now c.begin.new.desk _ c.begin.result (c.in_ok-head.ensures.cause ∙ c.in_ok-sync_both.ensures.cause.none_failed) c.begin.ensures.cause

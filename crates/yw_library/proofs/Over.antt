@@ -8,7 +8,7 @@ use Rattle.std.specs.Ordering.{eq_by_cmp, nat_cmp}
 use Rattle.std.specs.Prelude.{List, Some, [], cond, refl, ℕ, ◌∷◌, ◌≡◌}
 use Rattle.std.specs.declared.cmp.Ordering.{Ordering}
 use Rattle.std.specs.declared.cmp.Ordering.TheVariants.{Equal, Greater, Less}
-use Rattle.yw_cases.specs.Ended.{ended_of}
+use Rattle.yw_library.specs.Ended.{ended_of}
 use Rattle.yw_state.proofs.MapEntries.{get-of_entries}
 use Rattle.yw_state.proofs.MapLemmas.{by_number, get-insert, same_map}
 use Rattle.yw_state.specs.Map.{get, insert}

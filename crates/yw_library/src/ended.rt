@@ -1,6 +1,6 @@
-//! How cases ended.
+// How cases ended.
 ghost use Rattle.std.specs.Prelude.{◌≡◌, [], OnErr, OnOk};
-ghost use Rattle.yw_cases.specs.Ended.{ended_of};
+ghost use Rattle.yw_library.specs.Ended.{ended_of};
 ghost use Rattle.yw_state.specs.Map.{get, insert};
 
 use std::alloc::{AllocError, Global};

@@ -1,7 +1,7 @@
 use Rattle.std.proofs.Common.{ap, ◌∙◌}
-use Rattle.yw_cases.proofs.Over.{put_ended}
-use Rattle.yw_cases.proofs.ended.EndedTable.put.Goals as goal
-use Rattle.yw_cases.specs.Ended.{ended_of}
+use Rattle.yw_library.proofs.Over.{put_ended}
+use Rattle.yw_library.proofs.ended.EndedTable.put.Goals as goal
+use Rattle.yw_library.specs.Ended.{ended_of}
 use Rattle.yw_state.specs.Map.{insert}
 
 pub returns-clause-ok : goal.returns-clause-ok

@@ -1,0 +1,14 @@
+-- The parts of which an engine is made.
+use Rattle.std.specs.Prelude.{◌≡◌, ℕ, List, []}
+use Rattle.yw_library.specs.Holdings.{nothing}
+use Rattle.yw_library.specs.declared.parts.Parts.{Parts}
+use Rattle.yw_state.specs.Map.{empty}
+use Rattle.yw_tree.specs.Forest.{IsForest, sites_of}
+
+-- Nobody, no specification and no case, and the first number is the next.
+pub record IsOpening (p : Parts) : Type 0 where
+  pub library : p.library ≡ nothing
+  pub boxed : IsForest p.forest
+  pub sites : (names : ℕ → List ℕ) → sites_of names p.forest ≡ empty
+  pub next : p.next ≡ 1
+  pub ended : p.ended ≡ []
