@@ -3,7 +3,8 @@
 
     python3 bench/runs.py [PROGRAM]
 
-First come many cases of examples/order.toml, each a line further than before; then a chain of tasks that nobody does; then loans of examples/loan.toml,
+First come many cases of examples/order.toml, each a line further than before; then chains of tasks that nobody does, and of AND- and
+XOR-splits into such; then loans of examples/loan.toml,
 one after another from its launch to its end; then shapes of cases at their limits: nets within nets, many items of one task, an OR-join of many
 branches. Of a shape so many cases are open, and lines are said to the last of them; the opening is taken off, and the least of several runs is
 shown, as other work on the machine only adds. The memory of a case is the most that an opening held, beyond that of one case, or of an
@@ -75,11 +76,33 @@ def chain(count):
     return f'name = "chain"\ntop = "main"\n[[net]]\nname = "main"\ninput = "i"\noutput = "o"\nflows = {json.dumps(flows)}\n{tasks}'
 
 
-def chains(folder, count):
-    """Cases of a chain of so many tasks that nobody does, launched: three steps a task."""
-    run(folder, people() + [line(cmd="load", toml=chain(count))])
+def links(count, gate):
+    """A chain of splits by a gate, each into two tasks that nobody does, and joins of the same gate."""
+    flows, tasks, before = [], "", "i"
+    branch = '\nbranch = [{{ to = "a{0}", when = "1 = 1" }}, {{ to = "b{0}" }}]' if gate == "xor" else ""
+    for n in range(count):
+        flows += [[before, f"s{n}"], [f"s{n}", f"a{n}"], [f"s{n}", f"b{n}"], [f"a{n}", f"j{n}"], [f"b{n}", f"j{n}"]]
+        before = f"j{n}"
+        more = {"s": f'\nsplit = "{gate}"' + branch.format(n), "j": f'\njoin = "{gate}"'}
+        tasks += "".join(f'[[net.task]]\nname = "{kind}{n}"\nkind = "empty"{more.get(kind, "")}\n' for kind in "sabj")
+    flows += [[before, "o"]]
+    return f'name = "chain"\ntop = "main"\n[[net]]\nname = "main"\ninput = "i"\noutput = "o"\nflows = {json.dumps(flows)}\n{tasks}'
+
+
+def launched(folder, text, steps):
+    """The microseconds of a step of cases of this specification, which run from launch to finish by themselves in so many steps."""
+    run(folder, people() + [line(cmd="load", toml=text)])
     own, system = run(folder, [line(cmd="launch", spec="chain", data={})] * 200)
-    yield f"a step of a chain of {count}", (own / (3 * count + 2), system / (3 * count + 2))
+    return own / steps, system / steps
+
+
+def chains(folder, count):
+    """Cases launched of tasks that nobody does, one after another or behind splits, at three steps a task that is done."""
+    yield f"a step of a chain of {count}", launched(folder, chain(count), 3 * count + 2)
+    for gate, done in ("and", 4), ("xor", 3):
+        with tempfile.TemporaryDirectory(dir="/dev/shm") as of_gate:
+            count_of = max(1, count // 4)
+            yield f"a step of {count_of} {gate.upper()} splits", launched(of_gate, links(count_of, gate), 3 * done * count_of + 2)
 
 
 def loans(folder, count):
