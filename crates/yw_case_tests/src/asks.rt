@@ -19,6 +19,8 @@ pub enum Data {
     Int(&'static str, i64),
     /// The list of these two texts under this name.
     Texts(&'static str, &'static str, &'static str),
+    /// A list of 17 times this text under this name.
+    Seventeen(&'static str, &'static str),
 }
 
 /// A command. Its fields stand as in its line.
@@ -56,6 +58,14 @@ fn texts_value(alloc: Global, first: &str, second: &str) -> Option<Value> {
     Some(Value::Texts(texts))
 }
 
+fn seventeen_texts(alloc: Global, text: &str) -> Option<Value> {
+    let mut texts = Items::new(alloc);
+    for _ in 0..17 {
+        texts.push(Text::copy_of(alloc, text).ok()?).ok()?;
+    }
+    Some(Value::Texts(texts))
+}
+
 /// One value under this name.
 fn one_given(alloc: Global, name: &str, value: Option<Value>) -> Option<GivenList> {
     let mut given = Items::new(alloc);
@@ -71,6 +81,7 @@ fn given(alloc: Global, values: Data) -> Option<GivenList> {
         Data::Texts(name, first, second) => {
             one_given(alloc, name, Some(texts_value(alloc, first, second)?))
         }
+        Data::Seventeen(name, text) => one_given(alloc, name, Some(seventeen_texts(alloc, text)?)),
     }
 }
 

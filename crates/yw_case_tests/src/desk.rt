@@ -52,7 +52,7 @@ fn look(alloc: Global, cases: &Cases, n: u64) -> Result<Option<Event>, AllocErro
         return Ok(None);
     };
     for id in &idents_in(alloc, case)? {
-        if let Some(event) = event_at(alloc, known, forest, id, next)? {
+        if let Some(event) = event_at(alloc, known, forest, id, next, None)? {
             return Ok(Some(event));
         }
     }
@@ -106,7 +106,7 @@ impl Desk {
         if !is_plain(event) || !matches!(self.cases.try_event(event), Ok(true)) {
             return false;
         }
-        self.loose.after(self.alloc, event);
+        self.loose.after(self.alloc, self.cases.forest(), event);
         true
     }
 

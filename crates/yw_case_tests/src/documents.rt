@@ -27,6 +27,8 @@ pub enum Doc {
     Loop,
     /// A loan that a board votes on.
     Loan,
+    /// An AND-split to c1 and c2; m has up to 20 items over `xs`, with threshold 2, and leads from c1 to z; a leads from c2 to z.
+    Crowd,
 }
 
 /// Its text. The call promises nothing, so that no proof of a test holds its letters.
@@ -43,6 +45,7 @@ pub fn text_of(doc: Doc) -> &'static str {
         Doc::Bench => BENCH,
         Doc::Loop => LOOP,
         Doc::Loan => loan(),
+        Doc::Crowd => CROWD,
     }
 }
 
@@ -101,6 +104,31 @@ kind = "empty"
 [[net.task]]
 name = "high"
 kind = "empty"
+"#;
+
+const CROWD: &str = r#"name = "crowd"
+top = "main"
+[[net]]
+name = "main"
+input = "i"
+output = "o"
+conditions = ["c1","c2"]
+vars = [{name="xs",sort="texts",use="in"}]
+flows = [["i","s"],["s","c1"],["s","c2"],["c1","m"],["c2","a"],["m","z"],["a","z"],["z","o"]]
+[[net.task]]
+name = "s"
+[[net.task]]
+name = "m"
+ins = [{name="x",sort="text"}]
+each = "xs"
+item = "x"
+min = 1
+max = 20
+threshold = 2
+[[net.task]]
+name = "a"
+[[net.task]]
+name = "z"
 "#;
 
 const LOOP: &str = r#"name = "loop"

@@ -26,6 +26,8 @@ pub enum Script {
     Items,
     /// Too few items.
     Few,
+    /// Many items, of which one is done before another task exits, and one behind it: at the threshold all go.
+    Crowd,
     /// A place is emptied, and then gets a token.
     Removal,
     /// Nets in a net, which a removal set takes away, and the case is cancelled.
@@ -46,13 +48,14 @@ pub enum Script {
 
 impl Script {
     /// Those in which all comes to rest behind each command, and no expression is undefined.
-    pub const RESTING: [Script; 12] = [
+    pub const RESTING: [Script; 13] = [
         Script::Sequence,
         Script::Refusals,
         Script::Choice,
         Script::Waiting,
         Script::Items,
         Script::Few,
+        Script::Crowd,
         Script::Removal,
         Script::Cancelled,
         Script::Nested,
@@ -70,6 +73,7 @@ impl Script {
             Script::Waiting => waiting(),
             Script::Items => items(),
             Script::Few => few(),
+            Script::Crowd => crowd(),
             Script::Removal => removal(),
             Script::Cancelled => cancelled(),
             Script::Nested => nested(),
@@ -90,6 +94,7 @@ impl Script {
             Script::Waiting => (7, None),
             Script::Items => (5, None),
             Script::Few => (3, None),
+            Script::Crowd => (21, None),
             Script::Removal => (5, Some(Way::Finished)),
             Script::Cancelled => (7, Some(Way::Cancelled)),
             Script::Nested => (8, Some(Way::Finished)),
@@ -336,6 +341,56 @@ static ITEMS: [Step; 13] = [
     (
         Ask::Add("ann", "1", "m", "s"),
         Want::Breaks(Rule::Stage, ""),
+    ),
+];
+
+fn crowd() -> &'static [Step] {
+    &CROWD
+}
+
+static CROWD: [Step; 14] = [
+    (
+        Ask::Person("ann", "clerk"),
+        Want::Steps(r#"["person ann"]"#),
+    ),
+    (Ask::Load(Doc::Crowd), Want::Steps(r#"["load crowd"]"#)),
+    (
+        Ask::Launch("crowd", Data::Seventeen("xs", "p")),
+        Want::Steps(r#"["launch 1 crowd"]"#),
+    ),
+    (
+        Ask::Enter("ann", "1", "s"),
+        Want::Steps(r#"["enter 1 s from i as 1.2"]"#),
+    ),
+    (Ask::Start("ann", "1.2"), Want::Steps(r#"["start 1.2"]"#)),
+    (
+        Ask::Complete("ann", "1.2", Data::Nothing),
+        Want::Steps(r#"["complete 1.2","exit 1 s to c1,c2"]"#),
+    ),
+    (
+        Ask::Enter("ann", "1", "m"),
+        Want::Steps(
+            r#"["enter 1 m from c1 as 1.3,1.4,1.5,1.6,1.7,1.8,1.9,1.10,1.11,1.12,1.13,1.14,1.15,1.16,1.17,1.18,1.19"]"#,
+        ),
+    ),
+    (
+        Ask::Enter("ann", "1", "a"),
+        Want::Steps(r#"["enter 1 a from c2 as 1.20"]"#),
+    ),
+    (Ask::Start("ann", "1.3"), Want::Steps(r#"["start 1.3"]"#)),
+    (
+        Ask::Complete("ann", "1.3", Data::Nothing),
+        Want::Steps(r#"["complete 1.3"]"#),
+    ),
+    (Ask::Start("ann", "1.20"), Want::Steps(r#"["start 1.20"]"#)),
+    (
+        Ask::Complete("ann", "1.20", Data::Nothing),
+        Want::Steps(r#"["complete 1.20","exit 1 a to a->z"]"#),
+    ),
+    (Ask::Start("ann", "1.19"), Want::Steps(r#"["start 1.19"]"#)),
+    (
+        Ask::Complete("ann", "1.19", Data::Nothing),
+        Want::Steps(r#"["complete 1.19","exit 1 m to m->z"]"#),
     ),
 ];
 

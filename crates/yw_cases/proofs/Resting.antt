@@ -6,8 +6,13 @@ use Rattle.yw_cases.specs.Rested.{StandsRested}
 use Rattle.yw_cases.specs.State.{state_of}
 use Rattle.yw_cases.specs.Tried.{IsDone}
 use Rattle.yw_cases.specs.declared.standing.Standing.{Standing}
+use Rattle.yw_known.specs.Held.{IsHeld}
+use Rattle.yw_library.specs.Holdings.{Holdings}
+use Rattle.yw_loose.proofs.Counting.{followed_right}
+use Rattle.yw_loose.proofs.Following.{leaves_follows}
 use Rattle.yw_loose.proofs.Moving.{fewer, nothing_more, rested_after}
-use Rattle.yw_loose.specs.Loose.{IsRested}
+use Rattle.yw_loose.specs.Counts.{Follows}
+use Rattle.yw_loose.specs.Loose.{IsRested, Loosens}
 use Rattle.yw_loose.specs.Next.{FindsLoose, StaysRested}
 use Rattle.yw_loose.specs.declared.loose.Loose.{Loose}
 use Rattle.yw_model.specs.Texts.{reader}
@@ -24,22 +29,27 @@ use Rattle.yw_walk.specs.Finds.{ComesPlainly, StandsFor}
 module _ (old : Standing) (before : Loose) (is : StandsRested old before) where
   -- whatever says so of a state before the event and one after it
   pub rested_done : (e : Event) (new : Standing) (now : Loose) → is_plain_event e ≡ true → IsDone old e new
-      → ((s t : State) → IsWell reader s → IsWell reader t → IsPlain s → is_plain_event e ≡ true → Leads reader s e t → IsRested s before → IsRested t now)
+      → ((known : Holdings) (s t : State) → IsWell reader s → IsHeld known new.forest t → IsPlain s → is_plain_event e ≡ true → Leads reader s e t
+      → IsRested s before → IsRested t now)
       → StandsRested new now
   rested_done e new now plain done moved =
       let stands = done_stands old is.stands e new plain done in
       record {
         stands = stands;
-        rested = moved (state_of old) (state_of new) is.stands.held.well stands.held.well is.stands.plain plain done.leads is.rested;
+        rested = moved new.known (state_of old) (state_of new) is.stands.held.well stands.held is.stands.plain plain done.leads is.rested;
       }
 
-  -- a load sets nothing moving
+  -- a load sets nothing moving, and completes nothing
   pub rested_load : (name text : List ℕ) (new : Standing) → IsDone old (events.Load name text) new → StandsRested new before
   rested_load name text new done =
-      rested_done (events.Load name text) new before refl done
-      (λ s t well then_well plain is_plain leads rested.
-      rested_after before before s t (events.Load name text) well then_well plain is_plain leads
-      (fewer before before (λ j. false) (is_moved (events.Load name text)) (nothing_more before) (λ j identity e. e)) rested)
+      let e : Event = events.Load name text in
+      let moves : Loosens before before (is_moved e) = fewer before before (λ j. false) (is_moved e) (nothing_more before) (λ j identity m. m) in
+      let follows : Follows new.forest e before.counts before.counts =
+      leaves_follows new.forest e before.counts before.counts refl (record { had = λ i v at. at; stays = λ i v identity at. refl }) in
+      rested_done e new before refl done
+      (λ known s t well held plain is_plain leads rested.
+      rested_after before before before.counts s t e well held.well plain is_plain leads
+      (followed_right new.forest e before.counts before.counts refl follows known s t well held plain is_plain leads rested.counted) moves rested)
 
   pub rested_same : (new : Standing) → new ≡ old → StandsRested new before
   rested_same new same = subst (λ (h : Standing). StandsRested h before) (sym same) is

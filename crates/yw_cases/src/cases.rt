@@ -119,7 +119,7 @@ impl Cases {
     {
         match try_event(self.alloc, &mut self.standing, event) {
             Ok(true) => {
-                self.loose.after(self.alloc, event);
+                self.loose.after(self.alloc, &self.standing.forest, event);
                 Ok(true)
             }
             Ok(false) => Ok(false),

@@ -54,7 +54,7 @@ fn exiting_task(
     let Some(task) = here.net.tasks.get(t) else {
         return Ok(None);
     };
-    if !may_be_left(alloc, here.net, here.state, t)? {
+    if !may_be_left(alloc, here.net, here.state, t, None)? {
         return Ok(None);
     }
     if !splits_to(alloc, here.net, here.state, t, task, places)? {

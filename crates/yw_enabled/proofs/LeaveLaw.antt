@@ -9,7 +9,7 @@ use Rattle.yw_base.specs.declared.gate.Gate.TheVariants.{And, Or, Xor}
 use Rattle.yw_enabled.proofs.Counted.{all_counted, all_same, count_same}
 use Rattle.yw_enabled.proofs.FreeItems.{all_done_there, task_is}
 use Rattle.yw_enabled.specs.Free.{StandsFree}
-use Rattle.yw_enabled.specs.Left.{IsLeavingAs, are_enough, done_count, has_room, is_done, leaves_by, needed, split_has_room}
+use Rattle.yw_enabled.specs.Left.{IsLeavingAs, TellsRight, are_enough, done_count, has_room, is_done, leaves_by, needed, split_has_room}
 use Rattle.yw_spec.specs.declared.spec.Net.{Net}
 use Rattle.yw_spec.specs.declared.task.Many.{Many}
 use Rattle.yw_spec.specs.declared.task.Task.{Task}
@@ -95,16 +95,25 @@ leaving_as net state t task at answer same = λ names f s i x h is.
     subst (λ (z : TaskAt). is_leaving s i z ≡ answer) y.2
     (leaving_there names f s i net state h t y.0 ∙ ap (leaves_by state t) its_task ∙ sym same)
 
--- where too few have come far enough, it may not be left
-pub too_few : (net : Net) (state : NetState) (t : ℕ) (task : Task) (ns : List Node) → slice_get net.tasks t ≡ Some task → ns ≡ items_in state t → are_enough task ns ≡ false → IsLeavingAs net state t false
-too_few net state t task ns at items few =
-    leaving_as net state t task at false (ap (λ b. b && split_has_room state task (items_in state t)) (sym few ∙ ap (are_enough task) items))
+-- what is told right changes no answer
+told_right : (task : Task) (told : Option ℕ) (ns : List Node) → TellsRight told ns → are_enough task ns told ≡ are_enough task ns None
+told_right task None ns right = refl
+told_right task (Some d) ns right = ap (λ n. nat_lt 0 (length ns) && nat_le (needed task (length ns)) n) right
 
--- else it may where there is room
-pub by_room : (net : Net) (state : NetState) (t : ℕ) (task : Task) (ns : List Node) → slice_get net.tasks t ≡ Some task → ns ≡ items_in state t → are_enough task ns ≡ true → (room : Bool) → room ≡ split_has_room state task ns → IsLeavingAs net state t room
-by_room net state t task ns at items enough room same =
-    leaving_as net state t task at room
-    (same ∙ ap (split_has_room state task) items ∙ ap (λ b. b && split_has_room state task (items_in state t)) (sym enough ∙ ap (are_enough task) items))
+module _ (net : Net) (state : NetState) (t : ℕ) (task : Task) (ns : List Node) (at : slice_get net.tasks t ≡ Some task) (items : ns ≡ items_in state t)
+    (told : Option ℕ) (right : TellsRight told (items_in state t)) where
+  asked : are_enough task ns told ≡ are_enough task (items_in state t) None
+  asked = ap (λ xs. are_enough task xs told) items ∙ told_right task told (items_in state t) right
+
+  -- where too few have come far enough, it may not be left
+  pub too_few : are_enough task ns told ≡ false → IsLeavingAs net state t false
+  too_few few = leaving_as net state t task at false (ap (λ b. b && split_has_room state task (items_in state t)) (sym few ∙ asked))
+
+  -- else it may where there is room
+  pub by_room : are_enough task ns told ≡ true → (room : Bool) → room ≡ split_has_room state task ns → IsLeavingAs net state t room
+  by_room enough room same =
+      leaving_as net state t task at room
+      (same ∙ ap (split_has_room state task) items ∙ ap (λ b. b && split_has_room state task (items_in state t)) (sym enough ∙ asked))
 
 -- there is room on each place of the split where there is on each place behind the task
 pub room_behind : (state : NetState) (task : Task) (ns : List Node) (places : List ℕ) → places ≡ task.after → list_all (has_room (out-NetState state).marks task) places ≡ true → true ≡ split_has_room state task ns

@@ -7,3 +7,4 @@ pub mod EnterLaw
 pub mod ItemSteps
 pub mod Results
 pub mod Coming
+pub mod DoneCounts

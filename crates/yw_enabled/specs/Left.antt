@@ -1,5 +1,5 @@
 -- When a task may be left, read off its list of items and the tokens of its net.
-use Rattle.std.specs.Prelude.{◌≡◌, ◌<◌, ℕ, ◌&&◌, ◌||◌, Bool, true, false, not, List, Option, Some, None, count_by, is_some, length, min, nat_le, nat_lt, option_map, unwrap_or}
+use Rattle.std.specs.Prelude.{◌≡◌, ◌<◌, ℕ, ◌&&◌, ◌||◌, Bool, true, false, not, IfSome, List, Option, Some, None, count_by, is_some, length, min, nat_le, nat_lt, option_and_then, option_map, slice_get, unwrap_or}
 use Rattle.std.specs.List.{list_all}
 use Rattle.yw_spec.specs.declared.spec.Net.{Net}
 use Rattle.yw_spec.specs.declared.task.Many.{Many}
@@ -32,9 +32,25 @@ done_count ns = count_by is_done ns
 abbrev pub needed : Task → ℕ → ℕ
 needed task n = unwrap_or (option_map (λ (m : Many). min n m.threshold) task.many) n
 
+-- how many of them count: as it is told, or else as they are asked
+abbrev pub told_or_asked : Option ℕ → List Node → ℕ
+told_or_asked told ns = unwrap_or told (done_count ns)
+
+-- what is told of them is right
+abbrev pub TellsRight : Option ℕ → List Node → Type 0
+TellsRight told ns = IfSome told (λ d. d ≡ done_count ns)
+
 -- there are items, and as many are done as have to be
-abbrev pub are_enough : Task → List Node → Bool
-are_enough task ns = nat_lt 0 (length ns) && nat_le (needed task (length ns)) (done_count ns)
+abbrev pub are_enough : Task → List Node → Option ℕ → Bool
+are_enough task ns told = nat_lt 0 (length ns) && nat_le (needed task (length ns)) (told_or_asked told ns)
+
+-- what is told of task t, by how many items are done of each
+abbrev pub told_of : Option (List ℕ) → ℕ → Option ℕ
+told_of told t = option_and_then (λ ds. slice_get ds t) told
+
+-- what is told of each task of a net is right
+abbrev pub TellsNet : NetState → Option (List ℕ) → Type 0
+TellsNet state told = (t : ℕ) → TellsRight (told_of told t) (items_in state t)
 
 -- one token more is not too many, once the removal set is emptied
 abbrev pub has_room : List ℕ → Task → ℕ → Bool
@@ -46,7 +62,7 @@ split_has_room state task ns =
     list_all (has_room (out-NetState state).marks task) (split_places task (kept_values task (rows_made ns) (out-NetState state).vals))
 
 abbrev pub leaves_by : NetState → ℕ → Task → Bool
-leaves_by state t task = are_enough task (items_in state t) && split_has_room state task (items_in state t)
+leaves_by state t task = are_enough task (items_in state t) None && split_has_room state task (items_in state t)
 
 -- ---- by the definitions
 

@@ -1,7 +1,8 @@
 // The first task of a net that is left or entered by nobody.
 ghost use Rattle.std.specs.Prelude.{◌≡◌, ◌<◌, ◌≤◌, IfOk, IfSome, None, length};
 ghost use Rattle.yw_enabled.specs.Entered.{ComesIn, EntersFirst, StaysOut};
-ghost use Rattle.yw_enabled.specs.Left.{LeavesFirst};
+ghost use Rattle.std.specs.Option.{option_copied};
+ghost use Rattle.yw_enabled.specs.Left.{LeavesFirst, TellsNet, told_of};
 ghost use Rattle.yw_path.specs.Upstream.{IsUpstreamOf};
 ghost use Rattle.yw_state.specs.Nets.{is_atomic};
 ghost use Rattle.yw_within.specs.Within.{most_tasks};
@@ -39,12 +40,26 @@ fn comes_in(net: &Net, state: &NetState, up: &Upstream, t: usize, first: u64) ->
     may_be_entered(net, state, up, t, first)
 }
 
-/// The first task of a net that may be left, by its number; `None` where none may. An `Err` says that no memory was left.
-pub fn first_left(alloc: Global, net: &Net, state: &NetState) -> Result<Option<usize>, AllocError>
-    ensures { IfOk result (LeavesFirst net.now state.now) }
+/// What is told of the task with this number, by how many items are done of each.
+fn told_of(told: Option<&[usize]>, t: usize) -> Option<usize>
+    ensures { result ≡ told_of (option_copied told.entry) t }
+{
+    told?.get(t).copied()
+}
+
+/// The first task of a net that may be left, by its number; `None` where none may. How many items are done of each task may be told. An `Err` says
+/// that no memory was left.
+pub fn first_left(
+    alloc: Global,
+    net: &Net,
+    state: &NetState,
+    told: Option<&[usize]>,
+) -> Result<Option<usize>, AllocError>
+    ensures within { IfOk result (λ found. IfSome found (λ t. t < length net.now.tasks)) }
+    ensures first { TellsNet state.now (option_copied told.entry) → IfOk result (LeavesFirst net.now state.now) }
 {
     for t in 0..net.tasks.as_slice().len() {
-        let may = may_be_left(alloc, net, state, t)?;
+        let may = may_be_left(alloc, net, state, t, told_of(told, t))?;
         if may {
             return Ok(Some(t));
         }

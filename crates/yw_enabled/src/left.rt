@@ -1,7 +1,8 @@
 // Whether a task may be left.
 ghost use Rattle.std.specs.Prelude.{◌≡◌, ◌<◌, ◌≤◌, IfOk, length, nat_le};
 ghost use Rattle.std.specs.List.{list_all};
-ghost use Rattle.yw_enabled.specs.Left.{IsLeavingAs, are_enough, done_count, has_room, is_done, needed, split_has_room};
+ghost use Rattle.yw_enabled.specs.Left.{IsLeavingAs, TellsRight, are_enough, done_count, has_room, is_done, needed, split_has_room, told_or_asked};
+ghost use Rattle.yw_tree.specs.Shows as shown;
 ghost use Rattle.yw_state.specs.Words.{is_completed};
 ghost use Rattle.yw_tree.specs.declared.NetState.{out-NetState};
 
@@ -24,7 +25,7 @@ fn is_completed(stage: Stage) -> bool
 
 /// The item counts where its task exits.
 #[tactic(auto, unfolding(crate::specs::Left::is_done))]
-fn is_done(node: &Node) -> bool
+pub(crate) fn is_done(node: &Node) -> bool
     ensures { result ≡ is_done node.now }
 {
     is_completed(node.stage) && !node.run.is_some() && !node.suspended
@@ -60,11 +61,22 @@ fn so_many_count(nodes: &[Node], wanted: usize) -> bool
     true
 }
 
-/// There are items, and as many of them count as have to.
-fn are_enough(task: &Task, nodes: &[Node]) -> bool
-    ensures { result ≡ are_enough task.now nodes.now }
+/// So many of these items count. How many do is told, or else they are asked.
+fn so_many_by(nodes: &[Node], wanted: usize, told: Option<usize>) -> bool
+    requires { wanted ≤ length nodes.now }
+    ensures { result ≡ nat_le wanted (told_or_asked told nodes.now) }
 {
-    0 < nodes.len() && so_many_count(nodes, needed(task, nodes.len()))
+    match told {
+        Some(done) => wanted <= done,
+        None => so_many_count(nodes, wanted),
+    }
+}
+
+/// There are items, and as many of them count as have to.
+fn are_enough(task: &Task, nodes: &[Node], told: Option<usize>) -> bool
+    ensures { result ≡ are_enough task.now nodes.now told }
+{
+    0 < nodes.len() && so_many_by(nodes, needed(task, nodes.len()), told)
 }
 
 /// One token more on the place is not too many, once the removal set is emptied.
@@ -100,15 +112,23 @@ fn split_has_room(
 }
 
 /// Whether the task of a net with this number may be left: it has items that have come far enough, and none of the places of its split has too
-/// many tokens. An `Err` says that no memory was left. None is taken, and no expression is evaluated, but where a place behind the task is full.
+/// many tokens. How many of its items count may be told; else they are asked. An `Err` says that no memory was left. None is taken, and no
+/// expression is evaluated, but where a place behind the task is full.
+///
 /// That a task is left is the paper's; how far its items have to come is after it, and how many tokens a place may have is our own.
-pub fn may_be_left(alloc: Global, net: &Net, state: &NetState, t: usize) -> Result<bool, AllocError>
+pub fn may_be_left(
+    alloc: Global,
+    net: &Net,
+    state: &NetState,
+    t: usize,
+    told: Option<usize>,
+) -> Result<bool, AllocError>
     requires { t < length net.now.tasks }
-    ensures { IfOk result (IsLeavingAs net.now state.now t) }
+    ensures { TellsRight told (shown.items_in state.now t) → IfOk result (IsLeavingAs net.now state.now t) }
 {
     let task = task_at(net, t);
     let nodes = items_in(state, t);
-    if are_enough(task, nodes) {
+    if are_enough(task, nodes, told) {
         return split_has_room(alloc, task, state, nodes);
     }
     Ok(false)

@@ -11,6 +11,7 @@ use Rattle.std.proofs.lemmas.Slice.Eq.{bytes_eq-Decides}
 use Rattle.yw_idents.proofs.Listed.{all_listed, none_stands}
 use Rattle.yw_idents.specs.Idents.{AreAllIn, idents_of, lent}
 use Rattle.yw_loose.proofs.Sets.{knows}
+use Rattle.yw_loose.specs.Counts.{AreRight}
 use Rattle.yw_loose.specs.Loose.{Gains, HasAll, HasCase, IsRested, IsSame, is_loose}
 use Rattle.yw_loose.specs.declared.loose.Loose.{Loose}
 use Rattle.yw_state.proofs.MapLemmas.{by_number, tied}
@@ -23,7 +24,7 @@ use Rattle.yw_tree.specs.declared.Case.{Case}
 use Rattle.yw_tree.specs.declared.Forest.{Forest}
 
 pub has_none : (l : Loose) → HasAll l l []
-has_none l = record { known = λ n. refl; was = λ j e. e; all = All-nil (λ j. is_loose l j ≡ true) }
+has_none l = record { known = λ n. refl; was = λ j e. e; all = All-nil (λ j. is_loose l j ≡ true); counts = refl }
 
 pub on_err : {T E : Type 0} (r : Result T E) (P : Type 0) → P → OnErr r P
 on_err (Ok x) P p = tt
@@ -40,6 +41,7 @@ module _ (old mid new : Loose) where
     all = All-more (λ j. is_loose new j ≡ true) (lent bs) i b.now (omega (arith, less, long))
         (λ k d lt. more (get_or (take i (lent bs)) k d) (has.all k d lt))
         (subst (λ j. is_loose new j ≡ true) (ap (λ (c : Bor Ident). c.now) at ∙ sym (get_or-map (λ (c : Bor Ident). c.now) bs i b b.now less)) here);
+    counts = gains.counts ∙ has.counts;
   }
     where
       long : length (lent bs) ≡ length bs
@@ -56,6 +58,7 @@ module _ (old mid new : Loose) where
     known = λ n. is.known n ∙ has.known n;
     was = λ j e. is.loose j ∙ has.was j e;
     all = All-nil (λ j. is_loose new j ≡ true);
+    counts = is.counts ∙ has.counts;
   }
 
 -- what isn't loose now wasn't before
@@ -64,6 +67,7 @@ module _ (s : State) (old new : Loose) (js : List Ident) (has : HasAll old new j
   has_rested rested = record {
     still = λ j x stands known loose.
         rested.still j x stands (sym (has.known (case_number j)) ∙ known) (by_test (is_loose old j) (λ b. never (sym loose ∙ has.was j b)) (λ f. f));
+    counted = subst (AreRight s) (sym has.counts) rested.counted;
   }
 
   -- the case in which these are all, is known
@@ -73,6 +77,7 @@ module _ (s : State) (old new : Loose) (js : List Ident) (has : HasAll old new j
       | inl here ↦ never (sym loose ∙ All-contains (λ i. is_loose new i ≡ true) js j has.all (are.all j x stands (sym (tied by_number n (case_number j) here))))
       | inr there ↦ (has_rested rested).still j x stands there loose
     ];
+    counted = (has_rested rested).counted;
   }
 
 -- ---- the case is in the forest, or isn't

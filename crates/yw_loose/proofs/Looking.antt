@@ -1,17 +1,20 @@
 -- The first event that comes, as what is loose is looked at in turn.
 use Rattle.std.specs.BTreeSet.{BTreeSet, Updates}
-use Rattle.std.specs.Prelude.{◌≡◌, ◌≢◌, ℕ, [], None, Some, false, true}
+use Rattle.std.specs.Prelude.{◌≡◌, ◌≢◌, ℕ, [], Err, IfOk, List, None, Ok, Option, Result, Some, false, true}
 use Rattle.std.proofs.Common.{subst, ◌∙◌}
 use Rattle.yw_library.specs.Holdings.{Holdings}
-use Rattle.yw_loose.proofs.Rested.{none_loose, passed_over, popped}
+use Rattle.yw_loose.proofs.Rested.{none_loose, passed_over, popped, recounted}
+use Rattle.yw_loose.specs.Counts.{AreRight}
 use Rattle.yw_loose.specs.Loose.{Forgets, is_known}
-use Rattle.yw_loose.specs.Next.{FindsLoose, StaysRested}
+use Rattle.yw_loose.specs.Next.{FindsCounted, FindsLoose, StaysRested, StaysRight}
+use Rattle.yw_loose.specs.declared.counts.Counts.{Counts}
 use Rattle.yw_loose.specs.declared.loose.Loose.{Loose}
 use Rattle.yw_state.specs.Identity.{Ident, case_number}
 use Rattle.yw_state.specs.Map.{lexical}
+use Rattle.yw_state.specs.State.{State}
 use Rattle.yw_state.specs.declared.event.Event.{Event}
 use Rattle.yw_tree.specs.declared.Forest.{Forest}
-use Rattle.yw_walk.specs.Finds.{ComesPlainly, FindsAt}
+use Rattle.yw_walk.specs.Finds.{ComesPlainly, FindsAt, StandsFor, TellsAt}
 
 -- The case is known, and what was rested is so still.
 pub record Looks (known : Holdings) (f : Forest) (n next : ℕ) (old now : Loose) : Type 0 where
@@ -19,11 +22,24 @@ pub record Looks (known : Holdings) (f : Forest) (n next : ℕ) (old now : Loose
   pub rested : StaysRested known f next old now
 
 module _ (known : Holdings) (f : Forest) (n next : ℕ) (old now : Loose) (looks : Looks known f n next old now) where
+  -- behind a look the counts are others, which are right
+  pub recounts : (c : Counts) → StaysRight known f next now.counts c → Looks known f n next old (record now { counts = c })
+  recounts c right =
+      record {
+        case = looks.case;
+        rested = λ s w rested. let so = looks.rested s w rested in recounted now c s (right s w so.counted) so;
+      }
+
   -- what is looked at first is still
-  pub still_passes : (ids : BTreeSet Ident) (id : Ident) → Updates lexical now.idents ids id false → FindsAt known f id next None
-      → Looks known f n next old (record now { idents = ids })
-  still_passes ids id updates finds =
-      record { case = looks.case; rested = λ s w rested. popped now ids id updates s (finds s w) (looks.rested s w rested) }
+  pub still_passes : (c : Counts) (ids : BTreeSet Ident) (id : Ident) → StaysRight known f next now.counts c → Updates lexical now.idents ids id false
+      → FindsCounted known f id next now.counts None → Looks known f n next old (record now { counts = c; idents = ids })
+  still_passes c ids id right updates finds =
+      record {
+        case = looks.case;
+        rested = λ s w rested.
+            let so = looks.rested s w rested in
+            popped (record now { counts = c }) ids id updates s (finds s w so.counted) (recounted now c s (right s w so.counted) so);
+      }
 
   -- or is of another case
   pub other_passes : (mid : Loose) (ids : BTreeSet Ident) (id : Ident) → n ≢ case_number id → Forgets now mid (case_number id)
@@ -35,9 +51,16 @@ module _ (known : Holdings) (f : Forest) (n next : ℕ) (old now : Loose) (looks
       }
 
   -- or has an event
-  pub found_there : (id : Ident) (e : Event) → case_number id ≡ n → FindsAt known f id next (Some e) → FindsLoose known f n next old (Some e)
-  found_there id e here finds = λ s w rested. subst (λ k. ComesPlainly s k e) here (finds s w)
+  pub found_there : (id : Ident) (e : Event) → case_number id ≡ n → FindsCounted known f id next now.counts (Some e) → FindsLoose known f n next old (Some e)
+  found_there id e here finds = λ s w rested. subst (λ k. ComesPlainly s k e) here (finds s w (looks.rested s w rested).counted)
 
   -- nothing is left to look at
   pub none_there : now.idents.keys ≡ [] → FindsLoose known f n next old None
   none_there none = λ s w rested. none_loose now none n looks.case s (looks.rested s w rested)
+
+-- what is found where what is told is right, is found where the counts are right by which it is told
+pub found_counted : {E : Type 0} (known : Holdings) (f : Forest) (id : Ident) (next : ℕ) (counts : Counts) (told : Option (List ℕ))
+    → ((s : State) → StandsFor known f next s → AreRight s counts → TellsAt f id told) → (found : Result (Option Event) E)
+    → (TellsAt f id told → IfOk found (FindsAt known f id next)) → IfOk found (FindsCounted known f id next counts)
+found_counted known f id next counts told tells (Ok found) finds = λ s w right. finds (tells s w right) s w
+found_counted known f id next counts told tells (Err fault) finds = tt

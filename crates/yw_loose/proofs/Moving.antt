@@ -9,7 +9,9 @@ use Rattle.std.proofs.lemmas.List.Folds.{list_all-append, list_any-append}
 use Rattle.std.proofs.lemmas.List.FromFn.{map-range_with_len_more}
 use Rattle.std.proofs.lemmas.Slice.Eq.{bytes_eq-Decides}
 use Rattle.yw_base.specs.Identity.{is_identity, is_number, number_end}
+use Rattle.yw_loose.specs.Counts.{AreRight}
 use Rattle.yw_loose.specs.Loose.{Forgets, Gains, IsRested, Loosens, is_known, is_loose}
+use Rattle.yw_loose.specs.declared.counts.Counts.{Counts}
 use Rattle.yw_loose.specs.declared.loose.Loose.{Loose}
 use Rattle.yw_model.specs.Texts.{reader}
 use Rattle.yw_moved.proofs.Unmoved.{stays_still}
@@ -30,13 +32,14 @@ use Rattle.yw_still.specs.Still.{IsStill}
 -- ---- one after another
 
 pub nothing_more : (l : Loose) → Loosens l l (λ j. false)
-nothing_more l = record { known = λ n e. e; was = λ j known e. e; passing = λ j identity known e. never e }
+nothing_more l = record { known = λ n e. e; was = λ j known e. e; passing = λ j identity known e. never e; counts = refl }
 
 pub one_more : (old new : Loose) (id : Ident) → Gains old new id → Loosens old new (λ j. same j id)
 one_more old new id gains = record {
   known = λ n e. sym (gains.known n) ∙ e;
   was = λ j known e. gains.loose j ∙ ap (λ b. same j id || b) e ∙ or-true (same j id);
   passing = λ j identity known e. gains.loose j ∙ ap (λ b. b || is_loose old j) e;
+  counts = gains.counts;
 }
   where
     or-true : (b : Bool) → (b || true) ≡ true
@@ -51,6 +54,7 @@ then old mid new p q first second = record {
     | inl here ↦ second.was j known (first.passing j identity (second.known (case_number j) known) here)
     | inr there ↦ second.passing j identity known there
   ];
+  counts = second.counts ∙ first.counts;
 }
 
 -- by another test that only those pass
@@ -59,6 +63,7 @@ fewer old new p q loosens implies = record {
   known = loosens.known;
   was = loosens.was;
   passing = λ j identity known e. loosens.passing j identity known (implies j identity e);
+  counts = loosens.counts;
 }
 
 -- what is no identity needn't be loose
@@ -67,6 +72,7 @@ no_identity l id none = record {
   known = λ n e. e;
   was = λ j known e. e;
   passing = λ j identity known e. absurd (none (subst (λ i. is_identity i ≡ true) ((bytes_eq-Decides j id).0 e) identity));
+  counts = refl;
 }
 
 -- and one item more, by its number
@@ -113,11 +119,17 @@ launched old new n spec vals forgets = record {
   passing = λ j identity known e.
       let here : j ≡ case_ident n = (bytes_eq-Decides j (case_ident n)).0 (sym (or-false (same j (case_ident n))) ∙ e) in
       never (sym (ap (λ (i : Ident). is_known new (case_number i)) here ∙ forgets.gone) ∙ known);
+  counts = forgets.counts;
 }
 
 -- an event that makes nothing
 over : (old new : Loose) (n : ℕ) → Forgets old new n → Loosens old new (λ j. false)
-over old new n forgets = record { known = forgets.known; was = λ j known e. ap (λ ids. contains lexical ids j) forgets.idents ∙ e; passing = λ j identity known e. never e }
+over old new n forgets = record {
+  known = forgets.known;
+  was = λ j known e. ap (λ ids. contains lexical ids j) forgets.idents ∙ e;
+  passing = λ j identity known e. never e;
+  counts = forgets.counts;
+}
 
 pub begun_or_over : (old new : Loose) (e : Event) (n : ℕ)
     → ((spec : List ℕ) × (vals : Row) × (e ≡ events.Launch n spec vals)) ⊎ (e ≡ events.Finish n) ⊎ (e ≡ events.Cancel n) → Forgets old new n
@@ -189,13 +201,15 @@ unknown l e i is identity none = record {
         | inr made ↦ made_case e i j is identity made
       ] in
       never (sym (ap (is_known l) here ∙ none) ∙ known);
+  counts = refl;
 }
 
 -- ---- an event
 
-pub rested_after : (old new : Loose) (s t : State) (e : Event) → IsWell reader s → IsWell reader t → IsPlain s → is_plain_event e ≡ true → Leads reader s e t
-    → Loosens old new (is_moved e) → IsRested s old → IsRested t new
-rested_after old new s t e well then_well plain is leads loosens rested =
+-- the counts are right behind it
+pub rested_after : (old new : Loose) (c : Counts) (s t : State) (e : Event) → IsWell reader s → IsWell reader t → IsPlain s → is_plain_event e ≡ true
+    → Leads reader s e t → AreRight t c → Loosens (record old { counts = c }) new (is_moved e) → IsRested s old → IsRested t new
+rested_after old new c s t e well then_well plain is leads right loosens rested =
     record {
       still = λ j x stands known loose.
           let here : Stands (after s e leads.said) j x = subst (λ u. Stands u j x) leads.then stands in
@@ -204,4 +218,5 @@ rested_after old new s t e well then_well plain is leads loosens rested =
           let stays = stays_still s e leads.said j x well plain is leads.allowed here unmoved_here in
           let was : is_loose old j ≡ false = by_test (is_loose old j) (λ b. never (sym loose ∙ loosens.was j known b)) (λ f. f) in
           subst (λ u. IsStill u j) (sym leads.then) (stays.still (rested.still j stays.stood.0 stays.stood.1 (loosens.known (case_number j) known) was));
+      counted = subst (AreRight t) (sym loosens.counts) right;
     }

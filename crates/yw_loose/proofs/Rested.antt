@@ -8,7 +8,9 @@ use Rattle.std.proofs.lemmas.Bool.{and_parts, eqb-true}
 use Rattle.std.proofs.lemmas.List.{nil_from_length}
 use Rattle.std.proofs.lemmas.Slice.Eq.{bytes_eq-Decides}
 use Rattle.yw_loose.proofs.Sets.{taken}
+use Rattle.yw_loose.specs.Counts.{AreRight}
 use Rattle.yw_loose.specs.Loose.{Forgets, IsRested, IsSame, is_at_rest, is_known}
+use Rattle.yw_loose.specs.declared.counts.Counts.{Counts}
 use Rattle.yw_loose.specs.declared.loose.Loose.{Loose}
 use Rattle.yw_state.proofs.Tests.{by_test, never}
 use Rattle.yw_state.specs.Automatic.{IsQuiet}
@@ -29,7 +31,10 @@ at_rest l n rest s rested =
 
 pub same_rested : (old new : Loose) → IsSame old new → (s : State) → IsRested s old → IsRested s new
 same_rested old new same s rested =
-    record { still = λ j x stands known loose. rested.still j x stands (sym (same.known (case_number j)) ∙ known) (sym (same.loose j) ∙ loose) }
+    record {
+      still = λ j x stands known loose. rested.still j x stands (sym (same.known (case_number j)) ∙ known) (sym (same.loose j) ∙ loose);
+      counted = subst (AreRight s) (sym same.counts) rested.counted;
+    }
 
 -- an identity that is still is loose no longer
 pub popped : (l : Loose) (ids : BTreeSet Ident) (id : Ident) → Updates lexical l.idents ids id false → (s : State) → IsStill s id → IsRested s l
@@ -40,6 +45,7 @@ popped l ids id updates s still rested =
           by_test (same j id)
           (λ t. subst (IsStill s) (sym ((bytes_eq-Decides j id).0 t)) still)
           (λ f. rested.still j x stands known (sym (taken l ids id updates j f) ∙ loose));
+      counted = rested.counted;
     }
 
 -- nor is one of another case, of which nothing is known any more
@@ -51,4 +57,9 @@ passed_over old mid ids id forgets updates s rested =
           by_test (same j id)
           (λ t. never (sym (ap (λ (i : Ident). is_known mid (case_number i)) ((bytes_eq-Decides j id).0 t) ∙ forgets.gone) ∙ known))
           (λ f. rested.still j x stands (forgets.known (case_number j) known) (sym (ap (λ is. contains lexical is j) forgets.idents) ∙ sym (taken mid ids id updates j f) ∙ loose));
+      counted = subst (AreRight s) (sym forgets.counts) rested.counted;
     }
+
+-- other counts that are right
+pub recounted : (l : Loose) (c : Counts) (s : State) → AreRight s c → IsRested s l → IsRested s (record l { counts = c })
+recounted l c s right rested = record { still = rested.still; counted = right }

@@ -27,6 +27,7 @@ module _ (l : Loose) (ids : BTreeSet Ident) (id : Ident) where
   gained updates = record {
     known = λ n. refl;
     loose = λ j. updates.0 j ∙ cond_or (eq_by_cmp lexical id j) (is_loose l j) ∙ ap (λ b. b || is_loose l j) (tied_same id j);
+    counts = refl;
   }
 
   pub taken : Updates lexical l.idents ids id false → (j : Ident) → same j id ≡ false → contains lexical ids j ≡ is_loose l j

@@ -2,6 +2,7 @@
 //! whole case. The README of the crate says which clause proves what.
 #![tactic(auto)]
 
+mod counts;
 mod listing;
 mod loose;
 mod moved;

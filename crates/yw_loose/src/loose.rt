@@ -4,18 +4,20 @@ ghost use Rattle.yw_loose.specs.Loose.{Forgets, Gains, IsRested, IsSame, is_at_r
 ghost use Rattle.yw_state.specs.Automatic.{IsQuiet};
 ghost use Rattle.yw_state.specs.State.{State};
 
+use crate::counts::Counts;
 use std::alloc::{AllocError, Global};
 use std::collections::BTreeSet;
 use yw_base::Ident;
 
 /// The cases of which it is known where something may come of itself, and these identities: at each other identity of a known case all is
-/// still. Our own.
+/// still. Beside them, how many items are done. Our own.
 #[derive(Drop)]
 pub struct Loose {
     /// The numbers of the cases that are known.
     pub(crate) known: BTreeSet<u64>,
     /// The identities, each before those below it.
     pub(crate) idents: BTreeSet<Ident>,
+    pub(crate) counts: Counts,
 }
 
 impl Loose {
@@ -26,15 +28,17 @@ impl Loose {
         Loose {
             known: BTreeSet::new(alloc),
             idents: BTreeSet::new(alloc),
+            counts: Counts::new(alloc),
         }
     }
 
-    /// Nothing is known of any case any more.
+    /// Nothing is known of any case any more, and no net has counts.
     pub fn forget(&mut self)
         ensures { (s : State) → IsRested s self.new }
     {
         self.known.clear();
         self.idents.clear();
+        self.counts.forget();
     }
 
     /// It is known that the case with this number is quiet. `false` says nothing. It takes no memory.

@@ -2,6 +2,8 @@
 ghost use Rattle.std.specs.List.{list_any, range_with_len};
 ghost use Rattle.std.specs.Prelude.{◌≡◌, ◌+◌, ◌||◌, IfOk, OnOk, Some, SomeIff, map, option_copied, true};
 ghost use Rattle.yw_base.specs.Identity.{is_identity};
+ghost use Rattle.yw_known.specs.Held.{IsHeld};
+ghost use Rattle.yw_library.specs.Holdings.{Holdings};
 ghost use Rattle.yw_loose.specs.Loose.{IsRested, Loosens};
 ghost use Rattle.yw_model.specs.Texts.{reader};
 ghost use Rattle.yw_moved.specs.Moved.{done_at, is_moved, made_by};
@@ -16,6 +18,7 @@ use std::alloc::{AllocError, Global};
 use yw_base::Ident;
 use yw_idents::{case_number, parent};
 use yw_state::Event;
+use yw_tree::Forest;
 
 /// The net or the item at which an event is done; `None` for one of a whole case, or of none.
 fn done_at(event: &Event) -> Option<&Ident>
@@ -133,12 +136,13 @@ impl Loose {
         }
     }
 
-    /// An event of neither a rule tree nor an exlet is done: what it may have set moving is loose now, if its case is known. Where no memory is left,
-    /// nothing is known of any case any more.
-    pub fn after(&mut self, alloc: Global, event: &Event)
-        ensures { (s t : State) → IsWell reader s → IsWell reader t → IsPlain s → is_plain_event event.now ≡ true → Leads reader s event.now t
-            → IsRested s self.old → IsRested t self.new }
+    /// An event of neither a rule tree nor an exlet is done, and this is the forest behind it: what the event may have set moving is loose now, if its
+    /// case is known, and what it completes is counted. Where no memory is left, nothing is known of any case any more.
+    pub fn after(&mut self, alloc: Global, forest: &Forest, event: &Event)
+        ensures { (known : Holdings) (s t : State) → IsWell reader s → IsHeld known forest.now t → IsPlain s → is_plain_event event.now ≡ true
+            → Leads reader s event.now t → IsRested s self.old → IsRested t self.new }
     {
+        self.counts.after(alloc, forest, event);
         match self.add_moved(alloc, event) {
             Ok(()) => (),
             Err(AllocError) => self.forget(),

@@ -1,15 +1,36 @@
 // The next event that comes of itself in a case, by what is loose.
 ghost use Rattle.std.specs.Prelude.{◌≡◌, IfOk, true};
 ghost use Rattle.yw_loose.specs.Loose.{is_known};
-ghost use Rattle.yw_loose.specs.Next.{FindsLoose, StaysRested};
+ghost use Rattle.yw_loose.specs.Next.{FindsCounted, FindsLoose, StaysRested, StaysRight};
 
 use crate::Loose;
+use crate::counts::Counts;
 use std::alloc::{AllocError, Global};
+use yw_base::Ident;
 use yw_idents::case_number;
 use yw_known::Known;
 use yw_state::Event;
 use yw_tree::Forest;
 use yw_walk::event_at;
+
+/// What comes of itself at an identity, by the counts of the net there, which are made where it has none and a task of it has many items. An `Err`
+/// says that no memory was left.
+fn event_counted(
+    alloc: Global,
+    known: &Known,
+    forest: &Forest,
+    id: &Ident,
+    next: u64,
+    counts: &mut Counts,
+) -> Result<Option<Event>, AllocError>
+    ensures found { IfOk result (FindsCounted known.now forest.now id.now next counts.old) }
+    ensures right { StaysRight known.now forest.now next counts.old counts.new }
+{
+    // No work is done here: it says that it is an identity.
+    let _ = id.numbers();
+    counts.know(alloc, forest, id)?;
+    event_at(alloc, known, forest, id, next, counts.told(id))
+}
 
 impl Loose {
     /// What comes of itself at the first identity that is loose and at which something does. Those before it are loose no longer; of their cases,
@@ -33,7 +54,8 @@ impl Loose {
                 self.idents.pop_first();
                 continue;
             }
-            if let Some(event) = event_at(alloc, known, forest, id, next)? {
+            let found = event_counted(alloc, known, forest, id, next, &mut self.counts)?;
+            if let Some(event) = found {
                 return Ok(Some(event));
             }
             self.idents.pop_first();

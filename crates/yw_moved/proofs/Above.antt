@@ -177,7 +177,7 @@ children_undrawn s i k first (suc count) later made =
       | inr rest ↦ children_undrawn s i k (first + 1) count (omega (arith, later)) rest
     ]
 
-made_undrawn : (s : State) (e : Event) (said : Said) (k : Ident) → Allowed s e said → list_any (same k) (made_by e) ≡ true → is_drawn s k ≡ false
+pub made_undrawn : (s : State) (e : Event) (said : Said) (k : Ident) → Allowed s e said → list_any (same k) (made_by e) ≡ true → is_drawn s k ≡ false
 made_undrawn s (events.Launch n name vals) said k ok made =
     let next = first-drawn s (events.Launch n name vals) said n ok.0 refl in
     children_undrawn s [] k n 1 (omega (arith, next)) made

@@ -4,6 +4,7 @@ use Rattle.std.specs.Prelude.{◌≡◌, ◌↔◌, ℕ, Bool, IsTrue, List, Mat
 use Rattle.yw_base.specs.Gates.{is_or}
 use Rattle.yw_enabled.specs.Entered.{EntersFrom}
 use Rattle.yw_enabled.specs.Free.{MayDraw, StandsFree}
+use Rattle.yw_enabled.specs.Left.{TellsNet}
 use Rattle.yw_known.specs.Held.{IsHeld}
 use Rattle.yw_known.specs.declared.here.NetHere.{NetHere}
 use Rattle.yw_library.specs.Holdings.{Holdings}
@@ -24,7 +25,8 @@ use Rattle.yw_state.specs.State.{State, TaskAt}
 use Rattle.yw_state.specs.declared.event.Event.{Event}
 use Rattle.yw_still.specs.Still.{CaseIsStill, IsStill, case_ends, is_entering, is_leaving, item_goes_on, task_numbered}
 use Rattle.yw_tree.specs.declared.Forest.{Forest}
-use Rattle.yw_tree.specs.declared.NetState.{out-NetState}
+use Rattle.yw_tree.specs.Places.{net_at}
+use Rattle.yw_tree.specs.declared.NetState.{NetState, out-NetState}
 use Rattle.yw_within.specs.Within.{HoldsWithin, NetIsWithin}
 use Rattle.yw_plain.specs.Worklets.{HasNoWorklet}
 
@@ -84,6 +86,10 @@ abbrev pub FindsEntered : NetHere → Ident → ℕ → Option Event → Type 0
 FindsEntered h i next found =
     (names : ℕ → List ℕ) (f : Forest) (s : State) → MayDraw names f s i h.net.now h.state.now next → HoldsWithin s → AtomicIsManual s
     → MatchOption found (NoneEntered s i) (ComesPlainly s (case_number i))
+
+-- what is told of the net at i in the forest is right: how many items of each task are done
+abbrev pub TellsAt : Forest → Ident → Option (List ℕ) → Type 0
+TellsAt f i told = (state : NetState) → net_at f i ≡ Some state → TellsNet state told
 
 -- ---- an identity
 

@@ -22,7 +22,7 @@ fn first_at(
     ensures { IfOk result (FindsAmong known.now forest.now (lent idents.now.items) next) }
 {
     for id in idents {
-        if let Some(event) = event_at(alloc, known, forest, id, next)? {
+        if let Some(event) = event_at(alloc, known, forest, id, next, None)? {
             return Ok(Some(event));
         }
     }

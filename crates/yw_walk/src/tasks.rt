@@ -2,6 +2,8 @@
 ghost use Rattle.std.specs.Prelude.{◌≡◌, ◌<◌, IfOk, List, Some, length, true};
 ghost use Rattle.yw_state.specs.Passing.{entry_values, within_bounds};
 ghost use Rattle.yw_state.specs.Values.{Row};
+ghost use Rattle.std.specs.Option.{option_copied};
+ghost use Rattle.yw_enabled.specs.Left.{TellsNet};
 ghost use Rattle.yw_walk.specs.Finds.{FindsEntered, FindsLeft, IsEntry, IsExit, IsKnownHere};
 
 use crate::places::{places_of, taken_from};
@@ -30,11 +32,17 @@ fn exit_of(alloc: Global, here: &NetHere<'_>, at: &Ident, t: usize) -> Result<Ev
     })
 }
 
-/// The exit of the first task of the net at an identity that may be left; `None` where none may. An `Err` says that no memory was left.
-pub fn exit_at(alloc: Global, here: &NetHere<'_>, at: &Ident) -> Result<Option<Event>, AllocError>
-    ensures { IfOk result (FindsLeft here.now at.now) }
+/// The exit of the first task of the net at an identity that may be left; `None` where none may. How many items of each task are done may be told. An
+/// `Err` says that no memory was left.
+pub fn exit_at(
+    alloc: Global,
+    here: &NetHere<'_>,
+    at: &Ident,
+    told: Option<&[usize]>,
+) -> Result<Option<Event>, AllocError>
+    ensures { TellsNet here.now.state.now (option_copied told.entry) → IfOk result (FindsLeft here.now at.now) }
 {
-    match first_left(alloc, here.net, here.state)? {
+    match first_left(alloc, here.net, here.state, told)? {
         Some(t) => Ok(Some(exit_of(alloc, here, at, t)?)),
         None => Ok(None),
     }

@@ -27,7 +27,7 @@ pub returns-then-not-branch : goal.returns-then-not-branch
 returns-then-not-branch c =
     not_leaving c.args.standing.now c.requires c.args.at.now c.args.name.now c.args.places.now c.in-Some.here (c.in-Some.ensures _ c.requires.held) c.in-Some-task_called.t
     (sym c.in-Some-task_called.ensures) c.in-Some-get.task.now (sym c.in-Some-get.ensures)
-    (subst (IsLeavingAs c.in-Some.here.net.now c.in-Some.here.state.now c.in-Some-task_called.t) c.if-not-branch.true c.in_ok-may_be_left.ensures)
+    (subst (IsLeavingAs c.in-Some.here.net.now c.in-Some.here.state.now c.in-Some-task_called.t) c.if-not-branch.true (c.in_ok-may_be_left.ensures tt))
 
 pub returns-then-not-branch-2 : goal.returns-then-not-branch-2
 returns-then-not-branch-2 c =
@@ -38,5 +38,5 @@ pub returns : goal.returns
 returns c =
     is_exit c.args.standing.now c.requires c.args.at.now c.args.name.now c.args.places.now c.in-Some.here (c.in-Some.ensures _ c.requires.held) c.in-Some-task_called.t
     (sym c.in-Some-task_called.ensures) c.in-Some-get.task.now (sym c.in-Some-get.ensures)
-    (subst (IsLeavingAs c.in-Some.here.net.now c.in-Some.here.state.now c.in-Some-task_called.t) c.if-not-branch.false c.in_ok-may_be_left.ensures)
+    (subst (IsLeavingAs c.in-Some.here.net.now c.in-Some.here.state.now c.in-Some-task_called.t) c.if-not-branch.false (c.in_ok-may_be_left.ensures tt))
     (sym c.in_ok-splits_to.ensures ∙ c.if-not-branch-2.false)

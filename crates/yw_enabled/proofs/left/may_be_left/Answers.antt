@@ -5,13 +5,14 @@ use Rattle.yw_enabled.proofs.left.may_be_left.Goals as goal
 use Rattle.yw_enabled.specs.Left.{IsLeavingAs, split_has_room}
 
 pub returns-then-are_enough : goal.returns-then-are_enough
-returns-then-are_enough c =
+returns-then-are_enough c = λ right.
     let task = c.task_at-task.result.now in
     let ns = c.items_in-nodes.result.now in
     ok_then c.split_has_room.result (λ room. room ≡ split_has_room c.args.state.now task ns) (IsLeavingAs c.args.net.now c.args.state.now c.args.t) c.split_has_room.ensures
-    (by_room c.args.net.now c.args.state.now c.args.t task ns c.task_at-task.ensures c.items_in-nodes.ensures (sym c.are_enough.ensures ∙ c.if-are_enough.true))
+    (by_room c.args.net.now c.args.state.now c.args.t task ns c.task_at-task.ensures c.items_in-nodes.ensures c.args.told right
+    (sym c.are_enough.ensures ∙ c.if-are_enough.true))
 
 pub returns : goal.returns
-returns c =
+returns c = λ right.
     too_few c.args.net.now c.args.state.now c.args.t c.task_at-task.result.now c.items_in-nodes.result.now c.task_at-task.ensures c.items_in-nodes.ensures
-    (sym c.are_enough.ensures ∙ c.if-are_enough.false)
+    c.args.told right (sym c.are_enough.ensures ∙ c.if-are_enough.false)

@@ -3,7 +3,7 @@ use Rattle.yw_walk.proofs.AllStill.{at_there}
 use Rattle.yw_walk.proofs.identity.event_at.Goals as goal
 
 pub returns-in-None : goal.returns-in-None
-returns-in-None c =
-    ok_then c.item_or_tasks_at.result _ _ c.item_or_tasks_at.ensures
+returns-in-None c = λ tells.
+    ok_then c.item_or_tasks_at.result _ _ (c.item_or_tasks_at.ensures tells)
     (λ found below. at_there c.args.known.now c.args.forest.now c.args.id.now c.args.next
     c.ends_at-ends.result c.ends_at-ends.ensures c.in-None.ensures found below)

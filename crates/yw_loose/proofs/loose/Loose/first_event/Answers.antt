@@ -1,14 +1,14 @@
 use Rattle.std.proofs.Common.{ap, arith, length, subst, sym, ◌<◌, ◌∙◌}
 use Rattle.std.specs.BTreeSet.{BTreeSet, Updates}
 use Rattle.std.specs.Prelude.{false, slice_get}
-use Rattle.yw_loose.proofs.Looking.{none_there, other_passes, still_passes}
+use Rattle.yw_loose.proofs.Looking.{none_there, other_passes, recounts, still_passes}
 use Rattle.yw_loose.proofs.Sets.{first_popped, none_first}
 use Rattle.yw_loose.proofs.loose.Loose.first_event.Goals as goal
 use Rattle.yw_loose.specs.Loose.{Forgets}
+use Rattle.yw_loose.specs.Next.{FindsCounted}
 use Rattle.yw_state.proofs.Tests.{never}
 use Rattle.yw_state.specs.Identity.{Ident}
 use Rattle.yw_state.specs.Map.{lexical}
-use Rattle.yw_walk.specs.Finds.{FindsAt}
 
 -- another case's is taken out
 popped : (c : goal.Joined-pop_first) → Updates lexical c.forget_case.new.self.idents c.pop_first.new.self c.in-Some.id.now false
@@ -30,12 +30,23 @@ idents-preserved-then-case-n c =
     c.pop_first.new.self c.in-Some.id.now (λ same. c.if-case-n.true (c.case_number-case.ensures ∙ sym same))
     (subst (Forgets c.idents.self c.forget_case.new.self) c.case_number-case.ensures c.forget_case.ensures) (popped c).0
 
-pub idents-preserved-in_default-2 : goal.idents-preserved-in_default-2
-idents-preserved-in_default-2 c =
-    still_passes c.args.known.now c.args.forest.now c.args.n c.args.next c.args.self.now c.idents.self c.idents.invariant c.pop_first-in-Some.new.self c.in-Some.id.now
+pub idents-preserved-in_default-found : goal.idents-preserved-in_default-found
+idents-preserved-in_default-found c =
+    still_passes c.args.known.now c.args.forest.now c.args.n c.args.next c.args.self.now c.idents.self c.idents.invariant c.event_counted.new.counts
+    c.pop_first-in-Some.new.self c.in-Some.id.now c.in_ok-found.ensures.right
     (first_popped c.idents.self.idents c.pop_first-in-Some.new.self c.in-Some.id.now c.pop_first-in-Some.result c.in-Some.ensures.first
     c.pop_first-in-Some.ensures.variant c.pop_first-in-Some.ensures.removal c.pop_first-in-Some.ensures.updates).0
-    (subst (FindsAt c.args.known.now c.args.forest.now c.in-Some.id.now c.args.next) c.in_default-2.is c.in_ok-event.ensures)
+    (subst (FindsCounted c.args.known.now c.args.forest.now c.in-Some.id.now c.args.next c.idents.self.counts) c.in_default-found.is c.in_ok-found.ensures.found)
+
+pub returns-in_err-found-clause-rested : goal.returns-in_err-found-clause-rested
+returns-in_err-found-clause-rested c =
+    (recounts c.args.known.now c.args.forest.now c.args.n c.args.next c.args.self.now c.idents.self c.idents.invariant c.event_counted.new.counts
+    c.in_err-found.ensures.right).rested
+
+pub returns-in-Some-found-clause-rested : goal.returns-in-Some-found-clause-rested
+returns-in-Some-found-clause-rested c =
+    (recounts c.args.known.now c.args.forest.now c.args.n c.args.next c.args.self.now c.idents.self c.idents.invariant c.event_counted.new.counts
+    c.in_ok-found.ensures.right).rested
 
 pub returns-clause-found : goal.returns-clause-found
 returns-clause-found c =

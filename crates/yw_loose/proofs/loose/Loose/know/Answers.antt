@@ -15,7 +15,7 @@ returns-in_err-insert-clause-rested c = λ names s boxed sites rested.
     let all = c.in_ok-add_case.ensures.ok.has names s boxed sites in
     let mid = c.add_case.new.self in
     same_rested mid (record mid { known = c.insert.new.self })
-    (record { known = λ n. ap (list_any (is_at (nat_cmp n))) c.in_err-insert.ensures.err; loose = λ j. refl }) s
+    (record { known = λ n. ap (list_any (is_at (nat_cmp n))) c.in_err-insert.ensures.err; loose = λ j. refl; counts = refl }) s
     (has_rested s c.args.self.now mid all.0 all.2 rested)
 
 pub returns-clause-rested : goal.returns-clause-rested

@@ -1,0 +1,5 @@
+pub mod Counting
+pub mod Staying
+pub mod Changing
+pub mod Leaving
+pub mod Following

@@ -1,0 +1,44 @@
+-- How many items of a task are done, and what an event changes of it. Our own.
+use Rattle.std.specs.Prelude.{◌≡◌, ◌⊎◌, ◌+◌, ◌==◌, ◌&&◌, ℕ, Bool, true, false, cond, [], filter, length, Option, Some, None, is_some}
+use Rattle.yw_state.specs.Identity.{Ident, case_ident, is_child, same}
+use Rattle.yw_state.specs.Options.{is_some_and}
+use Rattle.yw_state.specs.State.{State, ItemPart, item_part, items_of, net_part}
+use Rattle.yw_state.specs.Words.{done}
+use Rattle.yw_state.specs.declared.event.Event.{Event}
+use Rattle.yw_state.specs.declared.event.Event.TheVariants as events
+
+-- so many items of task k in the net at i are done
+abbrev pub done_in : State → Ident → ℕ → ℕ
+done_in s i k = length (filter (λ e. done s e.0 e.1) (items_of s i k))
+
+-- the item that an event of neither a rule tree nor an exlet completes
+abbrev pub completed_by : Event → Option Ident
+completed_by (events.Complete j out) = Some j
+completed_by (events.CompleteSub j) = Some j
+completed_by (events.CompleteEmpty j) = Some j
+completed_by e = None
+
+-- the event before this state completes an item of task k in the net at i
+abbrev pub completes : State → Event → Ident → ℕ → Bool
+completes t e i k = is_some_and (completed_by e) (λ j. is_child j i && is_some_and (item_part t j) (λ (x : ItemPart). x.task == k))
+
+-- the net at i begins or ends
+abbrev pub is_anew : Event → Ident → Bool
+is_anew (events.Launch n spec vals) i = same i (case_ident n)
+is_anew (events.StartSub j) i = same i j
+is_anew (events.CompleteSub j) i = same i j
+is_anew e i = false
+
+-- the net of which a task exits
+abbrev pub left_by : Event → Option Ident
+left_by (events.Exit j t places) = Some j
+left_by e = None
+
+abbrev pub is_left : Event → Ident → Bool
+is_left e i = is_some_and (left_by e) (same i)
+
+-- The net at i stood before. As many items of each of its tasks are done, or one more where the event completes one; or the task has no item any
+-- more, where one of the net exits.
+pub record CountsOn (s t : State) (e : Event) (i : Ident) : Type 0 where
+  pub stood : is_some (net_part s i) ≡ true
+  pub as_many : (k : ℕ) → (done_in t i k ≡ done_in s i k + cond (completes t e i k) 1 0) ⊎ ((is_left e i ≡ true) × (items_of t i k ≡ []))
