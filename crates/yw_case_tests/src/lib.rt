@@ -19,4 +19,6 @@ mod events;
 #[cfg(test)]
 mod scripts;
 #[cfg(test)]
+mod tables;
+#[cfg(test)]
 mod wants;

@@ -17,6 +17,7 @@ pub struct Loose {
     pub(crate) known: BTreeSet<u64>,
     /// The identities, each before those below it.
     pub(crate) idents: BTreeSet<Ident>,
+    /// How many items of each task are done, of the nets that have been counted.
     pub(crate) counts: Counts,
 }
 
