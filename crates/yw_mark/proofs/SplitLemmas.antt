@@ -6,11 +6,11 @@ use Rattle.std.proofs.lemmas.Bool.{cases_Bool}
 use Rattle.std.proofs.lemmas.List.Elements.{filter_agree}
 use Rattle.yw_base.specs.declared.gate.Gate.{Gate}
 use Rattle.yw_base.specs.declared.gate.Gate.TheVariants.{And, Xor, Or}
-use Rattle.yw_mark.specs.Splits.{first_place, is_default, is_place, is_reached, is_taken, is_true}
+use Rattle.yw_mark.specs.Splits.{first_place, is_default, is_place, is_reached, is_taken}
 use Rattle.yw_spec.specs.declared.task.Branch.{Branch}
 use Rattle.yw_spec.specs.declared.task.Task.{Task}
 use Rattle.yw_state.specs.Nets.{is_among}
-use Rattle.yw_state.specs.Passing.{split_places}
+use Rattle.yw_state.specs.Passing.{is_true, split_places}
 use Rattle.yw_state.specs.Values.{Row}
 
 -- Nothing passes, or something does first.

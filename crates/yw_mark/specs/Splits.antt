@@ -4,12 +4,8 @@ use Rattle.std.specs.List.{list_any}
 use Rattle.std.specs.Option.{option_or}
 use Rattle.yw_spec.specs.declared.task.Branch.{Branch}
 use Rattle.yw_state.specs.Options.{is_some_and}
-use Rattle.yw_state.specs.RuleTree.{holds}
+use Rattle.yw_state.specs.Passing.{is_true}
 use Rattle.yw_state.specs.Values.{Row}
-
--- the branch has a condition, and it is true
-abbrev pub is_true : Row → Branch → Bool
-is_true row b = is_some_and b.when (λ e. holds e row)
 
 -- the branch has no condition
 abbrev pub is_default : Branch → Bool

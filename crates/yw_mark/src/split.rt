@@ -1,9 +1,9 @@
 // Which places a split chooses.
 ghost use Rattle.std.specs.Prelude.{◌≡◌, ◌==◌, ◌&&◌, IfOk, filter, find, option_map};
 ghost use Rattle.std.specs.List.{list_any};
-ghost use Rattle.yw_mark.specs.Splits.{first_place, first_to, is_default, is_place, is_reached, is_taken, is_true};
+ghost use Rattle.yw_mark.specs.Splits.{first_place, first_to, is_default, is_place, is_reached, is_taken};
 ghost use Rattle.yw_spec.specs.declared.task.Branch.{Branch};
-ghost use Rattle.yw_state.specs.Passing.{split_places};
+ghost use Rattle.yw_state.specs.Passing.{is_true, split_places};
 
 use std::alloc::{AllocError, Global};
 use yw_base::{Gate, Items, Row};
