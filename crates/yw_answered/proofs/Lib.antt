@@ -6,3 +6,4 @@ pub mod OtherCases
 pub mod Deciding
 pub mod LinesAnswered
 pub mod Runs
+pub mod Sessions

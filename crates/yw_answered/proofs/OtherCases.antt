@@ -1,11 +1,11 @@
--- An entry leaves other cases alone.
-use Rattle.std.specs.Prelude.{◌≡◌, ℕ, List, [], ◌∷◌, Bool, Option, Some, refl}
-use Rattle.std.proofs.Common.{sym, subst}
+-- An entry leaves other cases alone, and one without a case all of them.
+use Rattle.std.specs.Prelude.{◌≡◌, ℕ, List, [], ◌∷◌, Bool, Option, Some, None, refl}
+use Rattle.std.proofs.Common.{◌∙◌, ap, sym, subst}
 use Rattle.yw_invariant.proofs.EventsWell.{event_keeps_well}
 use Rattle.yw_sound.specs.Sound.{ReadsSound}
-use Rattle.yw_state.proofs.Apart.{leaves_other_cases}
+use Rattle.yw_state.proofs.Apart.{leaves_cases, leaves_other_cases}
 use Rattle.yw_state.proofs.Elsewhere.{step, unchanged}
-use Rattle.yw_state.specs.Apart.{SameElsewhere}
+use Rattle.yw_state.specs.Apart.{SameCases, SameElsewhere}
 use Rattle.yw_state.specs.Automatic.{ComeAll, Comes, after_each, case_of}
 use Rattle.yw_state.specs.Events.{Leads, after}
 use Rattle.yw_state.specs.Legal.{Follow, IsLegal}
@@ -41,3 +41,11 @@ module _ (reader : Reader) (sound : ReadsSound reader) (n : ℕ) where
       let come = subst (λ (o : Option ℕ). Follow legal.mid o legal.others) of legal.follow in
       let first = subst (SameElsewhere n s) (sym leads.then) (leaves_other_cases n s legal.first leads.said well.numbers well.parents leads.allowed of) in
       subst (SameElsewhere n s) (sym legal.then) (step n first (come_elsewhere legal.mid legal.others mid_well come))
+
+-- nothing comes behind an event without a case
+pub entry_leaves_cases : (reader : Reader) (s t : State) (c : Command) (entry : List Event) (quiet : Bool) → (legal : IsLegal reader s c entry quiet t) → case_of legal.first ≡ None → SameCases s t
+entry_leaves_cases reader s t c entry quiet legal of =
+    let leads = legal.leads in
+    let none = subst (λ (o : Option ℕ). Follow legal.mid o legal.others) of legal.follow in
+    let same = legal.then ∙ ap (after_each legal.mid) none ∙ leads.then in
+    subst (SameCases s) (sym same) (leaves_cases s legal.first leads.said of)

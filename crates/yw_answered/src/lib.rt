@@ -3,14 +3,15 @@
 //! is the contract of a function that does nothing.
 #![tactic(auto)]
 
-ghost use Rattle.std.specs.Prelude.{◌≡◌, ℕ, Bool, List, None, Some};
+ghost use Rattle.std.specs.Prelude.{◌≡◌, ◌+◌, ◌++◌, ℕ, Bool, List, None, Some, length};
 ghost use Rattle.yw_answered.specs.Answered.{CommandHasAnswer, FindsRule, LineHasAnswer, ReadsAll};
+ghost use Rattle.yw_answered.specs.Sessions.{SameButNumbers};
 ghost use Rattle.yw_model.specs.Run.{Answers, CannotLack, EntriesLead, HasRun, Run, Step, taken_by};
 ghost use Rattle.yw_model.specs.Texts.{reader};
 ghost use Rattle.yw_lines.specs.Meaning.{IsProper};
 ghost use Rattle.yw_lines.specs.declared.word.Word.{Word};
 ghost use Rattle.yw_sound.specs.Sound.{ReadsSound};
-ghost use Rattle.yw_state.specs.Apart.{SameElsewhere};
+ghost use Rattle.yw_state.specs.Apart.{SameCases, SameElsewhere};
 ghost use Rattle.yw_state.specs.Automatic.{case_of};
 ghost use Rattle.yw_state.specs.Broken.{Breaks};
 ghost use Rattle.yw_state.specs.Events.{LeadAll};
@@ -72,9 +73,23 @@ pub fn entry_leaves_other_cases<R: Reads>()
         → (legal : IsLegal R.reader s c entry quiet t) → case_of legal.first ≡ Some n → SameElsewhere n s t }
 {}
 
+/// An entry that answers a command without a case, a person or a specification, leaves all that stands in cases, how cases ended, and the
+/// number that is drawn next.
+pub fn entry_without_case_leaves_cases<R: Reads>()
+    ensures { (s t : State) (c : Command) (entry : List Event) (quiet : Bool)
+        → (legal : IsLegal R.reader s c entry quiet t) → case_of legal.first ≡ None → SameCases s t }
+{}
+
 /// The entries that a run takes lead to its state: the events of each are allowed in their turn.
 pub fn taken_lead()
     ensures { (s t : State) (n : ℕ) (lines : List (List ℕ)) (steps : List Step) → Run s n lines steps t → EntriesLead reader s (taken_by steps) t }
+{}
+
+/// Two sessions are one run but for the line numbers: where a run leads to a state and another goes on from it, numbered anew, the lines of
+/// both have a run. It takes the same entries and says the same, but that replies name the lines by their numbers among all.
+pub fn sessions_join()
+    ensures { (s m t : State) (n k : ℕ) (lines more : List (List ℕ)) (steps later : List Step) → Run s n lines steps m → Run m k more later t
+        → (others : List Step) × SameButNumbers k (n + length lines) later others × Run s n (lines ++ more) (steps ++ others) t }
 {}
 
 /// A state that is well stays so over what comes of a line.

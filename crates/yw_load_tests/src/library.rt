@@ -3,6 +3,7 @@
 use std::alloc::{AllocError, Global};
 use yw_base::{Name, NameFault, NameList};
 use yw_documents::{deep, loan, remind, seq};
+use yw_known::Known;
 use yw_library::{Library, LibraryFault};
 
 /// A specification `s` of one net `main`, whose other keys and tasks are these.
@@ -264,6 +265,21 @@ fn three_specs_stand(alloc: Global) -> bool {
 #[test]
 fn specs_are_numbered_by_loading(rt: HostRuntime) {
     assert!(rt; three_specs_stand(rt.alloc()));
+}
+
+fn three_specs_are_known(alloc: Global) -> bool {
+    let Ok(library) = three_specs(alloc) else {
+        return false;
+    };
+    match Known::of(alloc, library) {
+        Ok(known) => specs_stand(alloc, known.library()),
+        Err(AllocError) => false,
+    }
+}
+
+#[test]
+fn what_a_library_holds_is_known(rt: HostRuntime) {
+    assert!(rt; three_specs_are_known(rt.alloc()));
 }
 
 fn two_roles(alloc: Global, one: &str, other: &str) -> Result<NameList, AllocError> {

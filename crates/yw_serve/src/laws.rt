@@ -1,4 +1,5 @@
-//! What the files hold is one thing: one state or one damage, and never both. A law is the contract of a function that does nothing.
+//! What the files hold is one thing: one state or one damage, and never both; and behind each line they hold the server's state. A law is the
+//! contract of a function that does nothing.
 ghost use Rattle.std.specs.Prelude.{◌≡◌, ◌++◌, ℕ, List};
 ghost use Rattle.yw_outside.specs.declared.desk.File.{File};
 ghost use Rattle.yw_outside.specs.declared.image.Image.{Image};
@@ -7,6 +8,10 @@ ghost use Rattle.yw_codec.specs.Entries.{IsEntry};
 ghost use Rattle.yw_state.specs.State.{State};
 ghost use Rattle.yw_state.specs.declared.event.Event.{Event};
 ghost use Rattle.yw_serve.specs.Damage.{HoldNow, IsDamagedNow};
+ghost use Rattle.yw_serve.specs.Session.{EndsLine, server_state};
+ghost use Rattle.yw_serve.specs.declared.server.Server.{Server};
+
+use yw_outside::Desk;
 
 /// The state that the files hold is one.
 pub fn held_once()
@@ -29,4 +34,11 @@ pub fn damaged_once()
 pub fn entry_once()
     ensures { (a b : List Event) (p q x y : List ℕ)
         → IsEntry a p → IsEntry b q → p ++ x ≡ q ++ y → (a ≡ b) × (p ≡ q) × (x ≡ y) }
+{}
+
+/// Where the files held a server's state and a line is answered, they hold its state then.
+pub fn answered_line_is_held<D: Desk>()
+    ensures { (c : Content) (before now : Server) (n : ℕ) (line : List ℕ) (old new : D)
+        → EndsLine D.Desk c before now n line old new → HoldNow c (server_state before) (D.state old)
+        → (d : Content) × HoldNow d (server_state now) (D.state new) }
 {}

@@ -29,16 +29,17 @@ pub enum Stop {
 }
 
 /// A server over the files of a desk: the state, and where it is kept. `Server::start` makes one, and `Server::line` answers a
-/// line. Its parts are read in clauses; who changes them is told nothing of the files any more.
+/// line. Its parts are this crate's own, so that nobody puts back what it was: after an `Err` of a line nothing says that it stands on the
+/// desk, and it can't be asked again.
 #[derive(Drop)]
 pub struct Server {
-    pub alloc: Global,
+    pub(crate) alloc: Global,
     /// Decides what commands do.
-    pub engine: Engine,
+    pub(crate) engine: Engine,
     /// Where entries are appended.
-    pub journal: Journal,
+    pub(crate) journal: Journal,
     /// The last entry as it was appended; its room serves the next.
-    pub entry: Vec<u8>,
+    pub(crate) entry: Vec<u8>,
 }
 
 /// Says a text. At `Write` a prefix of it may have been said.
