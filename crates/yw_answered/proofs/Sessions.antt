@@ -1,5 +1,6 @@
 -- Two sessions are one run, but for the numbers of the lines.
-use Rattle.std.specs.Prelude.{◌≡◌, ℕ, ◌+◌, List, [], ◌∷◌, ◌++◌, length, Option, Some, None, Result, Ok, Err, inl, inr, refl}
+use Rattle.std.specs.Prelude.{ℕ, ◌+◌, List, [], ◌∷◌, ◌++◌, length, Option, Some, None, Result, Ok, Err, refl}
+use Rattle.std.proofs.Common.{inl, inr}
 use Rattle.yw_answered.specs.Sessions.{SameButNumber, SameButNumbers}
 use Rattle.yw_lines.specs.Meaning.{meaning}
 use Rattle.yw_lines.specs.Replies.{done_line, refused_line}
@@ -49,7 +50,7 @@ module _ (s : State) (n k : ℕ) (step : Step) (t : State) where
 -- a run whose lines are numbered from k on
 pub renumbered : (s t : State) (n k : ℕ) (lines : List (List ℕ)) (steps : List Step) → Run s n lines steps t
     → (others : List Step) × SameButNumbers n k steps others × Run s k lines others t
-renumbered s t n k [] [] run = ([], unit, run)
+renumbered s t n k [] [] run = ([], tt, run)
 renumbered s t n k [] (step ∷ steps) run = absurd run
 renumbered s t n k (line ∷ lines) [] run = absurd run
 renumbered s t n k (line ∷ lines) (step ∷ steps) (mid, a, run) =
