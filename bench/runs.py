@@ -105,11 +105,10 @@ def chains(folder, count):
             yield f"a step of {count_of} {gate.upper()} splits", launched(of_gate, links(count_of, gate), 3 * done * count_of + 2)
 
 
-def loans(folder, count):
-    """So many loans, one after another: each is launched, voted on, paid and finished. A loan draws eight numbers."""
+def loan_lines(count):
+    """What comes before loans, and the lines of so many, one after another. A loan draws eight numbers."""
     lines = (TOP / "examples/loan.jsonl").read_text().splitlines()
     replies = (TOP / "examples/loan.replies").read_text().splitlines()
-    run(folder, lines[:4])
     taken = [text for text, reply in zip(lines[4:21], replies[4:21]) if '"ok":true' in reply]
 
     def of_case(text, before):
@@ -118,7 +117,14 @@ def loans(folder, count):
             fields[key] = ".".join(str(int(n) + before) for n in fields[key].split("."))
         return line(**fields)
 
-    yield "a line of a loan", run(folder, [of_case(text, 8 * k) for k in range(count) for text in taken])
+    return lines[:4], [of_case(text, 8 * k) for k in range(count) for text in taken]
+
+
+def loans(folder, count):
+    """So many loans, one after another: each is launched, voted on, paid and finished."""
+    before, lines = loan_lines(count)
+    run(folder, before)
+    yield "a line of a loan", run(folder, lines)
 
 
 def net(name, flows, tasks, more=""):
