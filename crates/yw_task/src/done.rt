@@ -114,6 +114,9 @@ pub fn completion_fault(
     if let Some(rule) = complete_fault(node, who) {
         return Ok(Some(placeless(alloc, rule)));
     }
+    if task.set.is_empty() {
+        return Ok(None);
+    }
     let row = set_row(alloc, made_of(task, so_far, out), vals)?;
     mapping_fault(alloc, net, first_undefined(task.set.as_slice(), &row))
 }

@@ -6,7 +6,7 @@ ghost use Rattle.yw_state.specs.Map.{empty, get};
 ghost use Rattle.yw_tree.specs.Forest.{IsForest, item_of, levels, sites_of, top_of};
 ghost use Rattle.yw_tree.specs.Spots.{a_case, a_run, part_at, part_of, part_site};
 ghost use Rattle.yw_tree.specs.Places.{has_run, net_at, net_of_run, run_at, run_of};
-ghost use Rattle.yw_tree.specs.Ways.{case_inner, item_in, net_in, net_of_item};
+ghost use Rattle.yw_tree.specs.Ways.{case_inner, item_in, net_in};
 ghost use Rattle.yw_tree.specs.declared.Node.{out-Node};
 
 use crate::descend::{Descent, inner_of_run, net_of};
@@ -87,14 +87,6 @@ fn top_of(forest: &Forest, n: u64) -> Option<&NetState>
     Some(&case.net)
 }
 
-fn net_of_item<'a>(forest: &'a Forest, id: &[u64]) -> Option<&'a NetState>
-    requires { 1 ≤ length id.now }
-    ensures { option_copied result ≡ net_of_item (item_of forest.now id.now) }
-{
-    let node = item_at(forest, id)?;
-    net_of(node)
-}
-
 fn net_of_run<'a>(forest: &'a Forest, id: &[u64]) -> Option<&'a NetState>
     requires { 1 ≤ length id.now }
     ensures { option_copied result ≡ net_of_run (run_of forest.now id.now) }
@@ -111,10 +103,10 @@ pub fn net_with<'a>(forest: &'a Forest, id: &[u64]) -> Option<&'a NetState>
     if is_case(id) {
         return top_of(forest, case_number(id));
     }
-    if item_at(forest, id).is_some() {
-        return net_of_item(forest, id);
+    match item_at(forest, id) {
+        Some(node) => net_of(node),
+        None => net_of_run(forest, id),
     }
-    net_of_run(forest, id)
 }
 
 /// What stands at an identity.

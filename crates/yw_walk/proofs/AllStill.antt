@@ -6,7 +6,6 @@ use Rattle.std.specs.List.{All, Contains}
 use Rattle.std.specs.Prelude.{not, ◌&&◌}
 use Rattle.yw_idents.proofs.Listed.{all_listed, none_stands}
 use Rattle.yw_idents.specs.Idents.{AreAllIn, idents_of}
-use Rattle.yw_known.specs.Held.{IsHeld}
 use Rattle.yw_known.specs.Names.{names_of}
 use Rattle.yw_library.specs.Holdings.{Holdings}
 use Rattle.yw_plain.proofs.Words.{words}
@@ -25,7 +24,7 @@ use Rattle.yw_tree.specs.Cases.{case_at}
 use Rattle.yw_tree.specs.Entries.{case_entries}
 use Rattle.yw_tree.specs.declared.Case.{Case}
 use Rattle.yw_tree.specs.declared.Forest.{Forest}
-use Rattle.yw_walk.specs.Finds.{ComesPlainly, FindsAmong, FindsAt, FindsItemOrTasks, FindsFinish, FindsNext, FindsStep, FindsTasks, StandsFor, NoneEntered, NoneLeft}
+use Rattle.yw_walk.specs.Finds.{ComesPlainly, FindsAmong, FindsAt, FindsItemOrTasks, FindsFinish, FindsNext, FindsStep, FindsTasks, IsAtEnd, NoneEntered, NoneLeft, StandsFor}
 
 pub still_there : (s : State) → IsPlain s → (j : Ident) → case_ends s j ≡ false → item_goes_on s j ≡ false → NoneLeft s j → NoneEntered s j
     → IsStill s j
@@ -43,18 +42,18 @@ still_there s plain j case item left entered =
 
 module _ (known : Holdings) (f : Forest) (j : Ident) (next : ℕ) (ends : Bool) where
   -- where the item doesn't go on, by the tasks
-  pub below_there : FindsStep known f j ends None → (o : Option Event) → FindsTasks known f j next o
-      → FindsItemOrTasks known f j next ends o
-  below_there step None tasks = λ s w out. let t = tasks s w in (step s w.held w.plain out, t.0, t.1)
-  below_there step (Some e) tasks = λ s w out. tasks s w
+  pub below_there : IsAtEnd known f j ends → FindsStep known f j ends None → (o : Option Event) → FindsTasks known f j next o
+      → FindsItemOrTasks known f j next o
+  below_there out step None tasks = λ s w. let t = tasks s w in (step s w.held w.plain (out s w.held), t.0, t.1)
+  below_there out step (Some e) tasks = λ s w. tasks s w
 
   -- and where the case isn't at its end, by what is below
-  pub at_there : ((s : State) → IsHeld known f s → at_output s j ≡ ends) → FindsFinish j ends None → (o : Option Event)
-      → FindsItemOrTasks known f j next ends o → FindsAt known f j next o
+  pub at_there : IsAtEnd known f j ends → FindsFinish j ends None → (o : Option Event) → FindsItemOrTasks known f j next o
+      → FindsAt known f j next o
   at_there out finish None below = λ s w.
-      let b = below s w (out s w.held) in
+      let b = below s w in
       still_there s w.plain j (finish s w.plain (out s w.held)) b.0 b.1 b.2
-  at_there out finish (Some e) below = λ s w. below s w (out s w.held)
+  at_there out finish (Some e) below = λ s w. below s w
 
 -- ---- a case
 

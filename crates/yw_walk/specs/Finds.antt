@@ -1,11 +1,12 @@
 -- What comes of itself at one identity, and in a case: found, or nothing.
 use Rattle.std.specs.List.{All, Contains}
-use Rattle.std.specs.Prelude.{◌≡◌, ◌↔◌, ℕ, Bool, IsTrue, List, MatchOption, Option, Some, true, false}
+use Rattle.std.specs.Prelude.{◌≡◌, ◌↔◌, ℕ, Bool, IsTrue, List, MatchOption, None, Option, Some, true, false}
 use Rattle.yw_base.specs.Gates.{is_or}
 use Rattle.yw_enabled.specs.Entered.{EntersFrom}
 use Rattle.yw_enabled.specs.Free.{MayDraw, StandsFree}
 use Rattle.yw_enabled.specs.Left.{TellsNet}
 use Rattle.yw_known.specs.Held.{IsHeld}
+use Rattle.yw_known.specs.Here.{IsNetHere}
 use Rattle.yw_known.specs.declared.here.NetHere.{NetHere}
 use Rattle.yw_library.specs.Holdings.{Holdings}
 use Rattle.yw_mark.specs.Taking.{taken_places}
@@ -21,7 +22,7 @@ use Rattle.yw_state.specs.Allowed.{Allowed}
 use Rattle.yw_state.specs.declared.event.Event.TheVariants as events
 use Rattle.yw_spec.specs.declared.spec.Place.{Place}
 use Rattle.yw_state.specs.Nets.{is_atomic}
-use Rattle.yw_state.specs.State.{State, TaskAt}
+use Rattle.yw_state.specs.State.{State, TaskAt, net_part}
 use Rattle.yw_state.specs.declared.event.Event.{Event}
 use Rattle.yw_still.specs.Still.{CaseIsStill, IsStill, case_ends, is_entering, is_leaving, item_goes_on, task_numbered}
 use Rattle.yw_tree.specs.declared.Forest.{Forest}
@@ -99,6 +100,14 @@ pub record StandsFor (known : Holdings) (f : Forest) (next : ℕ) (s : State) : 
   pub plain : IsPlain s
   pub drawn : s.next ≡ next
 
+-- the net at an identity is this one, or none stands there
+abbrev pub StandsAt : Holdings → Forest → Ident → Option NetHere → Type 0
+StandsAt known f j found = (s : State) → IsHeld known f s → MatchOption found (net_part s j ≡ None) (IsNetHere known f s j)
+
+-- the net there is at its end, or none stands there that is
+abbrev pub IsAtEnd : Holdings → Forest → Ident → Bool → Type 0
+IsAtEnd known f j ends = (s : State) → IsHeld known f s → at_output s j ≡ ends
+
 -- the case is finished by this event, or isn't at its end
 abbrev pub FindsFinish : Ident → Bool → Option Event → Type 0
 FindsFinish j ends found =
@@ -116,9 +125,9 @@ FindsTasks known f j next found =
     (s : State) → StandsFor known f next s → MatchOption found (NoneLeft s j × NoneEntered s j) (ComesPlainly s (case_number j))
 
 -- the item goes on by this event, or a task of the net there is left or entered by it; or nothing of this is so
-abbrev pub FindsItemOrTasks : Holdings → Forest → Ident → ℕ → Bool → Option Event → Type 0
-FindsItemOrTasks known f j next ends found =
-    (s : State) → StandsFor known f next s → at_output s j ≡ ends
+abbrev pub FindsItemOrTasks : Holdings → Forest → Ident → ℕ → Option Event → Type 0
+FindsItemOrTasks known f j next found =
+    (s : State) → StandsFor known f next s
     → MatchOption found ((item_goes_on s j ≡ false) × NoneLeft s j × NoneEntered s j) (ComesPlainly s (case_number j))
 
 -- this event comes of itself there, or nothing does

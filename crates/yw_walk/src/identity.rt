@@ -1,34 +1,37 @@
 // What comes of itself at one identity.
-ghost use Rattle.std.specs.Prelude.{IfOk};
+ghost use Rattle.std.specs.Prelude.{IfOk, IfSome};
 ghost use Rattle.std.specs.Option.{option_copied};
-ghost use Rattle.yw_walk.specs.Finds.{FindsAt, FindsItemOrTasks, FindsTasks, TellsAt};
+ghost use Rattle.yw_library.specs.Holdings.{Holdings};
+ghost use Rattle.yw_tree.specs.declared.Forest as forests;
+ghost use Rattle.yw_walk.specs.Finds.{FindsAt, FindsItemOrTasks, FindsTasks, IsKnownHere, StandsAt, TellsAt};
 
 use crate::items::{finish_of, step_at};
-use crate::nets::{ends_at, net_at};
+use crate::nets::{is_at_end, net_at};
 use crate::tasks::{entry_at, exit_at};
 use std::alloc::{AllocError, Global};
 use yw_base::Ident;
-use yw_known::Known;
+use yw_known::{Known, NetHere};
 use yw_state::Event;
 use yw_tree::Forest;
 
 /// What comes of itself of the tasks of the net at an identity: one is left, or else one is entered.
 fn tasks_at(
     alloc: Global,
-    known: &Known,
-    forest: &Forest,
+    here: &Option<NetHere<'_>>,
     at: &Ident,
     next: u64,
     told: Option<&[usize]>,
 ) -> Result<Option<Event>, AllocError>
-    ensures { TellsAt forest.now at.now (option_copied told.entry) → IfOk result (FindsTasks known.now forest.now at.now next) }
+    requires { IfSome here.now IsKnownHere }
+    ensures { (known : Holdings) (f : forests.Forest) → StandsAt known f at.now here.now → TellsAt f at.now (option_copied told.entry)
+        → IfOk result (FindsTasks known f at.now next) }
 {
-    let Some(here) = net_at(known, forest, at) else {
+    let Some(here) = here else {
         return Ok(None);
     };
-    match exit_at(alloc, &here, at, told)? {
+    match exit_at(alloc, here, at, told)? {
         Some(event) => Ok(Some(event)),
-        None => entry_at(alloc, &here, at, next),
+        None => entry_at(alloc, here, at, next),
     }
 }
 
@@ -38,15 +41,17 @@ fn item_or_tasks_at(
     known: &Known,
     forest: &Forest,
     id: &Ident,
+    here: &Option<NetHere<'_>>,
     next: u64,
     told: Option<&[usize]>,
-    ends: bool,
 ) -> Result<Option<Event>, AllocError>
-    ensures { TellsAt forest.now id.now (option_copied told.entry) → IfOk result (FindsItemOrTasks known.now forest.now id.now next ends) }
+    requires here { StandsAt known.now forest.now id.now here.now }
+    requires known { IfSome here.now IsKnownHere }
+    ensures { TellsAt forest.now id.now (option_copied told.entry) → IfOk result (FindsItemOrTasks known.now forest.now id.now next) }
 {
-    match step_at(alloc, known, forest, id, ends)? {
+    match step_at(alloc, known, forest, id, is_at_end(here))? {
         Some(event) => Ok(Some(event)),
-        None => tasks_at(alloc, known, forest, id, next, told),
+        None => tasks_at(alloc, here, id, next, told),
     }
 }
 
@@ -63,9 +68,9 @@ pub fn event_at(
 ) -> Result<Option<Event>, AllocError>
     ensures { TellsAt forest.now id.now (option_copied told.entry) → IfOk result (FindsAt known.now forest.now id.now next) }
 {
-    let ends = ends_at(known, forest, id);
-    match finish_of(id, ends) {
+    let here = net_at(known, forest, id);
+    match finish_of(id, is_at_end(&here)) {
         Some(event) => Ok(Some(event)),
-        None => item_or_tasks_at(alloc, known, forest, id, next, told, ends),
+        None => item_or_tasks_at(alloc, known, forest, id, &here, next, told),
     }
 }

@@ -1,10 +1,9 @@
 // The net at an identity.
-ghost use Rattle.std.specs.Prelude.{◌≡◌, IfSome, MatchOption, None};
-ghost use Rattle.yw_known.specs.Held.{IsHeld};
-ghost use Rattle.yw_known.specs.Here.{IsNetHere};
-ghost use Rattle.yw_state.specs.Joins.{at_output};
-ghost use Rattle.yw_state.specs.State.{State, net_part};
-ghost use Rattle.yw_walk.specs.Finds.{IsKnownHere};
+ghost use Rattle.std.specs.Prelude.{IfSome};
+ghost use Rattle.yw_library.specs.Holdings.{Holdings};
+ghost use Rattle.yw_state.specs.Identity as ids;
+ghost use Rattle.yw_tree.specs.declared.Forest as forests;
+ghost use Rattle.yw_walk.specs.Finds.{IsAtEnd, IsKnownHere, StandsAt};
 
 use yw_base::Ident;
 use yw_enabled::is_at_output;
@@ -14,8 +13,7 @@ use yw_tree::Forest;
 /// The net of the case, item or run at an identity, as `yw_known::net_here` has it. That it is within and the upstream its own is said here
 /// without a state.
 pub fn net_at<'a>(known: &'a Known, forest: &'a Forest, at: &Ident) -> Option<NetHere<'a>>
-    ensures here { (s : State) → IsHeld known.now forest.now s
-        → MatchOption result (net_part s at.now ≡ None) (IsNetHere known.now forest.now s at.now) }
+    ensures here { StandsAt known.now forest.now at.now result }
     ensures known { IfSome result IsKnownHere }
 {
     let _ = at.numbers();
@@ -30,11 +28,11 @@ pub fn net_at<'a>(known: &'a Known, forest: &'a Forest, at: &Ident) -> Option<Ne
     })
 }
 
-/// A net stands at an identity that is at its end.
-pub fn ends_at(known: &Known, forest: &Forest, at: &Ident) -> bool
-    ensures { (s : State) → IsHeld known.now forest.now s → at_output s at.now ≡ result }
+/// A net stands at an identity, and is at its end.
+pub fn is_at_end(here: &Option<NetHere<'_>>) -> bool
+    ensures { (known : Holdings) (f : forests.Forest) (at : ids.Ident) → StandsAt known f at here.now → IsAtEnd known f at result }
 {
-    match net_at(known, forest, at) {
+    match here {
         Some(here) => is_at_output(here.net, here.state),
         None => false,
     }
