@@ -28,15 +28,14 @@ module _ (old : Standing) where
   no_person name roles wrong t leads = never (sym wrong ∙ person_roles (state_of old) t name roles leads)
 
   module _ (may : MayStand old) (new : Holdings) where
-    pub person_done : (name n : List ℕ) (roles r : List (List ℕ)) → n ≡ name → r ≡ roles → are_roles roles ≡ true
-        → ((s : State) → with_library s new ≡ after (with_library s old.known) (events.Person n r) nothing)
-        → new ≡ with_person old.known (record { name = n; roles = r }) → IsDone old (events.Person name roles) (record old { known = new })
-    person_done name n roles r same_name same_roles right reached place =
+    pub person_done : (name : List ℕ) (roles : List (List ℕ)) → are_roles roles ≡ true
+        → ((s : State) → with_library s new ≡ after (with_library s old.known) (events.Person name roles) nothing)
+        → new ≡ with_person old.known (record { name = name; roles = roles }) → IsDone old (events.Person name roles) (record old { known = new })
+    person_done name roles right reached place =
         let names : names_of new ≡ names_of old.known = ap (λ (z : Holdings). names_of z) place in
-        let said : after (state_of old) (events.Person n r) nothing ≡ after (state_of old) (events.Person name roles) nothing = λ i. after (state_of old) (events.Person (same_name i) (same_roles i)) nothing in
         record {
           leads = person_leads_to (state_of old) (state_of (record old { known = new })) name roles right
-              (ap (λ (z : ℕ → List ℕ). with_library (base (sites_of z old.forest)) new) names ∙ reached (base (sites_of (names_of old.known) old.forest)) ∙ said);
+              (ap (λ (z : ℕ → List ℕ). with_library (base (sites_of z old.forest)) new) names ∙ reached (base (sites_of (names_of old.known) old.forest)));
           boxed = may.held.boxed;
         }
 

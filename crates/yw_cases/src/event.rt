@@ -23,7 +23,7 @@ pub fn try_event(alloc: Global, standing: &mut Standing, event: &Event) -> Resul
     ensures { IfOk result (λ leads. Tries standing.old event.now leads standing.new) }
 {
     match event {
-        Event::Person { name, roles } => try_person(alloc, standing, name, roles),
+        Event::Person { name, roles } => try_person(standing, name, roles),
         Event::Load { name, text } => try_load(standing, name, text.as_str()),
         Event::Launch { case, spec, values } => try_launch(alloc, standing, *case, spec, values),
         Event::Enter {

@@ -7,9 +7,9 @@ ghost use Rattle.yw_state.specs.Allowed.{are_roles};
 ghost use Rattle.yw_state.specs.declared.event.Event.TheVariants as events;
 
 use crate::standing::Standing;
-use std::alloc::{AllocError, Global};
+use std::alloc::AllocError;
 use yw_base::{Name, NameList};
-use yw_library::{LibraryFault, copy_of_names};
+use yw_library::LibraryFault;
 
 const MOST_ROLES: usize = 64;
 
@@ -22,7 +22,6 @@ fn are_roles(roles: &NameList) -> bool
 
 /// Sets a person's roles, where a person may have them.
 pub fn try_person(
-    alloc: Global,
     standing: &mut Standing,
     name: &Name,
     roles: &NameList,
@@ -33,8 +32,7 @@ pub fn try_person(
     if !are_roles(roles) {
         return Ok(false);
     }
-    let copies = copy_of_names(alloc, roles.as_slice())?;
-    standing.known.person(name.copy()?, copies)?;
+    standing.known.person(name, roles)?;
     Ok(true)
 }
 

@@ -90,10 +90,10 @@ impl Known {
 
     /// The person has these roles from now on, and no others, as `Library::person` says. An `Err` says that no memory was left, and changes
     /// nothing.
-    pub fn person(&mut self, name: Name, roles: NameList) -> Result<(), AllocError>
+    pub fn person(&mut self, name: &Name, roles: &NameList) -> Result<(), AllocError>
         ensures ok { OnOk result ((s : State)
-            → with_library s self.new ≡ after (with_library s self.old) (events.Person name roles) nothing) }
-        ensures place { OnOk result (self.new ≡ with_person self.old (record { name = name; roles = roles })) }
+            → with_library s self.new ≡ after (with_library s self.old) (events.Person name.now roles.now) nothing) }
+        ensures place { OnOk result (self.new ≡ with_person self.old (record { name = name.now; roles = roles.now })) }
         ensures err { OnErr result (self.new ≡ self.old) }
     {
         self.library.person(name, roles)

@@ -117,6 +117,20 @@ put_person-set new ps numbers n found (p, at, has) = by (replaced new ps)
         let places : r.place ≡ n = cc in
         r.is ∙ ap (λ (k : ℕ). slice_set ps k new) places
 
+slice_set-same : {A : Type 0} (xs : List A) (i : ℕ) (x : A) → slice_get xs i ≡ Some x → slice_set xs i x ≡ xs
+slice_set-same [] i x at = cc
+slice_set-same (y ∷ ys) zero x at = cc
+slice_set-same (y ∷ ys) (suc i) x at = ap (λ zs. y ∷ zs) (slice_set-same ys i x at)
+
+-- who comes once more with the same roles changes nothing
+pub put_person-same : (new p : Person) (ps : List Person) (numbers : NumberedNames) (n : ℕ) → AreFound person_name ps numbers
+    → IsNumberOf person_name ps new.name (Some n) → slice_get ps n ≡ Some p → p.roles ≡ new.roles → put_person new ps ≡ ps
+put_person-same new p ps numbers n found (q, there, has) at roles =
+    let one : q ≡ p = cc in
+    let names : p.name ≡ new.name = sym (ap person_name one) ∙ has in
+    let same : p ≡ new = λ i. record { name = names i; roles = roles i } in
+    put_person-set new ps numbers n found (q, there, has) ∙ slice_set-same ps n new (at ∙ ap Some same)
+
 hidden : {V : Type 0} (c d : Bool) (a b x : Option V) → d ≡ c → cond c a x ≡ cond c a (cond d b x)
 hidden true d a b x e = refl
 hidden false true a b x e = cc

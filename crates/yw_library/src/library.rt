@@ -17,6 +17,7 @@ ghost use Rattle.yw_library.specs.Holdings.{AddsSpec, AreNamed, IsFresh, IsKept,
 ghost use Rattle.yw_library.specs.Numbers.{IsNumberOf, NoneNamed};
 
 use crate::accepted::{accepted, placeless};
+use crate::copies::copy_of_person;
 use crate::numbers::Numbers;
 use crate::{LibraryFault, Person, PersonList};
 use std::alloc::{AllocError, Global};
@@ -123,19 +124,36 @@ impl Library {
         Ok(())
     }
 
-    /// The person has these roles from now on, and no others. Who was there keeps the place among the persons,
-    /// and who comes first stands behind all others. The roles aren't looked at: that they are at most 64, and none
-    /// twice, is for the caller. It is so in each state with this library in it. An `Err` says that no memory was left, and
-    /// changes nothing.
-    pub fn person(&mut self, name: Name, roles: NameList) -> Result<(), AllocError>
-        ensures ok { OnOk result ((s : State) → with_library s self.new ≡ after (with_library s self.old) (events.Person name roles) nothing) }
-        ensures place { OnOk result (self.new ≡ with_person self.old (record { name = name; roles = roles })) }
+    /// The person with this number and this name has these roles from now on. Where they are those that stand there, nothing is
+    /// copied. An `Err` says that no memory was left, and changes nothing.
+    fn set_roles(&mut self, number: usize, name: &Name, roles: &NameList) -> Result<(), AllocError>
+        requires { IsNumberOf person_name self.old.persons name.now (Some number) }
+        ensures ok { OnOk result (self.new ≡ with_person self.old (record { name = name.now; roles = roles.now })) }
         ensures err { OnErr result (self.new ≡ self.old) }
     {
-        let person = Person { name, roles };
-        match self.person_number(person.name.as_str()) {
-            Some(number) => self.replace(number, person),
-            None => self.add(person)?,
+        let wanted = roles.as_slice();
+        match self.persons.get(number) {
+            Some(person) if person.roles.as_slice() == wanted => Ok(()),
+            _ => {
+                let person = copy_of_person(self.alloc, name, roles)?;
+                self.replace(number, person);
+                Ok(())
+            }
+        }
+    }
+
+    /// The person has these roles from now on, and no others. Who was there keeps the place among the persons,
+    /// and who comes first stands behind all others. The roles aren't looked at: that they are at most 64, and none
+    /// twice, is for the caller. It is so in each state with this library in it. A person who has these roles already takes no
+    /// memory. An `Err` says that no memory was left, and changes nothing.
+    pub fn person(&mut self, name: &Name, roles: &NameList) -> Result<(), AllocError>
+        ensures ok { OnOk result ((s : State) → with_library s self.new ≡ after (with_library s self.old) (events.Person name.now roles.now) nothing) }
+        ensures place { OnOk result (self.new ≡ with_person self.old (record { name = name.now; roles = roles.now })) }
+        ensures err { OnErr result (self.new ≡ self.old) }
+    {
+        match self.person_number(name.as_str()) {
+            Some(number) => self.set_roles(number, name, roles)?,
+            None => self.add(copy_of_person(self.alloc, name, roles)?)?,
         }
         Ok(())
     }

@@ -297,7 +297,7 @@ fn add(
     other: &str,
 ) -> Result<(), AllocError> {
     let roles = two_roles(alloc, one, other)?;
-    library.person(name(alloc, who)?, roles)
+    library.person(&name(alloc, who)?, &roles)
 }
 
 fn two_persons(alloc: Global) -> Result<Library, AllocError> {
@@ -305,6 +305,7 @@ fn two_persons(alloc: Global) -> Result<Library, AllocError> {
     add(alloc, &mut library, "ann", "clerk", "teller")?;
     add(alloc, &mut library, "bob", "officer", "clerk")?;
     add(alloc, &mut library, "ann", "boss", "clerk")?;
+    add(alloc, &mut library, "bob", "officer", "clerk")?;
     Ok(library)
 }
 
@@ -338,6 +339,7 @@ fn two_persons_stand(alloc: Global) -> bool {
                 && person_stands(&library, 0, "ann")
                 && person_stands(&library, 1, "bob")
                 && has_role(alloc, &library, "ann", "boss")
+                && has_role(alloc, &library, "bob", "officer")
                 && is_unknown(alloc, &library, "cy")
         }
         Err(AllocError) => false,

@@ -7,5 +7,5 @@ returns-then-not-are_roles c = (no_person c.args.standing.now c.args.name.now c.
 
 pub returns : goal.returns
 returns c =
-    person_done c.args.standing.now c.requires c.person.new.self c.args.name.now c.in_ok-copy.field-0 c.args.roles.now c.in_ok-copies.copies c.in_ok-copy.ensures
-    (c.in_ok-copies.ensures ∙ c.as_slice.ensures) (sym c.are_roles.ensures ∙ c.if-not-are_roles.false) c.in_ok-person.ensures.ok c.in_ok-person.ensures.place
+    person_done c.args.standing.now c.requires c.person.new.self c.args.name.now c.args.roles.now (sym c.are_roles.ensures ∙ c.if-not-are_roles.false)
+    c.in_ok-person.ensures.ok c.in_ok-person.ensures.place
