@@ -1,4 +1,5 @@
 // From a command to its events.
+ghost use Rattle.std.specs.Prelude.{◌≡◌};
 ghost use Rattle.yw_cases.specs.State.{MayStand};
 ghost use Rattle.yw_engine.specs.Decides.{Decides};
 ghost use Rattle.yw_model.specs.Run.{CanBeAsked};
@@ -12,11 +13,27 @@ use crate::start::decide_start;
 use crate::whole::{decide_advance, decide_cancel};
 use crate::work::Work;
 use crate::{Decided, EngineFault};
+use std::alloc::AllocError;
+use yw_idents::case_number;
 use yw_state::Command;
 
-/// Does what a command asks for, and what comes of itself behind it, and gives these events. What is held is then that after them.
-/// What it is after `Memory` is told nowhere; `Spent` never comes.
-pub fn decide_on(work: &mut Work, command: Command) -> Result<Decided, EngineFault>
+/// Looks at the case of a command that wants it to be quiet: so it is looked at whole once, and neither behind the command's event again,
+/// nor by the next command, where this one is refused. What is held doesn't change. An `Err` says that no memory was left.
+fn look_at(work: &mut Work, command: &Command) -> Result<(), AllocError>
+    requires { MayStand work.old.standing }
+    ensures { work.new.standing ≡ work.old.standing }
+{
+    match command {
+        Command::Enter { case, .. } | Command::Add { case, .. } => work.look(case_number(case)),
+        Command::Start { item, .. } | Command::Complete { item, .. } => {
+            work.look(case_number(item))
+        }
+        _ => Ok(()),
+    }
+}
+
+/// The same as `decide_on`, of a case that has been looked at.
+fn decide_seen(work: &mut Work, command: Command) -> Result<Decided, EngineFault>
     requires stands { MayStand work.old.standing }
     requires asked { CanBeAsked command }
     ensures { Decides work.old.standing command result work.new.standing }
@@ -38,4 +55,15 @@ pub fn decide_on(work: &mut Work, command: Command) -> Result<Decided, EngineFau
         Command::Advance { case } => decide_advance(work, &case),
         _ => unreachable!(),
     }
+}
+
+/// Does what a command asks for, and what comes of itself behind it, and gives these events. What is held is then that after them.
+/// What it is after `Memory` is told nowhere; `Spent` never comes.
+pub fn decide_on(work: &mut Work, command: Command) -> Result<Decided, EngineFault>
+    requires stands { MayStand work.old.standing }
+    requires asked { CanBeAsked command }
+    ensures { Decides work.old.standing command result work.new.standing }
+{
+    look_at(work, &command)?;
+    decide_seen(work, command)
 }

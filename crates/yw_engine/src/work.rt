@@ -47,6 +47,20 @@ impl Work {
         self.standing.next_event(case)
     }
 
+    /// Looks at a case that stands, so that it is known from now on what comes of itself there. What is held doesn't change, and a case that is
+    /// at rest isn't looked at. An `Err` says that no memory was left.
+    pub fn look(&mut self, case: u64) -> Result<(), AllocError>
+        requires { MayStand self.old.standing }
+        ensures { self.new.standing ≡ self.old.standing }
+    {
+        let standing = &self.standing;
+        if standing.is_at_rest(case) || standing.forest().case(case).is_none() {
+            return Ok(());
+        }
+        self.next_loose(case)?;
+        Ok(())
+    }
+
     /// Nothing comes of itself in a case. An `Err` says that no memory was left.
     fn is_case_quiet(&self, case: u64) -> Result<bool, AllocError>
         requires { MayStand self.now.standing }
