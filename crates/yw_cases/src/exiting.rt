@@ -12,9 +12,8 @@ use std::alloc::{AllocError, Global};
 use yw_base::{Ident, Name};
 use yw_enabled::may_be_left;
 use yw_known::{net_here, task_called};
-use yw_mark::split_places;
 use yw_spec::{Net, PlaceList, Task};
-use yw_task::{items_in, kept_values};
+use yw_task::{exit_places, items_in};
 use yw_tree::NetState;
 
 /// A token comes to exactly these places where the task with number `t` exits. An `Err` says that no memory was left.
@@ -28,8 +27,7 @@ fn splits_to(
 ) -> Result<bool, AllocError>
     ensures { IfOk result (λ is. is ≡ IsSplitTo net.now state.now t task.now places.now) }
 {
-    let values = kept_values(alloc, task, items_in(state, t), &state.vals)?;
-    let numbers = split_places(alloc, task, &values)?;
+    let numbers = exit_places(alloc, task, items_in(state, t), &state.vals)?;
     Ok(are_numbered(net, places.as_slice(), numbers.as_slice()))
 }
 

@@ -7,10 +7,10 @@ ghost use Rattle.yw_state.specs.Words.{is_completed};
 ghost use Rattle.yw_tree.specs.declared.NetState.{out-NetState};
 
 use std::alloc::{AllocError, Global};
-use yw_mark::{MOST_TOKENS, count_on, is_among, split_places};
+use yw_mark::{MOST_TOKENS, count_on, is_among};
 use yw_spec::{Net, Task};
 use yw_state::{Marks, Stage};
-use yw_task::{items_in, kept_values, task_at};
+use yw_task::{exit_places, items_in, task_at};
 use yw_tree::{NetState, Node};
 
 /// It has made its values.
@@ -106,8 +106,7 @@ fn split_has_room(
     if have_room(&state.marks, task, task.after.as_slice()) {
         return Ok(true);
     }
-    let vals = kept_values(alloc, task, nodes, &state.vals)?;
-    let places = split_places(alloc, task, &vals)?;
+    let places = exit_places(alloc, task, nodes, &state.vals)?;
     Ok(have_room(&state.marks, task, places.as_slice()))
 }
 

@@ -3,6 +3,7 @@ pub mod Lexemes
 pub mod Meaning
 pub mod Node
 pub mod Parsing
+pub mod Rows
 pub mod Scope
 pub mod Small
 pub mod Sorts

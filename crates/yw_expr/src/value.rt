@@ -10,7 +10,8 @@ ghost use Rattle.yw_expr.specs.Small.{IsSmall, HasSmallConstants};
 ghost use Rattle.yw_expr.specs.Sorts.{tree_sort, IsIn};
 
 use crate::node::{Expr, Node};
-use yw_base::{Row, Text, Val, Value};
+use crate::row::Values;
+use yw_base::{Row, Text, Val};
 use yw_grammar::{Call, Infix, Prefix};
 
 fn plus(a: i64, b: i64) -> Option<i64>
@@ -189,9 +190,9 @@ fn element_value<'a>(list: Val<'a>, place: Val<'a>) -> Option<Val<'a>>
     }
 }
 
-/// A node's value over a row.
-fn node_value<'a>(node: &'a Node, row: &'a [Value]) -> Option<Val<'a>>
-    ensures { option_map value_of result ≡ val (tree_of node.now) row.now }
+/// A node's value over values by number.
+fn node_value<'a, V: Values>(node: &'a Node, row: &'a V) -> Option<Val<'a>>
+    ensures { option_map value_of result ≡ val (tree_of node.now) (V.values row.now) }
 {
     match node {
         Node::Constant(v) => Some(v.lend()),
@@ -232,6 +233,24 @@ fn node_value<'a>(node: &'a Node, row: &'a [Value]) -> Option<Val<'a>>
     }
 }
 
+/// The value of an expression over values by number; None exactly where it is undefined. It takes no memory: texts and lists stand where the values
+/// do, or in the expression.
+pub fn view_of<'a, V: Values>(e: &'a Expr, row: &'a V) -> Option<Val<'a>>
+    ensures value { option_map value_of result ≡ val e.now (V.values row.now) }
+{
+    node_value(e.root(), row)
+}
+
+/// The truth value of an expression over values by number; None exactly where it is undefined. It takes no memory.
+pub fn truth_over<V: Values>(e: &Expr, row: &V) -> Option<bool>
+    ensures value { result ≡ truth_of (val e.now (V.values row.now)) }
+{
+    match view_of(e, row) {
+        Some(Val::Bool(b)) => Some(b),
+        _ => None,
+    }
+}
+
 /// The value of an expression over a row; None exactly where it is undefined. It takes no memory: texts and
 /// lists stand in the row or in the expression.
 pub fn view<'a>(e: &'a Expr, row: &'a Row) -> Option<Val<'a>>
@@ -245,7 +264,7 @@ pub fn view<'a>(e: &'a Expr, row: &'a Row) -> Option<Val<'a>>
     ensures small { HasSmallConstants e.now → All IsSmall row.now
         → IfSome result (λ v. IsSmall (value_of v)) }
 {
-    node_value(e.root(), row.as_slice())
+    node_value(e.root(), row)
 }
 
 /// The truth value of an expression over a row; None exactly where it is undefined. It takes no memory.

@@ -2,7 +2,10 @@
 use std::alloc::{AllocError, Global};
 use std::test::Fail;
 use yw_base::{Items, Row, Sort, Text, Val, Value};
-use yw_expr::{Bindings, Expr, ExprFault, Scope, parse, sort_of, truth, view};
+use yw_expr::{
+    Bindings, Changed, Expr, ExprFault, Joined, Put, Scope, parse, sort_of, truth, truth_over,
+    view, view_of,
+};
 
 /// `b` a truth value, `n` a number, `t` a text, `ns` a list of numbers and `ts` one of texts.
 const NAMES: [(&str, Sort); 5] = [
@@ -351,6 +354,43 @@ fn lends_two(alloc: Global, text: &str) -> Result<bool, ExprFault> {
 fn lends_lists(rt: HostRuntime) -> Result<(), Fail> {
     assert!(rt; lends_two(rt.alloc(), "[5, -6]")?);
     assert!(rt; lends_two(rt.alloc(), "ts")?);
+    Ok(())
+}
+
+/// 4 in the place of 7, and then 5.
+fn puts(alloc: Global) -> Result<Items<Put>, AllocError> {
+    let mut puts = Items::new(alloc);
+    for number in [4, 5] {
+        puts.push(Put {
+            at: 1,
+            value: Value::Int(number),
+        })?;
+    }
+    Ok(puts)
+}
+
+fn counts_the_last(alloc: Global) -> Result<bool, ExprFault> {
+    let e = read(alloc, "n + ns[0]")?;
+    let row = row(alloc)?;
+    let puts = puts(alloc)?;
+    let changed = Changed {
+        base: row.as_slice(),
+        puts: puts.as_slice(),
+    };
+    Ok(number_in(view_of(&e, &changed)) == Some(6))
+}
+
+fn goes_on_in_the_second(alloc: Global) -> Result<bool, ExprFault> {
+    let e = read(alloc, "b and n = 7 and t = 'ab'")?;
+    let row = row(alloc)?;
+    let (first, then) = row.as_slice().split_at(1);
+    Ok(truth_over(&e, &Joined { first, then }) == Some(true))
+}
+
+#[test]
+fn values_of_lent_rows(rt: HostRuntime) -> Result<(), Fail> {
+    assert!(rt; counts_the_last(rt.alloc())?);
+    assert!(rt; goes_on_in_the_second(rt.alloc())?);
     Ok(())
 }
 

@@ -6,23 +6,23 @@ ghost use Rattle.yw_spec.specs.declared.task.Branch.{Branch};
 ghost use Rattle.yw_state.specs.Passing.{is_true, split_places};
 
 use std::alloc::{AllocError, Global};
-use yw_base::{Gate, Items, Row};
-use yw_expr::truth;
+use yw_base::{Gate, Items};
+use yw_expr::{Values, truth_over};
 use yw_spec::{Branch, IndexList, Task};
 
 /// The branch has a condition, and it is true over these values.
-fn is_true(branch: &Branch, values: &Row) -> bool
-    ensures { result ≡ is_true values.now branch.now }
+fn is_true<V: Values>(branch: &Branch, values: &V) -> bool
+    ensures { result ≡ is_true (V.values values.now) branch.now }
 {
     match &branch.when {
         None => false,
-        Some(when) => truth(when, values).unwrap_or(false),
+        Some(when) => truth_over(when, values).unwrap_or(false),
     }
 }
 
 /// Where the first true branch leads.
-fn first_true(branches: &[Branch], values: &Row) -> Option<usize>
-    ensures { result ≡ first_to (is_true values.now) branches.now }
+fn first_true<V: Values>(branches: &[Branch], values: &V) -> Option<usize>
+    ensures { result ≡ first_to (is_true (V.values values.now)) branches.now }
 {
     branches
         .iter()
@@ -41,22 +41,22 @@ fn first_default(branches: &[Branch]) -> Option<usize>
 }
 
 /// Where the first true branch leads, or else the default.
-fn first_place(branches: &[Branch], values: &Row) -> Option<usize>
-    ensures { result ≡ first_place branches.now values.now }
+fn first_place<V: Values>(branches: &[Branch], values: &V) -> Option<usize>
+    ensures { result ≡ first_place branches.now (V.values values.now) }
 {
     first_true(branches, values).or_else(|| first_default(branches))
 }
 
 /// Some branch is true.
-fn is_any_true(branches: &[Branch], values: &Row) -> bool
-    ensures { result ≡ list_any (is_true values.now) branches.now }
+fn is_any_true<V: Values>(branches: &[Branch], values: &V) -> bool
+    ensures { result ≡ list_any (is_true (V.values values.now)) branches.now }
 {
     branches.iter().any(|branch| is_true(branch, values))
 }
 
 /// The branch is taken, where this says whether some branch is true.
-fn is_taken(branch: &Branch, values: &Row, some_true: bool) -> bool
-    ensures { result ≡ is_taken values.now some_true branch.now }
+fn is_taken<V: Values>(branch: &Branch, values: &V, some_true: bool) -> bool
+    ensures { result ≡ is_taken (V.values values.now) some_true branch.now }
 {
     if some_true {
         is_true(branch, values)
@@ -66,16 +66,16 @@ fn is_taken(branch: &Branch, values: &Row, some_true: bool) -> bool
 }
 
 /// A branch that is taken leads to the place, where `some_true` says whether some branch is true.
-fn is_reached(branches: &[Branch], values: &Row, some_true: bool, c: usize) -> bool
-    requires { some_true ≡ list_any (is_true values.now) branches.now }
-    ensures { result ≡ is_reached branches.now values.now c }
+fn is_reached<V: Values>(branches: &[Branch], values: &V, some_true: bool, c: usize) -> bool
+    requires { some_true ≡ list_any (is_true (V.values values.now)) branches.now }
+    ensures { result ≡ is_reached branches.now (V.values values.now) c }
 {
     branches.iter().any(|branch| c == branch.to && is_taken(branch, values, some_true))
 }
 
 /// The places of an XOR-split.
-fn first_of(alloc: Global, task: &Task, values: &Row) -> Result<Vec<usize>, AllocError>
-    ensures { IfOk result (λ v. v.items ≡ filter (is_place (first_place task.now.branch values.now)) task.now.after) }
+fn first_of<V: Values>(alloc: Global, task: &Task, values: &V) -> Result<Vec<usize>, AllocError>
+    ensures { IfOk result (λ v. v.items ≡ filter (is_place (first_place task.now.branch (V.values values.now))) task.now.after) }
 {
     let Some(first) = first_place(task.branch.as_slice(), values) else {
         return Ok(Vec::new(alloc));
@@ -89,8 +89,8 @@ fn first_of(alloc: Global, task: &Task, values: &Row) -> Result<Vec<usize>, Allo
 }
 
 /// The places of an OR-split.
-fn reached(alloc: Global, task: &Task, values: &Row) -> Result<Vec<usize>, AllocError>
-    ensures { IfOk result (λ v. v.items ≡ filter (is_reached task.now.branch values.now) task.now.after) }
+fn reached<V: Values>(alloc: Global, task: &Task, values: &V) -> Result<Vec<usize>, AllocError>
+    ensures { IfOk result (λ v. v.items ≡ filter (is_reached task.now.branch (V.values values.now)) task.now.after) }
 {
     let branches = task.branch.as_slice();
     let some_true = is_any_true(branches, values);
@@ -105,8 +105,8 @@ fn reached(alloc: Global, task: &Task, values: &Row) -> Result<Vec<usize>, Alloc
 /// The places to which a split brings a token each, in flow order: all places behind an AND-split, that of the first true branch behind an XOR-split, those of
 /// all true ones behind an OR-split; where none is true, that of the default. A condition without a value counts as false. The
 /// answer is all memory that it takes; an `Err` says that it wasn't there. The branches with a default are after the YAWL User Manual.
-pub fn split_places(alloc: Global, task: &Task, values: &Row) -> Result<IndexList, AllocError>
-    ensures { IfOk result (λ places. places ≡ split_places task.now values.now) }
+pub fn split_places<V: Values>(alloc: Global, task: &Task, values: &V) -> Result<IndexList, AllocError>
+    ensures { IfOk result (λ places. places ≡ split_places task.now (V.values values.now)) }
 {
     let places = match task.split {
         Gate::And => Vec::from_slice(alloc, task.after.as_slice())?,

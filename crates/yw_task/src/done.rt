@@ -1,5 +1,5 @@
 // An item is completed.
-ghost use Rattle.std.specs.Prelude.{◌≡◌, ◌++◌, ◌<◌, IfOk, OnErr, OnOk, is_none, length};
+ghost use Rattle.std.specs.Prelude.{◌≡◌, ◌<◌, IfOk, OnErr, OnOk, is_none, length};
 ghost use Rattle.yw_expr.specs.Meaning.{val};
 ghost use Rattle.yw_state.specs.After.{due_where};
 ghost use Rattle.yw_state.specs.Broken.{placeless};
@@ -12,8 +12,8 @@ ghost use Rattle.yw_tree.specs.declared.Node.{out-Node};
 use crate::ask::{complete_fault, task_at};
 use crate::fault::StepFault;
 use std::alloc::{AllocError, Global};
-use yw_base::{Items, Name, Row, Text, Value};
-use yw_expr::view;
+use yw_base::{Name, Row, Text};
+use yw_expr::{Joined, Values, view_of};
 use yw_spec::{Assign, Net, Task};
 use yw_state::{Checks, Refusal, Rule, Stage};
 use yw_tree::Node;
@@ -28,36 +28,16 @@ fn name_of(alloc: Global, net: &Net, k: usize) -> Result<Text, AllocError>
     }
 }
 
-/// Copies of these values come behind the others.
-pub fn push_copies(alloc: Global, row: &mut Row, values: &[Value]) -> Result<(), AllocError>
-    ensures { OnOk result (row.new ≡ row.old ++ values.now) }
-{
-    for value in values {
-        row.push(value.copy(alloc)?)?;
-    }
-    Ok(())
-}
-
-/// What assignments speak of: what the items made, and behind it the net's values.
-fn set_row(alloc: Global, made: &Row, vals: &Row) -> Result<Row, AllocError>
-    ensures { IfOk result (λ row. row ≡ made.now ++ vals.now) }
-{
-    let mut row = Items::new(alloc);
-    push_copies(alloc, &mut row, made.as_slice())?;
-    push_copies(alloc, &mut row, vals.as_slice())?;
-    Ok(row)
-}
-
 /// The assignment is undefined over these values.
-fn is_undefined(assign: &Assign, row: &Row) -> bool
-    ensures { result ≡ is_none (val assign.now.value row.now) }
+fn is_undefined<V: Values>(assign: &Assign, row: &V) -> bool
+    ensures { result ≡ is_none (val assign.now.value (V.values row.now)) }
 {
-    view(&assign.value, row).is_none()
+    view_of(&assign.value, row).is_none()
 }
 
 /// The variable of the first assignment that is undefined over these values.
-fn first_undefined(set: &[Assign], row: &Row) -> Option<usize>
-    ensures { result ≡ first_undefined set.now row.now }
+fn first_undefined<V: Values>(set: &[Assign], row: &V) -> Option<usize>
+    ensures { result ≡ first_undefined set.now (V.values row.now) }
 {
     set.iter()
         .find(|assign| is_undefined(assign, row))
@@ -117,7 +97,10 @@ pub fn completion_fault(
     if task.set.is_empty() {
         return Ok(None);
     }
-    let row = set_row(alloc, made_of(task, so_far, out), vals)?;
+    let row = Joined {
+        first: made_of(task, so_far, out).as_slice(),
+        then: vals.as_slice(),
+    };
     mapping_fault(alloc, net, first_undefined(task.set.as_slice(), &row))
 }
 

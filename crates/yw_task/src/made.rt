@@ -1,17 +1,18 @@
 // What the items of a task made together, and what is kept of it.
-ghost use Rattle.std.specs.Prelude.{◌≡◌, IfOk, OnOk, fold, slice_get, slice_set};
+ghost use Rattle.std.specs.Prelude.{◌≡◌, ◌++◌, IfOk, OnOk, fold, slice_get, slice_set};
 ghost use Rattle.std.specs.List.{filter_map};
 ghost use Rattle.std.specs.Option.{option_copied};
 ghost use Rattle.yw_base.specs.Values.{zero_of};
-ghost use Rattle.yw_state.specs.Passing.{int_in, kept_values, set_row, text_in};
+ghost use Rattle.yw_state.specs.Passing.{int_in, kept_values, text_in};
+ghost use Rattle.yw_expr.specs.Rows.{put_in};
+ghost use Rattle.yw_state.specs.Values.{Row};
 ghost use Rattle.yw_state.specs.Words.{is_completed};
-ghost use Rattle.yw_task.specs.Making.{assigned, column, first_or, int_by, is_text, listed, made_by, out_value, rows_made, text_by};
+ghost use Rattle.yw_task.specs.Making.{assigned, column, first_or, int_by, is_text, listed, made_by, out_value, outs_from, rows_made, text_by};
 ghost use Rattle.yw_tree.specs.Shows.{items_in};
 
-use crate::done::push_copies;
 use std::alloc::{AllocError, Global};
 use yw_base::{Items, Row, Sort, Text, TextList, Value};
-use yw_expr::view;
+use yw_expr::{Joined, Put, view_of};
 use yw_spec::{Assign, Task};
 use yw_state::Stage;
 use yw_tree::{NetState, Node};
@@ -175,16 +176,61 @@ fn out_value(
     }
 }
 
-/// What assignments speak of: what the items made, and behind it the net's values.
-fn set_row(alloc: Global, task: &Task, nodes: &[Node], vals: &Row) -> Result<Row, AllocError>
-    ensures { IfOk result (λ row. row ≡ set_row task.now (rows_made nodes.now) vals.now) }
+/// What the items made of each parameter, one for one.
+fn made_row(alloc: Global, task: &Task, nodes: &[Node]) -> Result<Row, AllocError>
+    ensures { IfOk result (λ row. row ≡ outs_from task.now nodes.now 0 task.now.outs) }
 {
     let mut row = Items::new(alloc);
     for (k, param) in task.outs.as_slice().iter().enumerate() {
         row.push(out_value(alloc, task, param.sort, nodes, k)?)?;
     }
-    push_copies(alloc, &mut row, vals.as_slice())?;
     Ok(row)
+}
+
+/// Makes an assignment over this row, behind others: its value is kept beside its variable, where it is defined.
+fn push_assigned(
+    alloc: Global,
+    puts: &mut Items<Put>,
+    assign: &Assign,
+    over: &Joined<'_>,
+) -> Result<(), AllocError>
+    ensures { OnOk result ((vals : Row)
+        → fold put_in vals puts.new
+        ≡ assigned (over.now.first.now ++ over.now.then.now) (fold put_in vals puts.old) assign.now) }
+{
+    if let Some(value) = view_of(&assign.value, over) {
+        let value = value.to_value(alloc)?;
+        puts.push(Put {
+            at: assign.var,
+            value,
+        })?;
+    }
+    Ok(())
+}
+
+/// The values that the assignments of a task leave, which has these items, each beside its variable: each over what the items made and the net's
+/// values as they are. One that is undefined leaves its variable. No value of the net is copied. An `Err` says that no memory was left.
+pub fn assigned_values(
+    alloc: Global,
+    task: &Task,
+    nodes: &[Node],
+    vals: &Row,
+) -> Result<Items<Put>, AllocError>
+    ensures { IfOk result (λ puts. fold put_in vals.now puts ≡ kept_values task.now (rows_made nodes.now) vals.now) }
+{
+    let mut puts = Items::new(alloc);
+    if task.set.is_empty() {
+        return Ok(puts);
+    }
+    let made = made_row(alloc, task, nodes)?;
+    let over = Joined {
+        first: made.as_slice(),
+        then: vals.as_slice(),
+    };
+    for one in task.set.as_slice() {
+        push_assigned(alloc, &mut puts, one, &over)?;
+    }
+    Ok(puts)
 }
 
 /// Puts a value in the place of the one with this number, where there is one.
@@ -196,50 +242,12 @@ fn put(vals: &mut Row, k: usize, value: Value)
     }
 }
 
-/// Makes an assignment over this row. Where its value is undefined, the variable stays.
-fn assign(alloc: Global, vals: &mut Row, assign: &Assign, over: &Row) -> Result<(), AllocError>
-    ensures { OnOk result (vals.new ≡ assigned over.now vals.old assign.now) }
+/// Puts these values in the place of others, in turn.
+pub fn put_all(vals: &mut Row, puts: Items<Put>)
+    ensures { vals.new ≡ fold put_in vals.old puts }
 {
-    if let Some(value) = view(&assign.value, over) {
-        put(vals, assign.var, value.to_value(alloc)?);
+    for one in puts.into_vec() {
+        let Put { at, value } = one;
+        put(vals, at, value);
     }
-    Ok(())
-}
-
-/// Makes each of these assignments over this row, in turn.
-fn assign_each(alloc: Global, vals: &mut Row, set: &[Assign], over: &Row) -> Result<(), AllocError>
-    ensures { OnOk result (vals.new ≡ fold (assigned over.now) vals.old set.now) }
-{
-    for one in set {
-        assign(alloc, vals, one, over)?;
-    }
-    Ok(())
-}
-
-/// Copies of these values.
-fn copies(alloc: Global, values: &Row) -> Result<Row, AllocError>
-    ensures { IfOk result (λ row. row ≡ values.now) }
-{
-    let mut row = Items::new(alloc);
-    push_copies(alloc, &mut row, values.as_slice())?;
-    Ok(row)
-}
-
-/// The net's values once the assignments of a task are made, which has these items: each over what the items made and the net's values as
-/// they are. One that is undefined leaves its variable. An `Err` says that no memory was left.
-pub fn kept_values(
-    alloc: Global,
-    task: &Task,
-    nodes: &[Node],
-    vals: &Row,
-) -> Result<Row, AllocError>
-    ensures { IfOk result (λ kept. kept ≡ kept_values task.now (rows_made nodes.now) vals.now) }
-{
-    let mut kept = copies(alloc, vals)?;
-    if task.set.is_empty() {
-        return Ok(kept);
-    }
-    let over = set_row(alloc, task, nodes, vals)?;
-    assign_each(alloc, &mut kept, task.set.as_slice(), &over)?;
-    Ok(kept)
 }

@@ -16,6 +16,7 @@ pub fn lose_items(state: &mut NetState, t: usize)
     requires { IsBoxedNet state.old }
     ensures boxed { IsBoxedNet state.new }
     ensures turns { Turns state.old state.new (λ i s. without_items i s t) }
+    ensures vals { (out-NetState state.new).vals ≡ (out-NetState state.old).vals }
 {
     if t < state.items.len() {
         clear_task(state, t);

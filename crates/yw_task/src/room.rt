@@ -9,6 +9,10 @@ use yw_tree::{NetState, Node};
 fn add_lists(alloc: Global, lists: &mut Vec<Vec<Node>>, t: usize) -> Result<(), AllocError>
     ensures { OnOk result (EmptyBehind t lists.old.items lists.new.items) }
 {
+    let now = lists.len();
+    if now <= t {
+        lists.reserve_exact((t - now).saturating_add(1))?;
+    }
     'lists: while lists.len() <= t {
         lists.push(Vec::new(alloc))?;
     }

@@ -12,10 +12,10 @@ use yw_base::{Ident, Row};
 use yw_enabled::{first_entered, first_left};
 use yw_expr::view;
 use yw_known::NetHere;
-use yw_mark::{Taken, split_places};
+use yw_mark::Taken;
 use yw_spec::Task;
 use yw_state::Event;
-use yw_task::{element_count, items_in, kept_values, task_at};
+use yw_task::{element_count, exit_places, items_in, task_at};
 
 /// The exit of a task of the net at an identity: a token comes to each place of its split.
 fn exit_of(alloc: Global, here: &NetHere<'_>, at: &Ident, t: usize) -> Result<Event, AllocError>
@@ -23,8 +23,7 @@ fn exit_of(alloc: Global, here: &NetHere<'_>, at: &Ident, t: usize) -> Result<Ev
     ensures { IfOk result (IsExit here.now at.now t) }
 {
     let task = task_at(here.net, t);
-    let vals = kept_values(alloc, task, items_in(here.state, t), &here.state.vals)?;
-    let numbers = split_places(alloc, task, &vals)?;
+    let numbers = exit_places(alloc, task, items_in(here.state, t), &here.state.vals)?;
     Ok(Event::Exit {
         net: at.copy(alloc)?,
         task: task.name.copy()?,

@@ -11,6 +11,6 @@ use Rattle.yw_tree.specs.declared.NetState.{out-NetState}
 pub returns : goal.returns
 returns c =
     let task = c.args.task.now in
-    let values = c.in_ok-values.ensures ∙ ap (λ ns. kept_values task (rows_made ns) (out-NetState c.args.state.now).vals) c.items_in.ensures in
+    let values = ap (λ ns. kept_values task (rows_made ns) (out-NetState c.args.state.now).vals) c.items_in.ensures in
     let numbers = c.as_slice-2.ensures ∙ c.in_ok-numbers.ensures ∙ ap (split_places task) values in
     c.are_numbered.ensures ∙ (λ i. is_some_and (place_numbers c.args.net.now (c.as_slice.ensures i)) (λ cs. pointwise nat_eq cs (numbers i)))

@@ -5,7 +5,7 @@ use Rattle.yw_mark.proofs.split.first_of.Goals as goal
 use Rattle.yw_mark.specs.Splits.{first_place, is_place}
 
 pub returns-in_default : goal.returns-in_default
-returns-in_default c =
-    let none : None ≡ first_place c.args.task.now.branch c.args.values.now =
-    sym c.in_default.is ∙ c.first_place.ensures ∙ ap (λ bs. first_place bs c.args.values.now) c.as_slice.ensures in
+returns-in_default g c =
+    let none : None ≡ first_place c.args.task.now.branch (g.V.Values.values c.args.values.now) =
+    sym c.in_default.is ∙ c.first_place.ensures ∙ ap (λ bs. first_place bs (g.V.Values.values c.args.values.now)) c.as_slice.ensures in
     c.new.ensures.items ∙ none_kept c.args.task.now.after ∙ ap (λ o. filter (is_place o) c.args.task.now.after) none

@@ -11,7 +11,7 @@ returns c =
     let here = c.args.here.now in
     let task = c.task_at-task.result.now in
     let vals = (out-NetState here.state.now).vals in
-    let values = c.in_ok-vals.ensures ∙ ap (λ (ns : List Node). kept_values task (rows_made ns) vals) c.items_in.ensures in
+    let values = ap (λ (ns : List Node). kept_values task (rows_made ns) vals) c.items_in.ensures in
     made_exit here.net.now here.state.now c.args.at.now c.args.t task c.task_at-task.ensures _ _ c.as_slice.result.now _
     c.in_ok-copy.ensures c.in_ok-copy-2.ensures
     (c.as_slice.ensures ∙ c.in_ok-numbers.ensures ∙ ap (split_places task) values) c.in_ok-places_of.ensures

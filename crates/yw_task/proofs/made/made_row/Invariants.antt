@@ -1,5 +1,5 @@
 use Rattle.std.proofs.Common.{drop, ◌++◌, ◌≡◌}
-use Rattle.yw_task.proofs.made.set_row.Given as goal
+use Rattle.yw_task.proofs.made.made_row.Given as goal
 use Rattle.yw_task.specs.Making.{outs_from}
 
 abbrev pub invariant-loop-k : goal.invariant-loop-k
