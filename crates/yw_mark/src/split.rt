@@ -105,7 +105,11 @@ fn reached<V: Values>(alloc: Global, task: &Task, values: &V) -> Result<Vec<usiz
 /// The places to which a split brings a token each, in flow order: all places behind an AND-split, that of the first true branch behind an XOR-split, those of
 /// all true ones behind an OR-split; where none is true, that of the default. A condition without a value counts as false. The
 /// answer is all memory that it takes; an `Err` says that it wasn't there. The branches with a default are after the YAWL User Manual.
-pub fn split_places<V: Values>(alloc: Global, task: &Task, values: &V) -> Result<IndexList, AllocError>
+pub fn split_places<V: Values>(
+    alloc: Global,
+    task: &Task,
+    values: &V,
+) -> Result<IndexList, AllocError>
     ensures { IfOk result (λ places. places ≡ split_places task.now (V.values values.now)) }
 {
     let places = match task.split {
