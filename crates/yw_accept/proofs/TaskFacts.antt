@@ -68,7 +68,7 @@ each_fits raw h = everywhere (λ net task. Demand (items_fit task ≡ true) (in_
 
 pub children_fit : (raw : RawSpec) → ChildrenFit raw None → Everywhere (λ net task. may_be_child raw task.kind task.net ≡ true) raw
 unfolding ChildrenFit
-children_fit raw h = everywhere (ChildFits raw) raw h.0
+children_fit raw h = λ i d lt j e le. (everywhere (ChildFits raw) raw h.0 i d lt j e le).0
 
 pub sorts_fit : (raw : RawSpec) → SortsFit raw None → Everywhere ExpressionsFit raw
 unfolding SortsFit

@@ -1,7 +1,6 @@
--- The checks of where nets lead: every node is on the way (3), each net but the top is one task's (6), nets don't nest
--- too deep (7), and a net with an OR-join has no cycle (8). The third is the paper's; the others are our own.
-use Rattle.std.specs.Prelude.{◌≡◌, ℕ, ◌&&◌, List, Bool, true, false, not, Option, Some, None, Contains, count_by, flat_map}
-use Rattle.std.specs.Option.{option_map_or}
+-- The checks of where nets lead: every node is on the way (3), no net uses itself and each is reached from the top (6),
+-- nets don't nest too deep (7), and a net with an OR-join has no cycle (8). The third is the paper's; the others are our own.
+use Rattle.std.specs.Prelude.{◌≡◌, ℕ, ◌&&◌, List, Bool, true, false, not, Option, Some, None, Contains}
 use Rattle.std.specs.Str.{bytes_eq}
 use Rattle.yw_read.specs.declared.raw.RawTask.{RawTask}
 use Rattle.yw_read.specs.declared.raw.RawKind.{RawKind}
@@ -25,8 +24,8 @@ NodeIsOnPath net node = Demand (IsOnPath net node) (in_net 3 net.name node)
 unfoldable pub PathsFit : RawSpec → Check
 PathsFit raw = InOrder (λ (net : RawNet). InOrder (NodeIsOnPath net) (nodes net)) raw.net
 
--- ---- 6: `net` stands exactly for kind sub and names a net other than the top; every other net is named by exactly
--- one task, and reached from the top
+-- ---- 6: `net` stands exactly for kind sub and names a net other than the top; no net uses itself; every net is
+-- reached from the top
 
 -- the net that the task's items run in
 abbrev pub names_of_kind : RawKind → Option (List ℕ) → Option (List ℕ)
@@ -42,29 +41,26 @@ may_be_child raw kinds.Sub None = false
 may_be_child raw kind (Some net) = false
 may_be_child raw kind None = true
 
-abbrev pub ChildFits : RawSpec → RawNet → RawTask → Check
-ChildFits raw net task = Demand (may_be_child raw task.kind task.net ≡ true) (in_net 6 net.name task.name)
-
--- it is a task of kind sub that names the net
-abbrev pub names_net : List ℕ → RawTask → Bool
-names_net net task = option_map_or (λ name. bytes_eq name net) (child task) false
-
 -- a net of the first name holds a task of kind sub that names the second
 abbrev pub Holds : RawSpec → List ℕ → List ℕ → Type 0
 Holds raw outer inner =
     (net : RawNet) × Contains raw.net net × (net.name ≡ outer) × (task : RawTask) × Contains net.task task × (child task ≡ Some inner)
 
-abbrev pub all_tasks : RawSpec → List RawTask
-all_tasks raw = flat_map (λ (net : RawNet). net.task) raw.net
+-- the net that the task names leads to the net that holds the task, or is this net
+abbrev pub LeadsBack : RawSpec → RawNet → RawTask → Type 0
+LeadsBack raw net task = (inner : List ℕ) × (child task ≡ Some inner) × PathAlong (Holds raw) inner net.name
 
-abbrev pub IsUsedOnce : RawSpec → RawNet → Type 0
-IsUsedOnce raw net =
-    bytes_eq net.name raw.top ≡ false → (count_by (names_net net.name) (all_tasks raw) ≡ 1) × PathAlong (Holds raw) raw.top net.name
+abbrev pub ChildFits : RawSpec → RawNet → RawTask → Check
+ChildFits raw net task =
+    Demand ((may_be_child raw task.kind task.net ≡ true) × (LeadsBack raw net task → ⊥)) (in_net 6 net.name task.name)
+
+abbrev pub IsReached : RawSpec → RawNet → Type 0
+IsReached raw net = PathAlong (Holds raw) raw.top net.name
 
 unfoldable pub ChildrenFit : RawSpec → Check
 ChildrenFit raw =
     Then (InOrder (λ (net : RawNet). InOrder (ChildFits raw net) net.task) raw.net)
-    (InOrder (λ (net : RawNet). Demand (IsUsedOnce raw net) (of_net 6 net.name)) raw.net)
+    (InOrder (λ (net : RawNet). Demand (IsReached raw net) (of_net 6 net.name)) raw.net)
 
 -- ---- 7: at most 8 nets stand on a way down from the top
 
