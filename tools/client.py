@@ -1,0 +1,152 @@
+"""A client of the server that never does a step twice.
+
+    with Client("shop") as client:
+        client.command("person", name="ann", roles=["clerk"])
+        case = client.command("launch", spec="order", data={"amount": 200}).made[0]
+
+The client runs the server as its own process. Where that ends before a reply was whole, however it ended, it isn't known whether the line is held.
+The client then counts the entries of the folder's files: it knows how many were held before the line. One more says that the line is held,
+with the steps that stand in it; the reply is made of these. As many as before say that it isn't, and it is sent again.
+
+The folder is this client's alone from its first command to `close`: another server that runs in between would be found out (`Foreign`). One
+command is sent at a time; threads that share a client need a lock of their own.
+"""
+
+from dataclasses import dataclass, field
+from pathlib import Path
+
+from yawl.journal import MOST_EVENTS, Event, Journal, read_entry
+from yawl.server import STATUSES, Lost, Server
+
+# The server ends with these for a cause that starting it again doesn't take away.
+LASTING = {STATUSES.index(name) for name in ("Usage", "Disk", "Memory", "Damaged", "Full")}
+
+
+class Refused(Exception):
+    """The line breaks a rule and has changed nothing: the rule's name, and what is at fault, or the empty text."""
+
+    def __init__(self, rule: str, at: str):
+        super().__init__(f"{rule} {at}".rstrip())
+        self.rule = rule
+        self.at = at
+
+
+class Foreign(Exception):
+    """The files hold what this client didn't ask for."""
+
+
+@dataclass(frozen=True)
+class Reply:
+    """What an accepted command did.
+
+    `steps` are its own and what came of itself; `quiet` is False where more is to come, by `advance`; `answer` is that of a query. `found`
+    says that the reply was lost and is made from the files. There `quiet` is told by the count of steps: with less than the most that come
+    behind one line nothing is to come; with the most that isn't known, and it is False.
+    """
+    steps: list[str] = field(default_factory=list)
+    quiet: bool = True
+    answer: object = None
+    found: bool = False
+
+    @property
+    def made(self) -> list[str]:
+        """The identities that the first step made: of a case by `launch`, of items by `enter` and `add`."""
+        word, *rest = self.steps[0].split(" ") if self.steps else [""]
+        return rest[:1] if word == "launch" else rest[-1].split(",") if word in ("enter", "add") else []
+
+
+class Ended(Exception):
+    """The server ended for a cause that lasts. `status` is a number of the server's, `said` the line that it said, as `{"full":120}`, or None;
+    `reply` is that of the command at work where the files hold it, and None where they don't."""
+
+    def __init__(self, lost: Lost, reply: Reply | None):
+        super().__init__(f"{lost}; the command is {'held' if reply else 'not held'}")
+        self.status = lost.status
+        self.said = lost.said
+        self.reply = reply
+
+
+class NotHeld(Exception):
+    """The server ended again and again over one command, which the files don't hold. It may be sent again."""
+
+
+class Client:
+    """A client over a folder. `held` is the number of entries that the files hold, by what was replied and found so far."""
+
+    def __init__(self, folder: str | Path, program: str | None = None, words: tuple[str, ...] = (), timeout: float | None = None,
+                 tries: int = 20):
+        """`words` stand behind `run`, as `("--limit", "1000000")`. A reply that doesn't come within the timeout, in seconds, counts as
+        lost. A command is sent so many times as long as the files don't hold it. Raises what `yawl.journal.Journal` raises."""
+        self.folder = folder
+        self.program = program
+        self.words = words
+        self.timeout = timeout
+        self.tries = tries
+        self.server: Server | None = None
+        self.journal = Journal(folder)
+        self.journal.to_end()
+        self.held = self.journal.number
+
+    def __enter__(self) -> "Client":
+        return self
+
+    def __exit__(self, *_) -> None:
+        self.close()
+
+    def command(self, cmd: str, /, **fields) -> Reply:
+        """Sends a command, as `command("start", who="ann", item="1.2")`, and gives what it did.
+
+        Raises `Refused` where it breaks a rule, `Ended` where the server ended for a cause that lasts, `NotHeld` where it ended too often,
+        and `Foreign` where another has written in the folder.
+        """
+        line = {"cmd": cmd, **fields}
+        for _ in range(self.tries):
+            try:
+                reply = self.running().ask(line, self.timeout)
+            except Lost as lost:
+                found = self.find(cmd)
+                if lost.status in LASTING:
+                    raise Ended(lost, found) from None
+                if found:
+                    return found
+            else:
+                return self.accept(reply)
+        raise NotHeld(f"{cmd}: the server ended {self.tries} times")
+
+    def running(self) -> Server:
+        """The server, started where none runs."""
+        if self.server is None:
+            self.server = Server(self.folder, self.program, self.words)
+        return self.server
+
+    def accept(self, reply: dict) -> Reply:
+        """What a reply says."""
+        if not reply["ok"]:
+            raise Refused(reply["rule"], reply["at"])
+        if "answer" in reply:
+            return Reply(answer=reply["answer"])
+        self.held += 1
+        return Reply(reply["steps"], reply["quiet"])
+
+    def find(self, cmd: str) -> Reply | None:
+        """When the server has ended: what the last command did, where the files hold it."""
+        self.server = None
+        last = self.journal.to_end()
+        if self.journal.number == self.held:
+            return None
+        events = read_entry(last.bytes)
+        if self.journal.number != self.held + 1 or events[0].word != cmd:
+            raise Foreign(f"{self.journal.number} entries, and {self.held} were held before a {cmd}; the last is: {events[0].text}")
+        self.held += 1
+        return reply_of(events)
+
+    def close(self) -> int:
+        """Ends the server and gives its status, 0 where none ran. The next command starts it again."""
+        status = self.server.end() if self.server else 0
+        self.server = None
+        return status
+
+
+def reply_of(events: list[Event]) -> Reply:
+    """The reply to the command whose entry has these events."""
+    return Reply([event.text for event in events], len(events) < MOST_EVENTS, found=True)

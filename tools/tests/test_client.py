@@ -1,0 +1,188 @@
+"""The client: replies and refusals, lost replies found in the files, and hundreds of kills at random moments."""
+
+import os
+import random
+import subprocess
+import threading
+import time
+import unittest
+
+from support import EXAMPLES, FolderTest, program_path, serve
+from client import Client, Ended, Foreign, NotHeld, Refused
+from yawl.journal import Damaged, Journal
+
+KILLS = int(os.environ.get("YAWL_KILLS", 300))
+ANN = '{"cmd":"person","name":"ann","roles":[]}\n'
+
+
+def steps_held(folder) -> list[list[str]]:
+    """The steps of each entry."""
+    return [[event.text for event in events] for _, events in Journal(folder).entries()]
+
+
+class Order:
+    """A shop that handles orders through a client. `asked` are the commands' words, `replies` what came of each."""
+
+    def __init__(self, client: Client):
+        self.client = client
+        self.asked: list[str] = []
+        self.replies = []
+
+    def ask(self, cmd: str, /, **fields):
+        self.asked.append(cmd)
+        self.replies.append(self.client.command(cmd, **fields))
+        return self.replies[-1]
+
+    def open(self) -> None:
+        self.ask("person", name="ann", roles=["clerk", "packer"])
+        self.ask("load", toml=(EXAMPLES / "order.toml").read_text())
+
+    def handle(self) -> None:
+        """One order from its launch to its end."""
+        [case] = self.ask("launch", spec="order", data={"amount": 200}).made
+        for task in ("receive", "pack", "bill", "ship"):
+            [item] = self.ask("enter", who="ann", case=case, task=task).made
+            self.ask("start", who="ann", item=item)
+            self.ask("complete", who="ann", item=item, out={})
+
+
+class CommandTest(FolderTest):
+    def test_a_case_runs_to_its_end(self):
+        with Client(self.folder) as client:
+            shop = Order(client)
+            shop.open()
+            shop.handle()
+            self.assertEqual(shop.replies[2].made, ["1"])
+            self.assertEqual(shop.replies[-1].steps, ["complete 1.7", "exit 1 ship to o", "finish 1"])
+            self.assertTrue(all(it.quiet and not it.found for it in shop.replies))
+            self.assertEqual(client.close(), 0)
+        self.assertEqual(steps_held(self.folder), [it.steps for it in shop.replies])
+
+    def test_a_refusal_is_raised(self):
+        with Client(self.folder) as client:
+            Order(client).open()
+            with self.assertRaises(Refused) as refused:
+                client.command("launch", spec="order", data={"amount": "much"})
+            self.assertEqual((refused.exception.rule, refused.exception.at), ("BadData", "amount"))
+            self.assertEqual(client.held, 2)
+
+    def test_it_goes_on_with_what_is_there(self):
+        for _ in range(2):
+            with Client(self.folder) as client:
+                client.command("person", name="ann", roles=[])
+        self.assertEqual(client.held, 2)
+
+
+class LostTest(FolderTest):
+    """Servers that end in their own ways, as scripts in place of the program. `$1` is the folder."""
+
+    def client(self, script: str, **given) -> Client:
+        path = self.folder / "program"
+        path.write_text(f"#!/bin/sh\n{script.replace('PROGRAM', program_path())}\n")
+        path.chmod(0o755)
+        client = Client(self.shop(), str(path), **given)
+        self.addCleanup(client.close)
+        return client
+
+    def shop(self):
+        shop = self.folder / "shop"
+        shop.mkdir(exist_ok=True)
+        return shop
+
+    def test_a_held_line_is_found(self):
+        client = self.client('head -n 1 | PROGRAM "$1" run >/dev/null; kill -9 $$')
+        for name in ("ann", "bob"):
+            reply = client.command("person", name=name, roles=[])
+            self.assertEqual((reply.steps, reply.quiet, reply.found), ([f"person {name}"], True, True))
+        self.assertEqual(steps_held(self.shop()), [["person ann"], ["person bob"]])
+
+    def test_half_a_reply_is_none(self):
+        client = self.client('head -n 1 | PROGRAM "$1" run | head -c 20')
+        self.assertTrue(client.command("person", name="ann", roles=[]).found)
+        self.assertEqual(steps_held(self.shop()), [["person ann"]])
+
+    def test_a_line_that_is_not_held_is_sent_again(self):
+        client = self.client('[ -e "$1/once" ] && exec PROGRAM "$1" run; touch "$1/once"; read line; kill -9 $$')
+        reply = client.command("person", name="ann", roles=[])
+        self.assertFalse(reply.found)
+        client.close()
+        self.assertEqual(steps_held(self.shop()), [["person ann"]])
+
+    def test_it_gives_up_where_nothing_is_held(self):
+        with self.assertRaises(NotHeld):
+            self.client("kill -9 $$", tries=3).command("person", name="ann", roles=[])
+        with self.assertRaises(NotHeld):
+            self.client("exec sleep 60", tries=2, timeout=0.1).command("person", name="ann", roles=[])
+
+    def test_what_another_wrote_is_told(self):
+        client = self.client('head -n 1 | PROGRAM "$1" run >/dev/null; kill -9 $$')
+        serve(self.shop(), ANN)
+        with self.assertRaises(Foreign):
+            client.command("person", name="bob", roles=[])
+
+    def test_a_cause_that_lasts(self):
+        client = Client(self.shop(), words=("--limit", "64"))
+        client.command("person", name="ann", roles=[])
+        with self.assertRaises(Ended) as ended:
+            client.command("person", name="ann", roles=["clerk", "packer"])
+        # The first entry's record ends at 43. The second has a length of four bytes, 21 bytes and a gate.
+        self.assertEqual((ended.exception.status, ended.exception.said, ended.exception.reply), (8, {"full": 69}, None))
+
+    def test_a_second_server_is_told(self):
+        first = subprocess.Popen([program_path(), self.shop(), "run"], stdin=subprocess.PIPE, stdout=subprocess.PIPE)
+        self.addCleanup(first.communicate)
+        first.stdin.write(ANN.encode())
+        first.stdin.flush()
+        first.stdout.readline()
+        with self.assertRaises(Ended) as ended:
+            Client(self.shop()).command("person", name="bob", roles=[])
+        self.assertEqual((ended.exception.status, ended.exception.reply), (3, None))
+
+    def test_damage_is_told_before_anything(self):
+        (self.shop() / "yawl.a").write_bytes(b"\1" + bytes(29))
+        with self.assertRaises(Damaged):
+            Client(self.shop())
+
+
+class Killer(threading.Thread):
+    """Kills a client's server so many times, at random moments."""
+
+    def __init__(self, client: Client, kills: int, most: float):
+        super().__init__()
+        self.client = client
+        self.left = kills
+        self.most = most
+
+    def run(self) -> None:
+        chance = random.Random(2005)
+        while self.left:
+            time.sleep(chance.uniform(0, self.most))
+            server = self.client.server
+            if server and server.process.poll() is None:
+                server.process.kill()
+                self.left -= 1
+
+
+class KillsTest(FolderTest):
+    def test_each_asked_step_stands_once(self):
+        client = Client(self.folder, tries=1000)
+        shop = Order(client)
+        began = time.monotonic()
+        shop.open()
+        # A server lives as long as a start and some commands take, so that kills meet all of its work.
+        killer = Killer(client, KILLS, 3 * (time.monotonic() - began))
+        killer.start()
+        while killer.is_alive():
+            shop.handle()
+        killer.join()
+        shop.handle()
+        client.close()
+        held = steps_held(self.folder)
+        self.assertEqual(held, [it.steps for it in shop.replies])
+        self.assertEqual([it[0].split(" ")[0] for it in held], shop.asked)
+        found = sum(it.found for it in shop.replies)
+        print(f"{KILLS} kills, {len(held)} lines, {found} of them found in the files")
+
+
+if __name__ == "__main__":
+    unittest.main()
