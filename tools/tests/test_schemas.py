@@ -1,0 +1,159 @@
+"""The schemas: what is right is valid, and what is invalid is refused by the server too."""
+
+import json
+import tomllib
+import unittest
+
+from support import NAMES, TOOLS, TOP, FolderTest, example, serve
+from validator import Validator
+from yawl import server
+
+# A change of examples/order.toml, or of examples/loan.toml below: the text, and what stands in its place.
+ORDER_MISTAKES = [
+    ('name = "order"\n', ""),
+    ('top = "main"\n', "top = 1\n"),
+    ('top = "main"\n', 'top = "main"\ncolour = "red"\n'),
+    ('name = "order"', 'name = "an order"'),
+    ('name = "order"', 'name = "len"'),
+    ('input = "i"\n', ""),
+    ('output = "o"\n', 'output = ["o"]\n'),
+    ('conditions = ["packed"]', 'conditions = "packed"'),
+    ('conditions = ["packed"]', 'conditions = ["packed", "packed"]'),
+    ('sort = "int"', 'sort = "float"'),
+    ('use = "in"', 'use = "input"'),
+    ('use = "in"', 'use = "in", init = "0"'),
+    ('use = "in"', 'use = "in", init = 1.5'),
+    ('["i", "receive"]', '["i", "receive", "accept"]'),
+    ('["ship", "o"],', '["ship", "o"], ["ship", "o"],'),
+    ('["i", "receive"]', '"i->receive"'),
+    ('role = "clerk"\nsplit', 'role = "head clerk"\nsplit'),
+    ('role = "manager"', 'roles = ["manager"]'),
+    ('role = "manager"', 'kind = "manual"'),
+    ('role = "manager"', 'kind = "sub"'),
+    ('role = "manager"', 'net = "main"'),
+    ('role = "manager"', "min = 2"),
+    ('role = "manager"', "dynamic = true"),
+    ('role = "manager"', 'each = "[1]"'),
+    ('role = "manager"', 'outs = ["ok"]'),
+    ('role = "manager"', 'set = [{ var = "amount" }]'),
+    ('role = "manager"', 'remove = "packed"'),
+    ('split = "xor"', 'split = "one"'),
+    ('split = "xor"\n', ""),
+    ('branch = [{ to = "approve", when = "amount > 1000" }, { to = "accept" }]\n', ""),
+    ('when = "amount > 1000"', "when = true"),
+    ('to = "accept"', 'when = "true"'),
+    ('name = "accept"\nkind = "empty"', 'name = "accept"\nkind = "empty"\nrole = "clerk"'),
+    ('join = "xor"', 'join = "any"'),
+]
+LOAN_MISTAKES = [
+    ("min = 2", "min = 0"),
+    ("max = 5", "max = 1001"),
+    ("threshold = 2", "threshold = 0"),
+    ("threshold = 2", 'threshold = "2"'),
+    ('item = "reviewer"\n', ""),
+    ('each = "who"\n', ""),
+    ('outs = [{ name = "v", sort = "int" }]', 'outs = [{ name = "v" }]'),
+    ('outs = [{ name = "v", sort = "int" }]', 'outs = [{ name = "v", sort = "int", value = "1" }]'),
+    ('kind = "sub"\n', ""),
+]
+RIGHT_LINES = [
+    '{"cmd":"person","name":"_a1","roles":[]}',
+    '{"task":"vote","value":["a"],"who":"ann","case":"1.3","cmd":"add"}',
+    '{"cmd":"launch","spec":"a","data":{"b":true,"c":-9223372036854775808,"d":"","e":[],"f":[1,2],"g":["x"]}}',
+    '{"cmd":"advance","case":"281474976710655"}',
+]
+WRONG_LINES = [
+    "[]", "7", "{}", '{"cmd":"walk"}', '{"cmd":7}', '{"name":"ann","roles":[]}',
+    '{"cmd":"person"}',
+    '{"cmd":"person","name":"ann"}',
+    '{"cmd":"person","name":"ann","roles":"clerk"}',
+    '{"cmd":"person","name":"ann","roles":["clerk","clerk"]}',
+    '{"cmd":"person","name":"ann","roles":[],"x":1}',
+    '{"cmd":"person","name":"1","roles":[]}',
+    '{"cmd":"person","name":"","roles":[]}',
+    '{"cmd":"person","name":"ann\\n","roles":[]}',
+    '{"cmd":"load","toml":7}',
+    '{"cmd":"launch","spec":"order"}',
+    '{"cmd":"launch","spec":"order","data":[]}',
+    '{"cmd":"launch","spec":"order","data":{"amount":1.5}}',
+    '{"cmd":"launch","spec":"order","data":{"amount":null}}',
+    '{"cmd":"launch","spec":"order","data":{"amount":9223372036854775808}}',
+    '{"cmd":"launch","spec":"order","data":{"amount":[1,"a"]}}',
+    '{"cmd":"launch","spec":"order","data":{"amount":{}}}',
+    '{"cmd":"enter","who":"ann","case":1,"task":"receive"}',
+    '{"cmd":"enter","who":"ann","case":"1."}',
+    '{"cmd":"start","who":"ann","item":"01"}',
+    '{"cmd":"start","who":"ann","item":"1.0"}',
+    '{"cmd":"start","who":"ann","case":"1.2"}',
+    '{"cmd":"complete","who":"ann","item":"1.2"}',
+    '{"cmd":"add","who":"ann","case":"1","task":"vote","value":null}',
+    '{"cmd":"cancel","case":"1","who":"ann"}',
+]
+RIGHT_REPLIES = [
+    '{"n":7,"ok":true,"quiet":false,"steps":["add 1.3 vote as 1.3.9"]}',
+    '{"n":1,"ok":true,"quiet":true,"steps":["enter 1 a from i,b->c as 1.2,1.3","completeempty 1.2"]}',
+    '{"at":"V3 main x","n":1,"ok":false,"rule":"SpecCheck"}',
+    '{"full":120}', '{"at":29,"damaged":"a"}', '{"ok":true,"spec":"order"}', '{"at":"","ok":false,"rule":"SpecText"}',
+]
+WRONG_REPLIES = [
+    "{}", "[]", '{"n":0,"ok":true,"quiet":true,"steps":["start 1.2"]}', '{"n":1,"ok":true,"quiet":true,"steps":[]}',
+    '{"n":1,"ok":true,"quiet":true,"steps":["started 1.2"]}', '{"n":1,"ok":true,"steps":["start 1.2"]}',
+    '{"n":1,"ok":false,"rule":"Stage"}', '{"at":"","n":1,"ok":false,"rule":"Nope"}', '{"at":"","n":1,"ok":true,"rule":"Stage"}',
+    '{"at":"","ok":false,"rule":"Stage"}', '{"at":29,"damaged":"c"}', '{"full":true}',
+]
+
+
+def schema(name: str) -> Validator:
+    return Validator(json.loads((TOOLS / "schemas" / f"{name}.json").read_text()))
+
+
+class SpecificationTest(FolderTest):
+    def test_what_is_accepted_is_valid(self):
+        for name in (*NAMES, "wrong"):
+            self.assertTrue(schema("specification").is_valid(tomllib.loads(example(name, "toml"))), name)
+
+    def test_what_is_invalid_is_not_accepted(self):
+        for name, mistakes in (("order", ORDER_MISTAKES), ("loan", LOAN_MISTAKES)):
+            text = example(name, "toml")
+            for old, new in mistakes:
+                with self.subTest(old=old, new=new):
+                    self.assertIn(old, text)
+                    wrong = text.replace(old, new, 1)
+                    self.assertFalse(schema("specification").is_valid(tomllib.loads(wrong)))
+                    self.assertEqual(server.check(wrong.encode())[0], 1)
+
+
+class LineTest(FolderTest):
+    def test_right_lines(self):
+        lines = [line for name in NAMES for line in example(name, "jsonl").splitlines()] + RIGHT_LINES
+        for line in lines:
+            self.assertTrue(schema("command").is_valid(json.loads(line)), line)
+
+    def test_wrong_lines_are_refused(self):
+        for line in WRONG_LINES:
+            self.assertFalse(schema("command").is_valid(json.loads(line)), line)
+        replies = [json.loads(it) for it in serve(self.folder, "\n".join(WRONG_LINES)).splitlines()]
+        self.assertEqual([it["ok"] for it in replies], [False] * len(WRONG_LINES))
+        self.assertTrue(all(map(schema("reply").is_valid, replies)))
+
+
+class ReplyTest(unittest.TestCase):
+    def test_right_replies(self):
+        for line in [line for name in NAMES for line in example(name, "replies").splitlines()] + RIGHT_REPLIES:
+            self.assertTrue(schema("reply").is_valid(json.loads(line)), line)
+
+    def test_wrong_replies(self):
+        for line in WRONG_REPLIES:
+            self.assertFalse(schema("reply").is_valid(json.loads(line)), line)
+
+    def test_each_rule_of_the_table_is_there(self):
+        known = schema("reply").schema["definitions"]["rule"]["enum"]
+        table = (TOP / "docs/LINES.md").read_text().partition("## Refusals")[2]
+        rows = [row.split("|")[1] for row in table.splitlines() if row.startswith("| ") and "`" not in row.split("|")[1]]
+        told = {rule.strip() for cell in rows for rule in cell.split(",")} - {"line", "rule"}
+        self.assertEqual({rule for rule in told if rule[0].isupper()} - set(known), set())
+        self.assertGreater(len(told), 20)
+
+
+if __name__ == "__main__":
+    unittest.main()
