@@ -1,0 +1,119 @@
+"""Short commands: the words of a line as they are typed, with what is known already left out."""
+
+import json
+import shlex
+from pathlib import Path
+
+from yawl import rules
+from yawl.known import Known
+
+# What a field may be typed as, beside the forms that docs/LINES.md has: a file's name for its text.
+SHOWN = {"TEXT": "FILE", "[NAME,..]": "NAME ..", "{NAME:VALUE,..}": "NAME=VALUE .."}
+
+
+class Unclear(Exception):
+    """What was typed isn't enough for a line; the text says what lacks."""
+
+
+def value_of(word: str):
+    """A value as it is typed: JSON where the word is such, else the word itself as a text."""
+    try:
+        return json.loads(word)
+    except ValueError:
+        return word
+
+
+def usage(word: str) -> str:
+    """How a word is typed: `start [ITEM]`. The person isn't typed."""
+    shown = [word]
+    for name, kind in rules.forms()[word].items():
+        if name != "who":
+            shown.append(f"[{name.upper()}]" if kind == "ID" and word != "cancel" else SHOWN.get(kind, name.upper()))
+    return " ".join(shown)
+
+
+class Typed:
+    """The words behind the first, and what stands for those that are left out."""
+
+    def __init__(self, word: str, rest: list[str], known: Known, person: str):
+        self.word = word
+        self.rest = rest
+        self.known = known
+        self.person = person
+
+    def line(self) -> dict:
+        """The command that was typed. Raises `Unclear`."""
+        line = {"cmd": self.word}
+        for name, kind in rules.forms()[self.word].items():
+            line[name] = self.field(name, kind)
+        if self.rest:
+            raise Unclear(f"`{self.rest[0]}` is too much: {usage(self.word)}")
+        return line
+
+    def field(self, name: str, kind: str):
+        """The value of one field."""
+        if name == "who":
+            return self.person or self.lacks("who does it: type `as NAME` first")
+        if kind == "ID":
+            return self.identity(name)
+        if kind == "[NAME,..]":
+            return self.all()
+        if kind.startswith("{"):
+            return dict(self.pair(word) for word in self.all())
+        typed = self.next(name)
+        return self.text(typed) if kind == "TEXT" else value_of(typed) if kind == "VALUE" else typed
+
+    def identity(self, name: str) -> str:
+        """An identity: the one that was typed, else the last of its kind. What is cancelled has to be typed."""
+        if self.rest and self.rest[0][0].isdigit() and self.rest[0].replace(".", "").isdigit():
+            return self.rest.pop(0)
+        if self.word == "cancel":
+            return self.lacks("which case")
+        if name == "case":
+            net = self.known.nets[-1] if self.known.nets else self.lacks("a case: none is known")
+            return net.partition(".")[0] if self.word == "advance" else net
+        items = list(self.known.working)[::-1] if self.word == "complete" else list(self.known.ready)
+        return items[0] if items else self.lacks("an item: none is known")
+
+    def next(self, name: str) -> str:
+        """The next word."""
+        return self.rest.pop(0) if self.rest else self.lacks(name)
+
+    def all(self) -> list[str]:
+        """All words that are left."""
+        words, self.rest = self.rest, []
+        return words
+
+    def pair(self, word: str) -> tuple:
+        """A name and its value."""
+        name, equals, value = word.partition("=")
+        return (name, value_of(value)) if equals else self.lacks(f"`=` in `{word}`")
+
+    def text(self, path: str) -> str:
+        """What a file says."""
+        try:
+            return Path(path).expanduser().read_text()
+        except (OSError, UnicodeDecodeError) as cause:
+            raise Unclear(f"{path}: {cause}") from None
+
+    def lacks(self, what: str):
+        """Refuses what was typed."""
+        raise Unclear(f"it lacks {what}: {usage(self.word)}")
+
+
+def split(typed: str) -> list[str]:
+    """The words of what was typed, as a shell parts them."""
+    try:
+        return shlex.split(typed, comments=True)
+    except ValueError as cause:
+        raise Unclear(str(cause)) from None
+
+
+def choices(words: list[str], known: Known) -> list[str]:
+    """What the next word may be, behind these words."""
+    if not words:
+        return [*rules.forms(), "as", "items", "help", "quit"]
+    tasks = [task for spec in known.specs.values() for task in spec]
+    among = {"as": known.persons, "person": known.persons, "launch": list(known.specs), "enter": [*known.nets, *tasks],
+             "add": [*known.nets, *tasks], "start": list(known.ready), "complete": list(known.working), "help": list(rules.forms())}
+    return sorted(set(among.get(words[0], known.nets)))
