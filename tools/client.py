@@ -4,18 +4,18 @@
         client.command("person", name="ann", roles=["clerk"])
         case = client.command("launch", spec="order", data={"amount": 200}).made[0]
 
-The client runs the server as its own process. Where that ends before a reply was whole, however it ended, it isn't known whether the line is held.
-The client then counts the entries of the folder's files: it knows how many were held before the line. One more says that the line is held,
-with the steps that stand in it; the reply is made of these. As many as before say that it isn't, and it is sent again.
+The client runs the server as its own process. Where that ends before a reply was whole, however it ended, the reply doesn't tell whether
+the line is held. The client then counts the entries of the folder's files: it knows how many were held before the line. One more says that
+the line is held, and has its steps; the reply is made of these. As many as before say that it isn't, and it is sent again.
 
-The folder is this client's alone from its first command to `close`: another server that runs in between would be found out (`Foreign`). One
-command is sent at a time; threads that share a client need a lock of their own.
+The folder is this client's alone as long as it lives: what another server writes in between is found out where a reply is lost (`Foreign`), and
+not before. One command is sent at a time; threads that share a client need a lock of their own.
 """
 
 from dataclasses import dataclass, field
 from pathlib import Path
 
-from yawl.journal import MOST_EVENTS, Event, Journal, read_entry
+from yawl.journal import MOST_EVENTS, Event, Journal
 from yawl.server import STATUSES, Lost, Server
 
 # The server ends with these for a cause that starting it again doesn't take away.
@@ -134,9 +134,10 @@ class Client:
         last = self.journal.to_end()
         if self.journal.number == self.held:
             return None
-        events = read_entry(last.bytes)
+        events = self.journal.events(last) if last else []
         if self.journal.number != self.held + 1 or events[0].word != cmd:
-            raise Foreign(f"{self.journal.number} entries, and {self.held} were held before a {cmd}; the last is: {events[0].text}")
+            told = f"; the last is: {events[0].text}" if events else ""
+            raise Foreign(f"{self.journal.number} entries, and {self.held} were held before a {cmd}{told}")
         self.held += 1
         return reply_of(events)
 

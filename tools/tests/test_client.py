@@ -1,13 +1,16 @@
 """The client: replies and refusals, lost replies found in the files, and hundreds of kills at random moments."""
 
+import json
 import os
 import random
+import shutil
 import subprocess
 import threading
 import time
 import unittest
 
-from support import EXAMPLES, FolderTest, program_path, serve
+from support import EXAMPLES, TOOLS, FolderTest, program_path, run, serve
+from test_log import EVENTS, number
 from client import Client, Ended, Foreign, NotHeld, Refused
 from yawl.journal import Damaged, Journal
 
@@ -182,6 +185,25 @@ class KillsTest(FolderTest):
         self.assertEqual([it[0].split(" ")[0] for it in held], shop.asked)
         found = sum(it.found for it in shop.replies)
         print(f"{KILLS} kills, {len(held)} lines, {found} of them found in the files")
+
+
+@unittest.skipUnless(shutil.which("node"), "there is no node")
+class NodeTest(FolderTest):
+    def test_each_asked_step_stands_once(self):
+        words = (self.folder, max(1, KILLS // 10), EXAMPLES / "order.toml")
+        status, said = run("node", TOOLS / "tests/kills.js", *words)
+        self.assertEqual(status, 0)
+        replies = json.loads(said)
+        held = steps_held(self.folder)
+        self.assertEqual(held, [it["steps"] for it in replies])
+        self.assertEqual([it[0].split(" ")[0] for it in held], [it["cmd"] for it in replies])
+
+    def test_each_kind_has_its_step(self):
+        entries = [(number(2, 1) + event).hex() for event, _ in EVENTS]
+        script = "const { readSteps } = require(process.argv[1]); const read = (it) => readSteps(Buffer.from(it, 'hex'))[0];"
+        script += "console.log(JSON.stringify(JSON.parse(process.argv[2]).map(read)))"
+        status, said = run("node", "-e", script, TOOLS / "client.js", json.dumps(entries))
+        self.assertEqual((status, json.loads(said)), (0, [step for _, step in EVENTS]))
 
 
 if __name__ == "__main__":

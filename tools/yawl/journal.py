@@ -380,14 +380,17 @@ class Journal:
                 yield entry
                 self.number, self.gate = entry.number, entry.next
 
+    def events(self, entry: Entry) -> list[Event]:
+        """The events of an entry. Raises `Damaged` at its gate where its bytes are none."""
+        try:
+            return read_entry(entry.bytes)
+        except NotAnEntry:
+            raise Damaged(self.file, entry.gate) from None
+
     def entries(self) -> Iterator[tuple[Entry, list[Event]]]:
-        """The same with their events. Raises `Damaged` at the gate of what is no entry."""
+        """The entries from here to the closed gate, with their events. Raises `Damaged` at the first that is none."""
         for entry in self.records():
-            try:
-                events = read_entry(entry.bytes)
-            except NotAnEntry:
-                raise Damaged(self.file, entry.gate) from None
-            yield entry, events
+            yield entry, self.events(entry)
 
     def to_end(self) -> Entry | None:
         """Goes on to the closed gate, and gives the last entry on the way, whose events aren't looked at."""
