@@ -4,9 +4,9 @@ import json
 import tomllib
 import unittest
 
-from support import NAMES, TOOLS, TOP, FolderTest, example, serve
+from support import NAMES, TOOLS, FolderTest, example, serve
 from validator import Validator
-from yawl import server
+from yawl import rules, server
 
 # A change of examples/order.toml, or of examples/loan.toml below: the text, and what stands in its place.
 ORDER_MISTAKES = [
@@ -124,6 +124,16 @@ class SpecificationTest(FolderTest):
 
 
 class LineTest(FolderTest):
+    def test_each_word_has_the_fields_of_the_table(self):
+        told = {word: {"cmd", *fields} for word, fields in rules.forms().items()}
+        known = {}
+        for part in schema("command").schema["definitions"].values():
+            cmd = part.get("properties", {}).get("cmd", {})
+            for word in cmd.get("enum", [cmd.get("const")]) if cmd else []:
+                self.assertEqual(set(part["required"]), part["properties"].keys())
+                known[word] = set(part["required"])
+        self.assertEqual(known, told)
+
     def test_right_lines(self):
         lines = [line for name in NAMES for line in example(name, "jsonl").splitlines()] + RIGHT_LINES
         for line in lines:
@@ -148,11 +158,8 @@ class ReplyTest(unittest.TestCase):
 
     def test_each_rule_of_the_table_is_there(self):
         known = schema("reply").schema["definitions"]["rule"]["enum"]
-        table = (TOP / "docs/LINES.md").read_text().partition("## Refusals")[2]
-        rows = [row.split("|")[1] for row in table.splitlines() if row.startswith("| ") and "`" not in row.split("|")[1]]
-        told = {rule.strip() for cell in rows for rule in cell.split(",")} - {"line", "rule"}
-        self.assertEqual({rule for rule in told if rule[0].isupper()} - set(known), set())
-        self.assertGreater(len(told), 20)
+        self.assertEqual(set(rules.sentences()) - set(known), set())
+        self.assertTrue(all(map(rules.sentence, known)))
 
 
 if __name__ == "__main__":
