@@ -97,27 +97,40 @@ class Client:
         """Sends a command, as `command("start", who="ann", item="1.2")`, and gives what it did.
 
         Raises `Refused` where it breaks a rule, `Ended` where the server ended for a cause that lasts, `NotHeld` where it ended too often,
-        and `Foreign` where another has written in the folder.
+        and `Foreign` where another has written in the folder. Where the call is interrupted, as from the keyboard, `held` is one more than
+        before exactly where the command is held.
         """
         line = {"cmd": cmd, **fields}
         for _ in range(self.tries):
             try:
-                reply = self.running().ask(line, self.timeout)
+                return self.ask(line)
             except Lost as lost:
                 found = self.find(cmd)
                 if lost.status in LASTING:
                     raise Ended(lost, found) from None
                 if found:
                     return found
-            else:
-                return self.accept(reply)
         raise NotHeld(f"{cmd}: the server ended {self.tries} times")
 
-    def running(self) -> Server:
-        """The server, started where none runs."""
-        if self.server is None:
-            self.server = Server(self.folder, self.program, self.words)
-        return self.server
+    def ask(self, line: dict) -> Reply:
+        """What the server replies to a line, once. It is started where none runs."""
+        try:
+            if self.server is None:
+                self.server = Server(self.folder, self.program, self.words)
+            return self.accept(self.server.ask(line, self.timeout))
+        except (Lost, Refused):
+            raise
+        except BaseException:
+            self.abandon()
+            raise
+
+    def abandon(self) -> None:
+        """Ends the server at once, whatever it does, and counts what the files hold."""
+        if self.server:
+            self.server.kill()
+            self.server = None
+        self.journal.to_end()
+        self.held = self.journal.number
 
     def accept(self, reply: dict) -> Reply:
         """What a reply says."""

@@ -4,6 +4,7 @@ import json
 import os
 import random
 import shutil
+import signal
 import subprocess
 import threading
 import time
@@ -21,6 +22,13 @@ ANN = '{"cmd":"person","name":"ann","roles":[]}\n'
 def steps_held(folder) -> list[list[str]]:
     """The steps of each entry."""
     return [[event.text for event in events] for _, events in Journal(folder).entries()]
+
+
+def await_file(path) -> None:
+    """Waits until there is such a file, for half a minute at most."""
+    until = time.monotonic() + 30
+    while not path.exists() and time.monotonic() < until:
+        time.sleep(0.01)
 
 
 class Order:
@@ -117,6 +125,19 @@ class LostTest(FolderTest):
         with self.assertRaises(NotHeld):
             self.client("exec sleep 60", tries=2, timeout=0.1).command("person", name="ann", roles=[])
 
+    def test_an_interrupted_line_is_counted(self):
+        client = self.client('head -n 1 | PROGRAM "$1" run >/dev/null; touch "$1/done"; exec sleep 60')
+        main, done = threading.get_ident(), self.shop() / "done"
+        for name in ("ann", "bob"):
+            done.unlink(missing_ok=True)
+            interrupt = threading.Thread(target=lambda: (await_file(done), signal.pthread_kill(main, signal.SIGINT)))
+            interrupt.start()
+            with self.assertRaises(KeyboardInterrupt):
+                client.command("person", name=name, roles=[])
+            interrupt.join()
+        self.assertEqual(client.held, 2)
+        self.assertEqual(steps_held(self.shop()), [["person ann"], ["person bob"]])
+
     def test_what_another_wrote_is_told(self):
         client = self.client('head -n 1 | PROGRAM "$1" run >/dev/null; kill -9 $$')
         serve(self.shop(), ANN)
@@ -148,22 +169,35 @@ class LostTest(FolderTest):
 
 
 class Killer(threading.Thread):
-    """Kills a client's server so many times, at random moments."""
+    """Kills a client's server so many times, at random moments: every second time within a life, and else behind a write to the file."""
 
-    def __init__(self, client: Client, kills: int, most: float):
+    def __init__(self, client: Client, kills: int, life: float, line: float):
+        """`life` is how long a server lives at most, and `line` how long one line takes, in seconds."""
         super().__init__()
         self.client = client
         self.left = kills
-        self.most = most
+        self.life = life
+        self.line = line
+        self.chance = random.Random(2005)
 
     def run(self) -> None:
-        chance = random.Random(2005)
         while self.left:
-            time.sleep(chance.uniform(0, self.most))
+            if self.left % 2:
+                time.sleep(self.chance.uniform(0, self.life))
+            else:
+                self.await_write()
+                time.sleep(self.chance.uniform(0, self.line))
             server = self.client.server
             if server and server.process.poll() is None:
                 server.process.kill()
                 self.left -= 1
+
+    def await_write(self) -> None:
+        """Waits until the file has another length, or for a life."""
+        file = self.client.folder / "yawl.a"
+        size, until = file.stat().st_size, time.monotonic() + self.life
+        while file.stat().st_size == size and time.monotonic() < until:
+            time.sleep(0.0001)
 
 
 class KillsTest(FolderTest):
@@ -172,8 +206,10 @@ class KillsTest(FolderTest):
         shop = Order(client)
         began = time.monotonic()
         shop.open()
-        # A server lives as long as a start and some commands take, so that kills meet all of its work.
-        killer = Killer(client, KILLS, 3 * (time.monotonic() - began))
+        opened = time.monotonic()
+        shop.handle()
+        line = (time.monotonic() - opened) / 13
+        killer = Killer(client, KILLS, 2 * (opened - began) + 3 * line, line)
         killer.start()
         while killer.is_alive():
             shop.handle()

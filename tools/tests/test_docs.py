@@ -33,7 +33,8 @@ LEFT_OUT = {
     "<process.toml": "the file is the reader's",
 }
 # Blocks in these languages are no commands.
-LANGUAGES_LEFT_OUT = {"toml": "parts of a file", "ini": "a file of the machine", "json": "parts of a line"}
+LANGUAGES_LEFT_OUT = {"toml": "parts of a file", "json": "parts of a line", "js": "parts of a program", "ini": "a file of the machine",
+                      "conf": "a file of the machine", "text": "a picture"}
 
 
 @dataclass(frozen=True)

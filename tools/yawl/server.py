@@ -54,7 +54,7 @@ class Server:
 
     def ask(self, command: dict, timeout: float | None = None) -> dict:
         """Hands the server one command and gives its reply, accepted or refused. Raises `Lost`; where no whole reply came within the
-        timeout, in seconds, the server is killed."""
+        timeout, in seconds, or that of another line, the server is killed."""
         self.asked += 1
         self.write(line_of(command))
         try:
@@ -66,8 +66,7 @@ class Server:
         if "n" not in reply:
             raise Lost(self.end(), reply)
         if reply["n"] != self.asked:
-            self.kill()
-            raise ValueError(f"the reply to line {self.asked} has the number {reply['n']}")
+            raise Lost(self.kill(), reply)
         return reply
 
     def write(self, line: bytes) -> None:
