@@ -121,6 +121,11 @@ class ExamplesTest(FolderTest):
             self.assertEqual([it["steps"] for it in told], steps)
             self.assertEqual([it["entry"] for it in told], list(range(1, len(steps) + 1)))
 
+    def test_each_loads_its_file(self):
+        for name_of in NAMES:
+            loads = [line for line in map(json.loads, example(name_of, "jsonl").splitlines()) if line["cmd"] == "load"]
+            self.assertEqual([it["toml"] for it in loads], [example(name_of, "toml")])
+
     def test_removal_sets_matter(self):
         for name_of in ("claims", "mortgage", "insurance"):
             folder = self.folder / name_of
