@@ -234,6 +234,12 @@ class NodeTest(FolderTest):
         self.assertEqual(held, [it["steps"] for it in replies])
         self.assertEqual([it[0].split(" ")[0] for it in held], [it["cmd"] for it in replies])
 
+    def test_a_cause_that_lasts(self):
+        script = "const { Client } = require(process.argv[1]); const client = new Client(process.argv[2], { words: ['--limit', '64'] });"
+        script += "const person = (roles) => client.command('person', { name: 'ann', roles }); person([]).then(() => person(['clerk', 'packer']))"
+        script += ".catch(({ status, said, reply }) => console.log(JSON.stringify([status, said, reply])))"
+        self.assertEqual(run("node", "-e", script, TOOLS / "client.js", self.folder), (0, '[8,{"full":69},null]\n'))
+
     def test_each_kind_has_its_step(self):
         entries = [(number(2, 1) + event).hex() for event, _ in EVENTS]
         script = "const { readSteps } = require(process.argv[1]); const read = (it) => readSteps(Buffer.from(it, 'hex'))[0];"
