@@ -117,11 +117,16 @@ def box_of(drawing: svg._Drawing, name: str) -> tuple[float, float, float, float
 
 
 def meets(part: tuple, box: tuple) -> bool:
-    """Whether a straight part runs through the inside of a box: it is walked in steps of a pixel or less."""
-    (ax, ay), (bx, by) = part
-    count = int(max(abs(ax - bx), abs(ay - by))) + 1
-    points = ((ax + (bx - ax) * k / count, ay + (by - ay) * k / count) for k in range(count + 1))
-    return any(box[0] + 1 < x < box[2] - 1 and box[1] + 1 < y < box[3] - 1 for x, y in points)
+    """Whether a straight part runs through the inside of a box: it is cut at each of the four sides in turn."""
+    begin, end = 0.0, 1.0
+    for (a, b), (low, high) in zip(zip(*part), ((box[0] + 1, box[2] - 1), (box[1] + 1, box[3] - 1))):
+        if a == b:
+            if not low < a < high:
+                return False
+        else:
+            cuts = sorted(((low - a) / (b - a), (high - a) / (b - a)))
+            begin, end = max(begin, cuts[0]), min(end, cuts[1])
+    return begin < end
 
 
 def overlap(one: tuple, other: tuple) -> bool:

@@ -162,11 +162,6 @@ def nested(spec: Spec) -> Found:
             what = f"no task has net `{net.name}` as its work" if not users else f"net `{net.name}` isn't reached from the top `{spec.top}`"
             do = f'write `kind = "sub"` and `net = "{net.name}"` at a task, or take the net out'
             yield net.name, net.name, Finding(net.node.get("name").span, what, do)
-        elif net.name != spec.top and len(users) > 1:
-            spans = [it.node.get("net").span for it in users]
-            also = tuple((it, "it is named here") for it in spans[:1])
-            what = f"net `{net.name}` is the work of two tasks"
-            yield net.name, net.name, Finding(spans[1], what, "write it again under another name", also)
 
 
 def _sub(spec: Spec, net: Net, task: Task, edges: list[tuple[str, str]]) -> Finding | None:

@@ -37,7 +37,8 @@ def _cluster(view: View, prefix: str) -> Iterator[str]:
     for task in net.tasks:
         for name in task.removes:
             target = name.partition("->")[2] or name
-            yield f"{_q(prefix + task.name)} -> {_q(prefix + target)} [style=dashed color=red constraint=false label={_q('removes ' + name)}];"
+            look = f"style=dashed color=red constraint=false label={_q('removes ' + name)}"
+            yield f"{_q(prefix + task.name)} -> {_q(prefix + target)} [{look}];"
 
 
 def _task(view: View, task: Task) -> str:

@@ -241,7 +241,9 @@ def _ports(
     return ports
 
 
-def _ends(flow: Flow, centres: Mapping[str, Point], sizes: Mapping[str, Size], ports: Mapping[tuple[Flow, bool], float]) -> tuple[Point, Point]:
+def _ends(
+    flow: Flow, centres: Mapping[str, Point], sizes: Mapping[str, Size], ports: Mapping[tuple[Flow, bool], float]
+) -> tuple[Point, Point]:
     """Where a flow begins and ends, at the right side of a node and the left side of another."""
     (ux, uy), (vx, vy) = (centres[it] for it in flow)
     return (ux + sizes[flow[0]].shape / 2, uy + ports[flow, True]), (vx - sizes[flow[1]].shape / 2, vy + ports[flow, False])

@@ -55,7 +55,7 @@ class _Drawing:
         self.view = view
         self.net = view.net
         flows = [(it.source, it.target) for it in self.net.flows]
-        self.labels = {flow: _short(text) for flow, text in branch_labels(self.net).items()}
+        self.labels = {flow: _short(text) for flow, text in branch_labels(self.net).items() if flow in flows}
         sizes = {it: self.size(it) for it in self.net.nodes()}
         self.sizes = sizes
         self.layout: Layout = lay_out(sizes, flows, {flow: len(text) * SMALL + 6 for flow, text in self.labels.items()})
@@ -96,6 +96,8 @@ class _Drawing:
         for task in self.net.tasks:
             for name in task.removes:
                 yield from self.removal(task, name)
+        for flow in self.labels:
+            yield from self.label(flow)
         for name in self.net.nodes():
             task = self.net.task(name)
             yield from self.task(task) if task else self.condition(name)
@@ -109,18 +111,16 @@ class _Drawing:
         x, y = line[-1]
         yield f'<g class="flow" data-from="{escape(flow[0])}" data-to="{escape(flow[1])}"><polyline class="l" points="{points}"/>'
         yield f'<path class="m" d="M{_n(x)} {_n(y)}l-8 -3.5v7z"/></g>'
-        if flow in self.labels:
-            left, height = self.label_at(line)
-            # Of several flows that end at one node the lowest has its label below it.
-            beside = [it[-1][1] for other, it in self.layout.lines.items() if other[1] == flow[1]]
-            height += 10 if len(beside) > 1 and y == max(beside) else -4
-            yield f'<text class="s h" x="{_n(left)}" y="{_n(height)}">{escape(self.labels[flow])}</text>'
 
-    @staticmethod
-    def label_at(line: Sequence[Point]) -> Point:
-        """Where a flow's label begins: behind its first slant, where it is level again."""
+    def label(self, flow: Flow) -> Iterator[str]:
+        """The label of a flow: behind its first slant, where it is level again. Of several that end at one node the lowest has its label
+        below it."""
+        line = self.layout.lines[flow]
         slants = (end for start, end in zip(line, line[1:]) if start[0] != end[0] and start[1] != end[1])
-        return next(slants, (line[0][0] + 6, line[0][1]))
+        x, y = next(slants, (line[0][0] + 6, line[0][1]))
+        beside = [it[-1][1] for other, it in self.layout.lines.items() if other[1] == flow[1]]
+        y += 10 if len(beside) > 1 and line[-1][1] == max(beside) else -4
+        yield f'<text class="s h" x="{_n(x)}" y="{_n(y)}">{escape(self.labels[flow])}</text>'
 
     def middle(self, place: str) -> Point:
         """Where an implicit condition is drawn: on its flow's first slant, or in the middle of its longest part."""
