@@ -117,3 +117,18 @@ MISTAKES = [
     Mistake('{ var = "amount", value', '{ var = "asked", value', "SpecCheck V11 main apply", 26, '"asked"'),
     Mistake('outs = [{ name = "yes", sort = "int" }]', 'outs = [{ name = "no", sort = "int" }]', "SpecCheck V11 main review", 38, '"no"'),
 ]
+
+# Those of docs/MISTAKES.md, in its order: what becomes what. The last is accepted.
+COMMON = [
+    ("[[net]]\n", "[net]\n"),
+    ('top = "main"\n\n[[net]]\n', '[[net]]\ntop = "main"\n'),
+    ('role = "teller"', 'role = "head teller"'),
+    ('["open", "withdraw"]', '["open", "withdrawal"]'),
+    (', ["withdraw", "o"]', ""),
+    ("yes = 2", "yes == 2"),
+    ("yes = 2", "asked = 2"),
+    ('"sum(v)"', '"v"'),
+    ('{ to = "refuse" }', '{ to = "refuse", when = "yes < 2" }'),
+    ('["pay", "o"], ["refuse", "o"], ["withdraw", "o"],\n]\n',
+     '["pay", "file"], ["refuse", "file"], ["file", "o"], ["withdraw", "o"],\n]\n\n[[net.task]]\nname = "file"\nkind = "empty"\n'),
+]

@@ -8,11 +8,13 @@ import tempfile
 import unittest
 from pathlib import Path
 
-from mistakes import MISTAKES
+from mistakes import COMMON, MISTAKES
 from support import TOOLS, TOP, serve
 from support import run as run_words
 from yawl import check, rules, toml
 from yawl.document import Source
+from yawl.lint import Lint
+from yawl.nets import spec_of
 
 DATA = Path(__file__).resolve().parent / "data"
 DESK = (DATA / "desk.toml").read_text()
@@ -46,6 +48,17 @@ class FileTests(unittest.TestCase):
                 if mistake.marks:
                     self.assertEqual(source.text[finding.span.start : finding.span.end], mistake.marks)
                 self.assertTrue(finding.what and finding.do)
+
+    def test_the_page_of_mistakes_says_what_the_tools_say(self) -> None:
+        page = (TOP / "docs" / "MISTAKES.md").read_text()
+        blocks = re.findall(r"```text\n(.*?)\n```", page, re.DOTALL)
+        texts = [DESK.replace(old, new, 1) for old, new in COMMON]
+        said = []
+        for text, reply in zip(texts, replies([json.dumps({"cmd": "load", "toml": it}) for it in texts])):
+            source = Source("desk.toml", text)
+            accepted = Lint(spec_of(toml.read(text))).warnings if reply["ok"] else [check.explain(source, reply["rule"], reply["at"])]
+            said.append("\n".join(it.shown(source) for it in accepted))
+        self.assertEqual(blocks, said)
 
     def test_the_desk_and_the_examples_are_accepted(self) -> None:
         for path in (DATA / "desk.toml", *sorted((TOP / "examples").glob("*.toml"))):

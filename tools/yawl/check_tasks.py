@@ -186,7 +186,7 @@ def _elsewhere(spec: Spec, net: Net, task: Task, it: Expression, name: str) -> s
     makers = [other.name for other in net.tasks if name in [out.name for out in other.outs]]
     if makers:
         return f"it is an out of task `{makers[0]}`: keep it there by `set` in a variable of the net, and name the variable"
-    return did_you_mean(name, it.scope) + f", and `'{name}'` in quotes is a text"
+    return f"name one that is known ({did_you_mean(name, it.scope)}), or write a text in quotes, `'{name}'`"
 
 
 def parameters(spec: Spec) -> Found:

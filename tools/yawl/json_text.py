@@ -3,6 +3,7 @@
 from __future__ import annotations
 
 import re
+from math import isinf
 
 from .document import Node, Span, TextFault
 
@@ -68,6 +69,8 @@ class _Reader:
         if word in ("true", "false", "null"):
             return Node({"true": True, "false": False, "null": None}[word], span)
         number = _NUMBER.fullmatch(word)
+        if number and isinf(float(word)):
+            raise TextFault(span, "the number is too large", "write one of at most 64 bits")
         if number:
             return Node(int(word) if number.group(2) is None and number.group(3) is None else float(word), span)
         do = {"'": "a text stands in double quotes"}.get(word[0], f'write a text in double quotes, `"{word}"`')

@@ -42,4 +42,4 @@ def did_you_mean(name: str, known: Iterable[str]) -> str:
     if near:
         return f"did you mean `{near[0]}`?"
     listed = ", ".join(f"`{it}`" for it in known[:12]) + (", .." if len(known) > 12 else "")
-    return f"there are {listed}" if known else "there is none"
+    return f"there {'is' if len(known) == 1 else 'are'} {listed}" if known else "there is none"

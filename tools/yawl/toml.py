@@ -12,8 +12,8 @@ from .document import Moment, Node, Span, TextFault
 
 _BARE = re.compile(r"[A-Za-z0-9_-]+")
 _PLAIN = re.compile(r"\d{4}-\d\d-\d\d [0-9:.Z+-]+|[^\s,\]}#=\[{\"']+")
-# A line that is a header: it stands in no list, so a list that goes on before it lacks its end.
-_HEADER = re.compile(r"(?<=\n)\[\[?[A-Za-z_][\w.-]*\]\]?[ \t]*(#.*)?\r?(\n|\Z)")
+# A line that is a header, or a key with its `=`: it is no element of a list, so a list that goes on before it lacks its end.
+_NO_ELEMENT = re.compile(r"(?<=\n)\[\[?[A-Za-z_][\w.-]*\]\]?[ \t]*(#.*)?\r?(\n|\Z)|[A-Za-z_][\w.-]*[ \t]*=")
 _INTEGER = re.compile(r"[+-]?(0|[1-9](_?\d)*)|0x[0-9A-Fa-f](_?[0-9A-Fa-f])*|0o[0-7](_?[0-7])*|0b[01](_?[01])*")
 _FLOAT = re.compile(r"[+-]?((0|[1-9](_?\d)*)(\.\d(_?\d)*([eE][+-]?\d(_?\d)*)?|[eE][+-]?\d(_?\d)*)|inf|nan)")
 _MOMENT = re.compile(r"\d{4}-\d\d-\d\d([Tt ]\d\d:\d\d(:\d\d(\.\d+)?)?([Zz]|[+-]\d\d:\d\d)?)?|\d\d:\d\d(:\d\d(\.\d+)?)?")
@@ -237,7 +237,7 @@ class _Reader:
         elements: list[Node] = []
         self.space()
         while not self.takes("]"):
-            if not self.peek() or self.peek() in "=}" or _HEADER.match(self.text, self.at):
+            if not self.peek() or self.peek() in "=}" or _NO_ELEMENT.match(self.text, self.at):
                 raise self.unclosed(start, "]", elements)
             elements.append(self.value())
             end = self.at
