@@ -52,7 +52,7 @@ def loads(text: str) -> str:
     return json.dumps({"cmd": "load", "toml": text}) + "\n"
 
 
-class PictureTests(unittest.TestCase):
+class PictureTests(FolderTest):
     def test_the_flows_drawn_are_those_of_the_file(self) -> None:
         for text in [ROUND, *(it.read_text() for it in FILES)]:
             root = ElementTree.fromstring(svg.picture(views(text)))
@@ -102,8 +102,13 @@ class PictureTests(unittest.TestCase):
 
     def test_the_tool_says_why_it_draws_nothing(self) -> None:
         status, said = run(DRAW, EXAMPLES / "order.toml", "--text")
-        self.assertEqual((status, said.splitlines()[:3]), (0, ["order: main", "  input (i)", "      -> receive"][:3]))
+        self.assertEqual((status, said.splitlines()[:3]), (0, ["order: main", "  input (i)", "      -> receive"]))
         self.assertEqual(run(DRAW, EXAMPLES / "order.jsonl")[0], 1)
+        # A condition that no flow names is drawn; a flow to no node isn't.
+        self.assertEqual(run(DRAW, EXAMPLES / "wrong.toml")[0], 0)
+        wrong = self.folder / "wrong.toml"
+        wrong.write_text((EXAMPLES / "order.toml").read_text().replace('["ship", "o"]', '["ship", "out"]'))
+        self.assertEqual(run(DRAW, wrong), (1, ""))
         self.assertEqual(run(DRAW)[0], 2)
         self.assertEqual(run(DRAW, "--folder", "/nowhere", "--case", "1")[0], 3)
 
