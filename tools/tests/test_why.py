@@ -31,6 +31,12 @@ def replies(lines: list[str]) -> list[dict]:
         return [json.loads(it) for it in serve(Path(folder), "".join(f"{it}\n" for it in lines)).splitlines()]
 
 
+def chain_of(number: int, last: int) -> str:
+    """A net of nine lines, whose task has the next net as its work; or the last net, of eight lines, whose task is a person's."""
+    head = f'[[net]]\nname = "n{number}"\ninput = "i"\noutput = "o"\nflows = [["i", "t"], ["t", "o"]]\n[[net.task]]\nname = "t"\n'
+    return head + (f'kind = "sub"\nnet = "n{number + 1}"\n' if number < last else 'role = "clerk"\n')
+
+
 class FileTests(unittest.TestCase):
     def test_each_mistake_is_marked_in_its_line(self) -> None:
         self.assertGreaterEqual(len(MISTAKES), 60)
@@ -48,6 +54,37 @@ class FileTests(unittest.TestCase):
                 if mistake.marks:
                     self.assertEqual(source.text[finding.span.start : finding.span.end], mistake.marks)
                 self.assertTrue(finding.what and finding.do)
+
+    def test_what_is_too_much_is_marked(self) -> None:
+        nine = 'name = "n"\ntop = "n1"\n' + "".join(chain_of(number, 9) for number in range(1, 10))
+        many = 'name = "n"\ntop = "n1"\n' + chain_of(1, 1) + "".join(chain_of(number, number) for number in range(2, 66))
+        outs = "".join(f'{{ name = "a{number}", sort = "int" }}, ' for number in range(32))
+        wide = DESK.replace('outs = [{ name = "asked"', f'outs = [{outs}{{ name = "asked"')
+        cases = [
+            # The text, the verdict, the line and the mark.
+            (nine, "SpecCheck V7 n9 n9", 2 + 8 * 9 + 2, '"n9"'),
+            (many, "SpecCheck V6 n2 n2", 2 + 8 + 2, '"n2"'),
+            (wide, "SpecCheck V12 main apply", 25, "outs"),
+        ]
+        for (text, says, line, marks), reply in zip(cases, replies([json.dumps({"cmd": "load", "toml": it[0]}) for it in cases])):
+            with self.subTest(says):
+                self.assertEqual(f"{reply['rule']} {reply['at']}", says)
+                source = Source("n.toml", text)
+                finding = check.explain(source, reply["rule"], reply["at"])
+                self.assertEqual(source.place(finding.span.start)[0], line)
+                self.assertEqual(text[finding.span.start : finding.span.end], marks)
+
+    def test_nets_that_lead_round_are_marked(self) -> None:
+        text = 'name = "n"\ntop = "n1"\n' + chain_of(1, 9) + chain_of(2, 9) + chain_of(3, 9).replace('"n4"', '"n2"')
+        source = Source("n.toml", text)
+        finding = check.explain(source, "SpecCheck", "V6 n2 t")
+        # The second net begins in line 12, and the last of its nine lines names the third, which names the second.
+        self.assertEqual(source.place(finding.span.start)[0], 20)
+        self.assertEqual(finding.what, "V6: net `n3` leads back to net `n2`, in which the task stands")
+
+    def test_a_text_that_is_too_long(self) -> None:
+        status, said = run("-", given=DESK + "#" * 1_048_576)
+        self.assertEqual((status, said.splitlines()[0].split(": ")[1][:30]), (1, "the text has more than 1,048,5"))
 
     def test_the_page_of_mistakes_says_what_the_tools_say(self) -> None:
         page = (TOP / "docs" / "MISTAKES.md").read_text()
