@@ -54,9 +54,9 @@ def bare(path, count):
     for k in range(count):
         bytes_of = entry(k)[1:] + b"\x00"
         os.pwrite(file, bytes_of, at + 1)
-        os.fdatasync(file)
+        os.fsync(file)
         os.pwrite(file, b"\x01", at)
-        os.fdatasync(file)
+        os.fsync(file)
         at += len(bytes_of)
     os.close(file)
     return time.monotonic() - start
