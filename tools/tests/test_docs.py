@@ -3,8 +3,8 @@
 The commands of a document are run in their order, in one folder that has the examples, the tools and `./yw`. Blocks are found by their fences:
 
 - `sh` with lines that begin with `$ `: commands, each with its whole output behind it;
-- `sh` otherwise: commands that end well; what stands behind `  # ` is the output of a line;
-- `python`: a program that ends well, with the same sign;
+- `sh` otherwise: commands that end well; what a single one says stands behind `  # `;
+- `python`: a program that ends well, and says what stands behind each `  # `;
 - lines of JSON: they stand in what was said so far.
 
 In an output `..` at the end of a line stands for the rest of it. What isn't run is named in LEFT_OUT.
@@ -116,6 +116,7 @@ class Room:
         return ran.returncode, ran.stdout
 
     def shell(self, command: str) -> tuple[int, str]:
+        """The same of a command line."""
         return self.run(["bash", "-c", command.replace("PLACE", str(self.place))])
 
     def session(self, text: str) -> None:
@@ -127,14 +128,15 @@ class Room:
                 for shown, line in zip(wanted.splitlines(), said.splitlines()):
                     self.test.assertTrue(is_shown(shown, line), f"shown: {shown}\nsaid:  {line}")
 
-    def program(self, text: str, words: list[str]) -> None:
-        """A program that ends well and says what stands behind its `  # `."""
+    def program(self, text: str, language: str) -> None:
+        """A program that ends well, and says what stands behind `  # `."""
         kept = [line for line in text.splitlines() if not is_left_out(line)]
         wanted = [found[1].split() for line in kept if (found := re.search(r"\S  +# (.*)$", line))]
+        words = {"sh": ["bash", "-c"], "python": ["python3", "-c"]}[language]
         status, said = self.run([*words, "\n".join(kept).replace("PLACE", str(self.place))])
         with self.test.subTest(program=text):
             self.test.assertEqual(status, 0)
-            if wanted:
+            if language == "python" or len(kept) == 1 and wanted and said:
                 self.test.assertEqual([line.split() for line in said.splitlines()], wanted)
 
     def output(self, text: str) -> None:
@@ -152,7 +154,7 @@ class Room:
         elif block.language == "sh" and block.text.startswith("$ "):
             self.session(block.text)
         elif block.language in ("sh", "python"):
-            self.program(block.text, ["bash", "-c"] if block.language == "sh" else ["python3", "-c"])
+            self.program(block.text, block.language)
         else:
             self.test.fail(f"it is neither run nor named in LEFT_OUT:\n{block.text}")
 
