@@ -1,9 +1,9 @@
 """Nets as SVG, in YAWL's signs.
 
 A condition is a circle; the input has a triangle in it, the output a square. A task is a box, a composite one with a double border, one of
-several items with a second box behind it. A strip at its left is its join, at its right its split: a triangle that narrows towards the
-task is an AND-join, one that widens towards it an XOR-join; at a split it is the other way round; a rhombus is an OR. What a task removes
-has a dashed border, and a dashed line leads there. Tokens are dots; a flow from task to task shows its condition where that has tokens.
+several items with a second box behind it, an empty one with its name aslant. A strip at its left is its join, at its right its split: a
+triangle with its point at the task is AND, with its point away from it XOR, and a rhombus is OR. What a task removes has a dashed border,
+and a dashed line leads there. Tokens are dots; a flow from task to task shows its condition where that has tokens.
 """
 
 from __future__ import annotations
@@ -28,7 +28,7 @@ LONGEST_LABEL = 34
 INK, GREY, BUSY, ALARM = "#1f2933", "#616e7c", "#fff1c2", "#b42318"
 STYLE = (
     f"text{{font-family:Helvetica,Arial,sans-serif;font-size:12px;fill:{INK}}}"
-    f".s{{font-size:10px;fill:{GREY}}}.t{{font-size:13px;font-weight:bold}}.n{{text-anchor:middle}}.e{{text-anchor:end}}"
+    f".s{{font-size:10px;fill:{GREY}}}.t{{font-size:13px;font-weight:bold}}.n{{text-anchor:middle}}"
     f".b{{fill:#fff;stroke:{INK};stroke-width:1.4}}.w{{fill:{BUSY}}}.m{{fill:{INK}}}.l{{fill:none;stroke:{INK};stroke-width:1.2}}"
     f".r{{fill:none;stroke:{ALARM};stroke-width:1.2;stroke-dasharray:4 3}}.h{{paint-order:stroke;stroke:#fff;stroke-width:2px}}"
 )
