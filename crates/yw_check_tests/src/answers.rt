@@ -3,16 +3,13 @@ use std::alloc::{AllocError, Global};
 use yw_accept::Broken;
 use yw_check::{CheckFault, check};
 use yw_check_graph::{children_fit, levels_fit, or_joins_fit, paths_fit};
-use yw_check_names::{flows_fit, names_fit, removals_fit};
+use yw_check_names::{flows_fit, names_fit};
 use yw_check_tasks::{items_fit, sizes_fit, splits_fit};
 use yw_read::{RawSpec, ReadFault, read_spec};
 
 /// A check, with those that it comes after.
 #[derive(Clone, Copy)]
 pub(super) enum Check {
-    Names,
-    Flows,
-    Removals,
     Paths,
     OrJoins,
     Nets,
@@ -51,13 +48,6 @@ output = "o"
     Ok(text)
 }
 
-fn flows_after_names(alloc: Global, raw: &RawSpec) -> Result<Option<Broken>, AllocError> {
-    if let Some(broken) = names_fit(alloc, raw)? {
-        return Ok(Some(broken));
-    }
-    flows_fit(alloc, raw)
-}
-
 fn paths_after_flows(alloc: Global, raw: &RawSpec) -> Result<Option<Broken>, AllocError> {
     if let Some(broken) = names_fit(alloc, raw)? {
         return Ok(Some(broken));
@@ -90,9 +80,6 @@ fn nets_after_names(alloc: Global, raw: &RawSpec) -> Result<Option<Broken>, Allo
 
 fn found(alloc: Global, by: Check, raw: &RawSpec) -> Result<Option<Broken>, AllocError> {
     match by {
-        Check::Names => names_fit(alloc, raw),
-        Check::Flows => flows_after_names(alloc, raw),
-        Check::Removals => removals_fit(alloc, raw),
         Check::Paths => paths_after_flows(alloc, raw),
         Check::OrJoins => joins_after_flows(alloc, raw),
         Check::Nets => nets_after_names(alloc, raw),

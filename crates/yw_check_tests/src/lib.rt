@@ -11,10 +11,6 @@ mod built;
 #[cfg(test)]
 mod graph;
 #[cfg(test)]
-mod names;
-#[cfg(test)]
-mod sorts;
-#[cfg(test)]
 mod spec;
 #[cfg(test)]
 mod tasks;

@@ -1,79 +1,10 @@
 // Tasks of several items, splits, and sizes.
-use super::answers::{Check, finds, finds_in, joined};
+use super::answers::{Check, finds, joined};
 use std::alloc::{AllocError, Global};
 use std::test::Fail;
 use yw_read::ReadFault;
 
 // ---- several items
-
-/// A specification with one task `a`, with these keys beside its name.
-const TASK: (&str, &str) = (
-    r#"vars = [{name="xs",sort="ints"}]
-flows = [["i","a"],["a","o"]]
-[[net.task]]
-name = "a"
-"#,
-    r#"
-"#,
-);
-
-const ITEMS: [&str; 11] = [
-    "",
-    "kind = \"empty\"",
-    "ins = [{name=\"x\",sort=\"int\",value=\"1\"}]",
-    "each = \"xs\"\nitem = \"x\"\nins = [{name=\"x\",sort=\"int\"}]",
-    "each = \"xs\"\nitem = \"x\"\nins = [{name=\"y\",sort=\"int\"},{name=\"x\",sort=\"int\"}]",
-    "each = \"xs\"\nitem = \"x\"\nkind = \"sub\"\nnet = \"main\"\nins = [{name=\"x\",sort=\"int\"}]",
-    "each = \"xs\"\nitem = \"x\"\nmin = 1\nmax = 1\nthreshold = 1\nins = [{name=\"x\",sort=\"int\"}]",
-    "each = \"xs\"\nitem = \"x\"\nmin = 1000\nmax = 1000\nins = [{name=\"x\",sort=\"int\"}]",
-    "each = \"xs\"\nitem = \"x\"\nmin = 1000\nins = [{name=\"x\",sort=\"int\"}]",
-    "each = \"xs\"\nitem = \"x\"\nmax = 2\nthreshold = 1000\nins = [{name=\"x\",sort=\"int\"}]",
-    "each = \"xs\"\nitem = \"x\"\ndynamic = true\nins = [{name=\"x\",sort=\"int\"}]",
-];
-
-#[test]
-fn items_that_fit(rt: HostRuntime) -> Result<(), Fail> {
-    for keys in &ITEMS {
-        assert!(rt;
-            finds_in(rt.alloc(), Check::Items, TASK, keys, "-")?,
-            "of {keys}"
-        );
-    }
-    Ok(())
-}
-
-const NO_ITEMS: [&str; 19] = [
-    "each = \"xs\"\nitem = \"x\"\nkind = \"empty\"\nins = [{name=\"x\",sort=\"int\"}]",
-    "each = \"xs\"",
-    "each = \"xs\"\nins = [{name=\"x\",sort=\"int\"}]",
-    "each = \"xs\"\nitem = \"x\"",
-    "each = \"xs\"\nitem = \"x\"\nins = [{name=\"xx\",sort=\"int\"}]",
-    "each = \"xs\"\nitem = \"x\"\nouts = [{name=\"x\",sort=\"int\"}]",
-    "each = \"xs\"\nitem = \"x\"\nmin = 0\nins = [{name=\"x\",sort=\"int\"}]",
-    "each = \"xs\"\nitem = \"x\"\nmin = -1\nins = [{name=\"x\",sort=\"int\"}]",
-    "each = \"xs\"\nitem = \"x\"\nmin = 3\nmax = 2\nins = [{name=\"x\",sort=\"int\"}]",
-    "each = \"xs\"\nitem = \"x\"\nmin = 1001\nins = [{name=\"x\",sort=\"int\"}]",
-    "each = \"xs\"\nitem = \"x\"\nmax = 0\nins = [{name=\"x\",sort=\"int\"}]",
-    "each = \"xs\"\nitem = \"x\"\nmax = 1001\nins = [{name=\"x\",sort=\"int\"}]",
-    "each = \"xs\"\nitem = \"x\"\nthreshold = 0\nins = [{name=\"x\",sort=\"int\"}]",
-    "each = \"xs\"\nitem = \"x\"\nthreshold = 1001\nins = [{name=\"x\",sort=\"int\"}]",
-    "item = \"x\"\nins = [{name=\"x\",sort=\"int\"}]",
-    "min = 1",
-    "max = 1000",
-    "threshold = 1000",
-    "dynamic = false",
-];
-
-#[test]
-fn items_that_dont_fit(rt: HostRuntime) -> Result<(), Fail> {
-    for keys in &NO_ITEMS {
-        assert!(rt;
-            finds_in(rt.alloc(), Check::Items, TASK, keys, "V5 main a")?,
-            "of {keys}"
-        );
-    }
-    Ok(())
-}
 
 /// A document written short: what NET and TASK stand for, and rows with these words and what is found.
 fn finds_in_short(
@@ -122,75 +53,6 @@ fn first_task_whose_items_dont_fit(rt: HostRuntime) -> Result<(), Fail> {
 }
 
 // ---- branches of a split
-
-/// A specification whose task `a` leads to `b` and to `c`, with these keys beside its name.
-const SPLIT: (&str, &str) = (
-    r#"conditions = ["c"]
-flows = [["i","a"],["a","b"],["b","o"],["a","c"],["c","d"],["d","o"]]
-[[net.task]]
-name = "d"
-[[net.task]]
-name = "a"
-"#,
-    r#"
-[[net.task]]
-name = "b"
-"#,
-);
-
-const SPLITS: [&str; 6] = [
-    "",
-    "split = \"and\"",
-    "split = \"and\"\nbranch = []",
-    "split = \"xor\"\nbranch = [{to=\"b\",when=\"true\"},{to=\"c\"}]",
-    "split = \"xor\"\nbranch = [{to=\"c\"},{to=\"b\",when=\"true\"}]",
-    "split = \"or\"\nbranch = [{to=\"b\"},{to=\"c\",when=\"false\"}]",
-];
-
-#[test]
-fn splits_that_fit(rt: HostRuntime) -> Result<(), Fail> {
-    for keys in &SPLITS {
-        assert!(rt;
-            finds_in(rt.alloc(), Check::Splits, SPLIT, keys, "-")?,
-            "of {keys}"
-        );
-    }
-    Ok(())
-}
-
-const NO_SPLITS: [&str; 13] = [
-    // an AND split with branches
-    "branch = [{to=\"b\",when=\"true\"},{to=\"c\"}]",
-    "split = \"and\"\nbranch = [{to=\"b\"}]",
-    // no branches
-    "split = \"xor\"",
-    "split = \"or\"",
-    "split = \"or\"\nbranch = []",
-    // an output that no branch names
-    "split = \"xor\"\nbranch = [{to=\"b\"}]",
-    // one that two name
-    "split = \"xor\"\nbranch = [{to=\"b\",when=\"true\"},{to=\"b\",when=\"false\"},{to=\"c\"}]",
-    "split = \"or\"\nbranch = [{to=\"b\",when=\"true\"},{to=\"b\"}]",
-    // a node that is no output of the task
-    "split = \"xor\"\nbranch = [{to=\"b\",when=\"true\"},{to=\"c\",when=\"true\"},{to=\"d\"}]",
-    "split = \"xor\"\nbranch = [{to=\"b\",when=\"true\"},{to=\"i\"}]",
-    // a text that is no node
-    "split = \"or\"\nbranch = [{to=\"b\",when=\"true\"},{to=\"c\",when=\"true\"},{to=\"\"}]",
-    // no default, and two
-    "split = \"xor\"\nbranch = [{to=\"b\",when=\"true\"},{to=\"c\",when=\"true\"}]",
-    "split = \"or\"\nbranch = [{to=\"b\"},{to=\"c\"}]",
-];
-
-#[test]
-fn splits_that_dont_fit(rt: HostRuntime) -> Result<(), Fail> {
-    for keys in &NO_SPLITS {
-        assert!(rt;
-            finds_in(rt.alloc(), Check::Splits, SPLIT, keys, "V10 main a")?,
-            "of {keys}"
-        );
-    }
-    Ok(())
-}
 
 const SPLIT_WORDS: (&str, &str) = (
     "input = \"i\"\noutput = \"o\"\nflows = [[\"a\",\"x\"],[\"b\",\"y\"],[\"a-b\",\"z\"]]",
