@@ -8,8 +8,8 @@ The client runs the server as its own process. Where that ends before a reply wa
 the line is held. The client then counts the entries of the folder's files: it knows how many were held before the line. One more says that
 the line is held, and has its steps; the reply is made of these. As many as before say that it isn't, and it is sent again.
 
-The folder is this client's alone as long as it lives: what another server writes in between is found out where a reply is lost (`Foreign`), and
-not before. One command is sent at a time; threads that share a client need a lock of their own.
+The folder is this client's alone from its making to `close`. What another server writes in the moments in which this client's is started again
+is found out (`Foreign`). One command is sent at a time; threads that share a client need a lock of their own.
 """
 
 from dataclasses import dataclass, field
@@ -20,6 +20,10 @@ from yawl.server import STATUSES, Lost, Server
 
 # The server ends with these for a cause that starting it again doesn't take away.
 LASTING = {STATUSES.index(name) for name in ("Usage", "Disk", "Memory", "Damaged", "Full")}
+# A line that is no command: its refusal says that the server has the folder.
+NOTHING: dict = {}
+# The fields of lines that stand in the first step of what they do.
+IN_STEP = ("name", "spec", "case", "task", "item", "at")
 
 
 class Refused(Exception):
@@ -76,7 +80,8 @@ class Client:
     def __init__(self, folder: str | Path, program: str | None = None, words: tuple[str, ...] = (), timeout: float | None = None,
                  tries: int = 20):
         """`words` stand behind `run`, as `("--limit", "1000000")`. A reply that doesn't come within the timeout, in seconds, counts as
-        lost. A command is sent so many times as long as the files don't hold it. Raises what `yawl.journal.Journal` raises."""
+        lost. A command is sent so many times as long as the files don't hold it. Raises what `yawl.journal.Journal` raises, and `Ended` or
+        `NotHeld` where the server can't be started, as where another has the folder."""
         self.folder = folder
         self.program = program
         self.words = words
@@ -84,8 +89,9 @@ class Client:
         self.tries = tries
         self.server: Server | None = None
         self.journal = Journal(folder)
-        self.journal.to_end()
-        self.held = self.journal.number
+        self.held = 0
+        self.is_counted = False
+        self.deliver(None)
 
     def __enter__(self) -> "Client":
         return self
@@ -100,29 +106,44 @@ class Client:
         and `Foreign` where another has written in the folder. Where the call is interrupted, as from the keyboard, `held` is one more than
         before exactly where the command is held.
         """
-        line = {"cmd": cmd, **fields}
+        return self.deliver({"cmd": cmd, **fields})
+
+    def deliver(self, line: dict | None) -> Reply:
+        """Sends a line until its reply is whole, or is found in the files. Without a line the server is started alone."""
         for _ in range(self.tries):
             try:
                 return self.ask(line)
             except Lost as lost:
-                found = self.find(cmd)
+                found = self.find(line)
                 if lost.status in LASTING:
                     raise Ended(lost, found) from None
                 if found:
                     return found
-        raise NotHeld(f"{cmd}: the server ended {self.tries} times")
+        raise NotHeld(f"{line['cmd'] if line else 'the start'}: the server ended {self.tries} times")
 
-    def ask(self, line: dict) -> Reply:
+    def ask(self, line: dict | None) -> Reply:
         """What the server replies to a line, once. It is started where none runs."""
         try:
             if self.server is None:
-                self.server = Server(self.folder, self.program, self.words)
-            return self.accept(self.server.ask(line, self.timeout))
+                self.start()
+            return self.accept(self.server.ask(line, self.timeout)) if line else Reply()
         except (Lost, Refused):
             raise
         except BaseException:
             self.abandon()
             raise
+
+    def start(self) -> None:
+        """Starts the server. When it has the folder, what the files hold is counted."""
+        if not self.is_counted:
+            self.journal = Journal(self.folder)
+        self.server = Server(self.folder, self.program, self.words)
+        self.server.ask(NOTHING)
+        self.journal.to_end()
+        if not self.is_counted:
+            self.held, self.is_counted = self.journal.number, True
+        if self.journal.number != self.held:
+            raise Foreign(f"{self.journal.number} entries, and {self.held} were held")
 
     def abandon(self) -> None:
         """Ends the server at once, whatever it does, and counts what the files hold."""
@@ -141,24 +162,35 @@ class Client:
         self.held += 1
         return Reply(reply["steps"], reply["quiet"])
 
-    def find(self, cmd: str) -> Reply | None:
-        """When the server has ended: what the last command did, where the files hold it."""
+    def find(self, line: dict | None) -> Reply | None:
+        """When the server has ended: what the last line did, where the files hold it."""
         self.server = None
         last = self.journal.to_end()
-        if self.journal.number == self.held:
+        if self.journal.number == self.held or not self.is_counted:
             return None
         events = self.journal.events(last) if last else []
-        if self.journal.number != self.held + 1 or events[0].word != cmd:
+        if self.journal.number != self.held + 1 or not (line and is_first_step(events[0].text, line)):
             told = f"; the last is: {events[0].text}" if events else ""
-            raise Foreign(f"{self.journal.number} entries, and {self.held} were held before a {cmd}{told}")
+            raise Foreign(f"{self.journal.number} entries, and {self.held} were held before{told}")
         self.held += 1
         return reply_of(events)
 
+    def behind(self, number: int) -> list[Reply]:
+        """What the files hold behind so many entries, as replies. A client that ended over a command leaves its `held` from before the command to
+        the next one: here that has the command's reply, or nothing where it isn't held."""
+        return [reply_of(events) for entry, events in Journal(self.folder).entries() if entry.number > number]
+
     def close(self) -> int:
-        """Ends the server and gives its status, 0 where none ran. The next command starts it again."""
+        """Ends the server and gives its status, 0 where none ran. The next command starts it again, and counts anew."""
         status = self.server.end() if self.server else 0
-        self.server = None
+        self.server, self.is_counted = None, False
         return status
+
+
+def is_first_step(step: str, line: dict) -> bool:
+    """Whether a step may be the first of what a line does."""
+    word, *rest = step.split(" ")
+    return word == line["cmd"] and all(line[name] in rest for name in IN_STEP if name in line)
 
 
 def reply_of(events: list[Event]) -> Reply:

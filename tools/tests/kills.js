@@ -4,20 +4,20 @@ const fs = require("node:fs");
 const { Client, Refused } = require("../client.js");
 
 const [folder, kills, toml] = process.argv.slice(2);
-const client = new Client(folder, { tries: 1000 });
 const replies = [];
+let client;
 let left = Number(kills);
 
 async function ask(cmd, fields) {
   const reply = await client.command(cmd, fields);
   replies.push({ cmd, ...reply });
-  return reply.steps[0].split(" ");
+  return reply.made[0];
 }
 
 async function handle() {
-  const [, number] = await ask("launch", { spec: "order", data: { amount: 200 } });
+  const number = await ask("launch", { spec: "order", data: { amount: 200 } });
   for (const task of ["receive", "pack", "bill", "ship"]) {
-    const item = (await ask("enter", { who: "ann", case: number, task })).at(-1);
+    const item = await ask("enter", { who: "ann", case: number, task });
     await ask("start", { who: "ann", item });
     await ask("complete", { who: "ann", item, out: {} });
   }
@@ -32,6 +32,7 @@ function killOnce(most) {
 
 async function main() {
   const began = performance.now();
+  client = await Client.open(folder, { tries: 1000 });
   await ask("person", { name: "ann", roles: ["clerk", "packer"] });
   await ask("load", { toml: fs.readFileSync(toml, "utf8") });
   killOnce(3 * (performance.now() - began));
@@ -39,6 +40,7 @@ async function main() {
   const refused = await client.command("cancel", { case: "999999" }).catch((cause) => cause);
   if (!(refused instanceof Refused) || refused.rule !== "UnknownCase" || refused.at !== "") throw refused;
   await client.close();
+  if (JSON.stringify(client.behind(0n).map((it) => it.steps)) !== JSON.stringify(replies.map((it) => it.steps))) throw new Error("behind");
   process.stdout.write(JSON.stringify(replies));
 }
 

@@ -83,13 +83,33 @@ class CommandTest(FolderTest):
                 client.command("person", name="ann", roles=[])
         self.assertEqual(client.held, 2)
 
+    def test_what_a_client_left_is_found_by_the_next(self):
+        first = Client(self.folder)
+        Order(first).open()
+        kept = first.held
+        first.close()
+        serve(self.folder, '{"cmd":"launch","spec":"order","data":{"amount":7}}\n')
+        with Client(self.folder) as client:
+            self.assertEqual([(it.steps, it.made) for it in client.behind(kept)], [(["launch 1 order"], ["1"])])
+            self.assertEqual(client.behind(3), [])
+
+    def test_another_client_may_come_between(self):
+        with Client(self.folder) as first:
+            first.command("person", name="ann", roles=[])
+            first.close()
+            serve(self.folder, ANN)
+            first.command("person", name="ann", roles=[])
+            self.assertEqual(first.held, 3)
+
 
 class LostTest(FolderTest):
     """Servers that end in their own ways, as scripts in place of the program. `$1` is the folder."""
 
     def client(self, script: str, **given) -> Client:
         path = self.folder / "program"
-        path.write_text(f"#!/bin/sh\n{script.replace('PROGRAM', program_path())}\n")
+        refusal = '{"at":"","n":1,"ok":false,"rule":"NotCommand"}'
+        script = script.replace("PROGRAM", program_path()).replace("OPEN", f"read line; echo '{refusal}'")
+        path.write_text(f"#!/bin/sh\n{script}\n")
         path.chmod(0o755)
         client = Client(self.shop(), str(path), **given)
         self.addCleanup(client.close)
@@ -101,19 +121,19 @@ class LostTest(FolderTest):
         return shop
 
     def test_a_held_line_is_found(self):
-        client = self.client('head -n 1 | PROGRAM "$1" run >/dev/null; kill -9 $$')
+        client = self.client('OPEN; head -n 1 | PROGRAM "$1" run >/dev/null; kill -9 $$')
         for name in ("ann", "bob"):
             reply = client.command("person", name=name, roles=[])
             self.assertEqual((reply.steps, reply.quiet, reply.found), ([f"person {name}"], True, True))
         self.assertEqual(steps_held(self.shop()), [["person ann"], ["person bob"]])
 
     def test_half_a_reply_is_none(self):
-        client = self.client('head -n 1 | PROGRAM "$1" run | head -c 20')
+        client = self.client('OPEN; head -n 1 | PROGRAM "$1" run | head -c 20')
         self.assertTrue(client.command("person", name="ann", roles=[]).found)
         self.assertEqual(steps_held(self.shop()), [["person ann"]])
 
     def test_a_line_that_is_not_held_is_sent_again(self):
-        client = self.client('[ -e "$1/once" ] && exec PROGRAM "$1" run; touch "$1/once"; read line; kill -9 $$')
+        client = self.client('[ -e "$1/once" ] && exec PROGRAM "$1" run; touch "$1/once"; OPEN; read line; kill -9 $$')
         reply = client.command("person", name="ann", roles=[])
         self.assertFalse(reply.found)
         client.close()
@@ -121,12 +141,12 @@ class LostTest(FolderTest):
 
     def test_it_gives_up_where_nothing_is_held(self):
         with self.assertRaises(NotHeld):
-            self.client("kill -9 $$", tries=3).command("person", name="ann", roles=[])
+            self.client("kill -9 $$", tries=3)
         with self.assertRaises(NotHeld):
-            self.client("exec sleep 60", tries=2, timeout=0.1).command("person", name="ann", roles=[])
+            self.client("OPEN; exec sleep 60", tries=2, timeout=0.1).command("person", name="ann", roles=[])
 
     def test_an_interrupted_line_is_counted(self):
-        client = self.client('head -n 1 | PROGRAM "$1" run >/dev/null; touch "$1/done"; exec sleep 60')
+        client = self.client('OPEN; head -n 1 | PROGRAM "$1" run >/dev/null; touch "$1/done"; exec sleep 60')
         main, done = threading.get_ident(), self.shop() / "done"
         for name in ("ann", "bob"):
             done.unlink(missing_ok=True)
@@ -139,13 +159,15 @@ class LostTest(FolderTest):
         self.assertEqual(steps_held(self.shop()), [["person ann"], ["person bob"]])
 
     def test_what_another_wrote_is_told(self):
-        client = self.client('head -n 1 | PROGRAM "$1" run >/dev/null; kill -9 $$')
-        serve(self.shop(), ANN)
-        with self.assertRaises(Foreign):
-            client.command("person", name="bob", roles=[])
+        for lines in (ANN, ANN + ANN.replace("ann", "bob")):
+            (self.folder / "lines").write_text(lines)
+            client = self.client(f'OPEN; read line; PROGRAM "$1" run <{self.folder}/lines >/dev/null; kill -9 $$')
+            with self.assertRaises(Foreign):
+                client.command("person", name="bob", roles=[])
 
     def test_a_cause_that_lasts(self):
         client = Client(self.shop(), words=("--limit", "64"))
+        self.addCleanup(client.close)
         client.command("person", name="ann", roles=[])
         with self.assertRaises(Ended) as ended:
             client.command("person", name="ann", roles=["clerk", "packer"])
@@ -159,7 +181,7 @@ class LostTest(FolderTest):
         first.stdin.flush()
         first.stdout.readline()
         with self.assertRaises(Ended) as ended:
-            Client(self.shop()).command("person", name="bob", roles=[])
+            Client(self.shop())
         self.assertEqual((ended.exception.status, ended.exception.reply), (3, None))
 
     def test_damage_is_told_before_anything(self):
@@ -202,9 +224,9 @@ class Killer(threading.Thread):
 
 class KillsTest(FolderTest):
     def test_each_asked_step_stands_once(self):
+        began = time.monotonic()
         client = Client(self.folder, tries=1000)
         shop = Order(client)
-        began = time.monotonic()
         shop.open()
         opened = time.monotonic()
         shop.handle()
@@ -235,9 +257,14 @@ class NodeTest(FolderTest):
         self.assertEqual([it[0].split(" ")[0] for it in held], [it["cmd"] for it in replies])
 
     def test_a_cause_that_lasts(self):
-        script = "const { Client } = require(process.argv[1]); const client = new Client(process.argv[2], { words: ['--limit', '64'] });"
-        script += "const person = (roles) => client.command('person', { name: 'ann', roles }); person([]).then(() => person(['clerk', 'packer']))"
-        script += ".catch(({ status, said, reply }) => console.log(JSON.stringify([status, said, reply])))"
+        script = """
+            const { Client } = require(process.argv[1]);
+            async function main() {
+              const client = await Client.open(process.argv[2], { words: ["--limit", "64"] });
+              for (const roles of [[], ["clerk", "packer"]]) await client.command("person", { name: "ann", roles });
+            }
+            main().catch(({ status, said, reply }) => console.log(JSON.stringify([status, said, reply])));
+        """
         self.assertEqual(run("node", "-e", script, TOOLS / "client.js", self.folder), (0, '[8,{"full":69},null]\n'))
 
     def test_each_kind_has_its_step(self):
