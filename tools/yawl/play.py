@@ -15,7 +15,7 @@ from typing import Iterator
 from .check_nets import reached
 from .nets import Net, Task
 
-MOST_MARKINGS = 20_000
+MOST_MARKINGS = 10_000
 MOST_TOKENS = 3
 WIDEST_OR = 6
 
