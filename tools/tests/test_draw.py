@@ -73,7 +73,7 @@ class PictureTests(FolderTest):
     def test_no_flow_runs_behind_a_node_and_no_two_lie_on_one_another(self) -> None:
         for text in [ROUND, *(it.read_text() for it in FILES)]:
             for view in views(text):
-                drawing = svg._Drawing(view)
+                drawing = svg.Drawing(view)
                 boxes = {it: box_of(drawing, it) for it in view.net.nodes()}
                 for flow, line in drawing.layout.lines.items():
                     parts = list(zip(line, line[1:]))
@@ -113,7 +113,7 @@ class PictureTests(FolderTest):
         self.assertEqual(run(DRAW, "--folder", "/nowhere", "--case", "1")[0], 3)
 
 
-def box_of(drawing: svg._Drawing, name: str) -> tuple[float, float, float, float]:
+def box_of(drawing: svg.Drawing, name: str) -> tuple[float, float, float, float]:
     """The shape of a node, without what is written below it."""
     x, y = drawing.layout.centres[name]
     half = drawing.sizes[name].shape / 2

@@ -23,15 +23,12 @@ def names(spec: Spec) -> Found:
     if spec.net(spec.top) is None:
         do = did_you_mean(spec.top, (it.name for it in spec.nets))
         yield "-", shown(spec.top), Finding(top.span, f"`top` names `{spec.top}`, which is no net", do)
-    for net, nodes in zip(spec.nets, _before(spec.nets)):
-        for offender, finding in _alone([net.node.get("name")], "the nets", [it.node.get("name") for it in nodes]):
+    for number, net in enumerate(spec.nets):
+        before = [it.node.get("name") for it in spec.nets[:number]]
+        for offender, finding in _alone([net.node.get("name")], "the nets", before):
             yield shown(net.name), offender, finding
         for offender, finding in _names_of(net):
             yield shown(net.name), offender, finding
-
-
-def _before(nets: tuple[Net, ...]) -> Iterator[tuple[Net, ...]]:
-    return (nets[:number] for number in range(len(nets)))
 
 
 def _names_of(net: Net) -> Iterator[tuple[str, Finding]]:

@@ -38,7 +38,7 @@ def picture(views: Sequence[View]) -> str:
     """The nets below one another, as an SVG document."""
     parts, top, width = [], MARGIN, 0.0
     for view in views:
-        drawing = _Drawing(view)
+        drawing = Drawing(view)
         parts.append(f'<g transform="translate({_n(MARGIN)} {_n(top)})">\n' + "\n".join(drawing.parts()) + "\n</g>")
         width = max(width, drawing.width)
         top += drawing.height + BETWEEN
@@ -48,7 +48,7 @@ def picture(views: Sequence[View]) -> str:
     return "\n".join([head, f"<style>{STYLE}</style>", f'<rect width="{w}" height="{h}" fill="#fff"/>', *parts, "</svg>", ""])
 
 
-class _Drawing:
+class Drawing:
     """One net: its layout, and the parts of its picture."""
 
     def __init__(self, view: View) -> None:
