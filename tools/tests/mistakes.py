@@ -40,7 +40,7 @@ MISTAKES = [
     Mistake('role = "teller"', '// role = "teller"', "SpecText", 43, "/"),
     # It hasn't the shape.
     Mistake('name = "desk"\n', "", "SpecShape name", 1, ""),
-    Mistake('top = "main"\n', 'Top = "main"\n', "SpecShape top", 1, ""),
+    Mistake('top = "main"\n', 'Top = "main"\n', "SpecShape top", 2, "Top"),
     Mistake('top = "main"\n\n[[net]]\n', '[[net]]\ntop = "main"\n', "SpecShape top", 3, "top"),
     Mistake("[[net]]\n", "[net]\n", "SpecText", 4, "[net]"),
     Mistake('output = "o"\n', "", "SpecShape net[0].output", 4, "[[net]]"),
@@ -52,7 +52,7 @@ MISTAKES = [
     Mistake('["open", "withdraw"]', '["open", "withdraw", "o"]', "SpecShape net[0].flows", 18, '["open", "withdraw", "o"]'),
     Mistake('split = "xor"', 'split = "XOR"', "SpecShape net[0].task[1].split", 32, '"XOR"'),
     Mistake('branch = [{ to = "pay", when = "yes = 2" }, { to', 'branch = [{ too = "pay", when = "yes = 2" }, { to',
-            "SpecShape net[0].task[1].branch[0].to", 33, '{ too = "pay", when = "yes = 2" }'),
+            "SpecShape net[0].task[1].branch[0].to", 33, "too"),
     Mistake('role = "teller"', 'roles = "teller"', "SpecShape net[0].task[2].roles", 43, "roles"),
     Mistake('role = "teller"', 'role = ["teller"]', "SpecShape net[0].task[2].role", 43, '["teller"]'),
     Mistake('kind = "empty"', 'kind = "automatic"', "SpecShape net[0].task[3].kind", 47, '"automatic"'),

@@ -169,9 +169,14 @@ def _example(key: Key) -> str:
 
 
 def _missing(node: Node, key: Key, table: str, root: Node) -> Finding:
-    """A key that has to be there: marked where it stands by mistake in a table below, or else at its table."""
-    stray = next(_strays(node, key.name, table), None)
+    """A key that has to be there: marked where it is misspelt, where it stands by mistake in a table below, or else at its table."""
     title = "the document" if table == "document" else f"this `{table}`"
+    unknown = [it for it in node.value if it not in {known.name for known in TABLES[table]}]
+    near = [it for it in unknown if it.lower() == key.name] or get_close_matches(key.name, unknown, 1, 0.7)
+    if near:
+        what = f"`{key.name}` is missing in {title}, which has no key `{near[0]}`"
+        return Finding(node.get(near[0]).key_or_value, what, f"did you mean `{key.name}`?")
+    stray = next(_strays(node, key.name, table), None)
     if stray is not None:
         what = f"`{key.name}` is missing in {title}: it stands below a header of another table, and so belongs to that"
         where = "above the first header" if table == "document" else "right below the header `[[net]]`, above the next header"

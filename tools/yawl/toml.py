@@ -176,7 +176,8 @@ class _Reader:
         name, value.key = keys[-1]
         old = table.get(name)
         if old is not None:
-            raise TextFault(value.key, f"the key `{name}` stands twice in one table", "take one of the two out", _first(old))
+            do = "take one of the two out, or begin a new table above it, with its header"
+            raise TextFault(value.key, f"the key `{name}` stands twice in one table", do, _first(old))
         table.value[name] = value
 
     def key(self) -> list[tuple[str, Span]]:
