@@ -12,8 +12,8 @@ from typing import Iterator, Sequence
 from xml.sax.saxutils import escape
 
 from .layout import Flow, Layout, Point, Size, lay_out
-from .nets import Net, Task
-from .scene import View, Work, branch_labels
+from .nets import Task
+from .scene import View, branch_labels
 
 LETTER = 6.6
 SMALL = 5.6
