@@ -2,7 +2,6 @@
 use Rattle.std.proofs.Common.{List, None, Option, Some, [], ap, refl, suc, sym, true, ℕ, ◌∙◌, ◌∷◌, ◌≡◌, ◌≤◌, length, arith}
 use Rattle.std.specs.Prelude.{Vec, not, option_and_then, slice_get, ◌&&◌}
 use Rattle.std.specs.declared.alloc.Global.{Global}
-use Rattle.yw_enabled.proofs.ItemThere.{item_there, its_child}
 use Rattle.yw_enabled.specs.Free.{StandsFree}
 use Rattle.yw_enabled.specs.Left.{is_done}
 use Rattle.yw_sites.proofs.Prefix.{child_length}
@@ -20,6 +19,7 @@ use Rattle.yw_task.proofs.EnterAsk.{its_net, net_with}
 use Rattle.yw_task.proofs.ItemLaw.{its_busy, its_site}
 use Rattle.yw_task.specs.Standing.{ItemStands}
 use Rattle.yw_tree.proofs.FindLaw.{item_shown}
+use Rattle.yw_tree.proofs.ItemThere.{item_there, its_child}
 use Rattle.yw_tree.proofs.Parents.{identity_long, identity_short}
 use Rattle.yw_tree.specs.Entries.{item_part_of, item_site}
 use Rattle.yw_tree.specs.Forest.{IsForest, item_of, sites_of}

@@ -1,4 +1,3 @@
-pub mod ItemThere
 pub mod FreeItems
 pub mod Counted
 pub mod LeaveLaw

@@ -1,23 +1,21 @@
 -- What a state says of an item and its nets, by the forest.
-use Rattle.std.proofs.Common.{Bool, List, None, Option, Some, [], ap, arith, cond, false, length, refl, sym, true, ℕ, ◌∙◌, ◌∷◌, ◌≡◌, ◌≤◌}
-use Rattle.std.proofs.lemmas.Bool.{false_from_ne_true}
+use Rattle.std.proofs.Common.{Bool, List, None, Option, Some, ap, cond, length, sym, true, ℕ, ◌∙◌, ◌≡◌, ◌≤◌}
 use Rattle.std.specs.Prelude.{is_some, option_and_then, option_map, slice_get}
 use Rattle.yw_base.specs.Identity.{is_identity}
 use Rattle.yw_nest.specs.Items.{IsNetOf}
 use Rattle.yw_spec.specs.declared.spec.Net.{Net}
 use Rattle.yw_spec.specs.declared.spec.Spec.{Spec}
 use Rattle.yw_spec.specs.declared.task.Task.{Task}
-use Rattle.yw_state.proofs.Tests.{nowhere, then_some}
-use Rattle.yw_state.specs.Identity.{Ident, case_number, is_case_ident, parent}
+use Rattle.yw_state.specs.Identity.{Ident, case_number, parent}
 use Rattle.yw_state.specs.Map.{get}
 use Rattle.yw_state.specs.State.{ItemAt, ItemPart, NetAt, NetPart, Site, State, TaskAt, item_at, item_part, net_at, net_of, net_part, spec_called, task_in}
 use Rattle.yw_tree.proofs.Attached.{no_net}
-use Rattle.yw_tree.proofs.FindLaw.{case_shown, item_shown}
+use Rattle.yw_tree.proofs.FindLaw.{item_shown}
+pub use Rattle.yw_tree.proofs.ItemWith.{no_case}
 use Rattle.yw_tree.proofs.NetAt.{net_here}
 use Rattle.yw_tree.proofs.Parents.{identity_long, parent_there}
-use Rattle.yw_tree.specs.Cases.{case_at}
 use Rattle.yw_tree.specs.Entries.{item_part_of, item_site, net_part as its_part}
-use Rattle.yw_tree.specs.Forest.{IsForest, item_of, item_of_case, sites_of, top_of}
+use Rattle.yw_tree.specs.Forest.{IsForest, item_of, sites_of, top_of}
 use Rattle.yw_tree.specs.Places.{net_at as net_found, net_of_run, run_of}
 use Rattle.yw_tree.specs.Ways.{net_in, net_of_item}
 use Rattle.yw_tree.specs.declared.Forest.{Forest}
@@ -25,18 +23,6 @@ use Rattle.yw_tree.specs.declared.NetState.{NetState, out-NetState}
 use Rattle.yw_tree.specs.declared.Node.{Node, out-Node}
 
 -- ---- whatever the state
-
--- an item isn't a case
-pub no_case : (f : Forest) → IsForest f → (j : Ident) → (n : Node) → item_of f j ≡ Some n → is_case_ident j ≡ false
-no_case f b [] n found = refl
-no_case f b (k ∷ ks) n found = false_from_ne_true _ (λ t.
-    let names : ℕ → List ℕ = λ i. [] in
-    let j : Ident = k ∷ ks in
-    let long : 1 ≤ length j = omega arith in
-    let c = then_some (item_of_case j) (case_at k f.cases) n found in
-    let top = case_shown names f b j long t c.0 c.1 in
-    let own = item_shown names f b j long n found in
-    nowhere (ap (option_and_then (λ (x : Site). x.item)) (sym top ∙ own)))
 
 -- where no net stands at it, it has none
 pub no_net_at : (f : Forest) → IsForest f → (j : Ident) → (n : Node) → item_of f j ≡ Some n → net_found f j ≡ None → (out-Node n).net ≡ None

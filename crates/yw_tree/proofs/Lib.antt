@@ -59,4 +59,6 @@ pub mod Fronts
 pub mod Halves
 pub mod Rooted
 pub mod Stood
+pub mod ItemThere
+pub mod ItemWith
 pub mod Drawn

@@ -109,7 +109,7 @@ module _ (f : Forest) (b : IsForest f) (id : Ident) (long : 1 ≤ length id) whe
         (λ (h : NoneUnder i (entries names f)). nowhere (sym (at_apart id i (entries names f) h (child_under i id its)) ∙ sym (get-of_entries by_name (entries names f) id) ∙ there))
         (forest_rooted names i f b above)
 
-    net_above : length id ≤ 41 → net_at f (parent id) ≡ None → ⊥
+    pub net_above : length id ≤ 41 → net_at f (parent id) ≡ None → ⊥
     net_above fits hollow =
         let i = parent id in
         let l = child_length i id its in
@@ -133,7 +133,7 @@ module _ (f : Forest) (b : IsForest f) (id : Ident) (long : 1 ≤ length id) whe
 
     -- and in that net its place is found
     module _ (s : NetState) (h : NetHere f (parent id) s (placed_net f (parent id))) where
-      place_there_too : place_of id s ≡ None → ⊥
+      pub place_there_too : place_of id s ≡ None → ⊥
       place_there_too p =
           let i = parent id in
           let c = is_child_of id i its in

@@ -118,7 +118,7 @@ fn inner_mut<'a>(node: &'a mut Node, id: &[u64]) -> Option<&'a mut NetState>
     net_mut(node)
 }
 
-fn node_here(net: &NetState, t: usize, i: usize) -> &Node
+pub fn node_here(net: &NetState, t: usize, i: usize) -> &Node
     requires { IsSome (node_at net.now t i) }
     ensures { node_at net.now t i ≡ Some result.now }
 {

@@ -1,7 +1,8 @@
 //! What stands at an identity, for reading.
-ghost use Rattle.std.specs.Prelude.{◌≡◌, ℕ, List, ◌≤◌, length, option_map};
+ghost use Rattle.std.specs.Prelude.{◌≡◌, ℕ, List, None, Some, ◌≤◌, length, option_map, MatchOption};
 ghost use Rattle.std.specs.Option.{option_copied};
 ghost use Rattle.yw_tree.specs.Cases.{case_at};
+ghost use Rattle.yw_state.specs.Identity.{parent};
 ghost use Rattle.yw_state.specs.Map.{empty, get};
 ghost use Rattle.yw_tree.specs.Forest.{IsForest, item_of, levels, sites_of, top_of};
 ghost use Rattle.yw_tree.specs.Spots.{a_case, a_run, part_at, part_of, part_site};
@@ -9,7 +10,7 @@ ghost use Rattle.yw_tree.specs.Places.{has_run, net_at, net_of_run, run_at, run_
 ghost use Rattle.yw_tree.specs.Ways.{case_inner, item_in, net_in};
 ghost use Rattle.yw_tree.specs.declared.Node.{out-Node};
 
-use crate::descend::{Descent, inner_of_run, net_of};
+use crate::descend::{Descent, inner_of_run, net_of, node_here, place};
 use crate::numbers::{case_number, is_case, parent};
 use crate::parts::{Levels, case_leads_to_run};
 use crate::{Case, CaseTable, Forest, NetState, Node, Run};
@@ -109,6 +110,21 @@ pub fn net_with<'a>(forest: &'a Forest, id: &[u64]) -> Option<&'a NetState>
     }
 }
 
+/// The item at an identity and the net in which it stands, by one way down.
+fn item_in_net<'a>(forest: &'a Forest, id: &[u64]) -> Option<(&'a Node, &'a NetState)>
+    requires { 1 ≤ length id.now }
+    ensures { IsForest forest.now → length id.now ≤ 41 → MatchOption result (item_of forest.now id.now ≡ None)
+        (λ found. (item_of forest.now id.now ≡ Some found.0.now) × (net_at forest.now (parent id.now) ≡ Some found.1.now)) }
+{
+    if is_case(id) {
+        return None;
+    }
+    let net = net_with(forest, parent(id))?;
+    let (t, i) = place(net, id)?;
+    let node = node_here(net, t, i);
+    Some((node, net))
+}
+
 /// What stands at an identity.
 pub enum Spot<'a> {
     /// A case.
@@ -184,6 +200,14 @@ impl Forest {
         ensures { option_copied result ≡ item_of self.now id.now }
     {
         item_at(self, id.numbers())
+    }
+
+    /// The item at an identity and the net in which it stands, by one way down, or `None` where there is no such item. It takes no memory.
+    pub fn item_with_net(&self, id: &Ident) -> Option<(&Node, &NetState)>
+        ensures { IsForest self.now → MatchOption result (item_of self.now id.now ≡ None)
+            (λ found. (item_of self.now id.now ≡ Some found.0.now) × (net_at self.now (parent id.now) ≡ Some found.1.now)) }
+    {
+        item_in_net(self, id.numbers())
     }
 
     /// The run at an identity, or `None` where there is none. It takes no memory.
