@@ -108,7 +108,8 @@ function foundReply(entry) {
 /** Whether a step may be the first of what a line does. */
 function isFirstStep(step, line) {
   const [word, ...rest] = step.split(" ");
-  return word === line.cmd && IN_STEP.every((name) => !(name in line) || rest.includes(line[name]));
+  // The step of a rule has its number alone.
+  return word === line.cmd && (word === "rule" || IN_STEP.every((name) => !(name in line) || rest.includes(line[name])));
 }
 
 class Client {

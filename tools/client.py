@@ -190,7 +190,8 @@ class Client:
 def is_first_step(step: str, line: dict) -> bool:
     """Whether a step may be the first of what a line does."""
     word, *rest = step.split(" ")
-    return word == line["cmd"] and all(line[name] in rest for name in IN_STEP if name in line)
+    # The step of a rule has its number alone.
+    return word == line["cmd"] and (word == "rule" or all(line[name] in rest for name in IN_STEP if name in line))
 
 
 def reply_of(events: list[Event]) -> Reply:

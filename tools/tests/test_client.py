@@ -12,7 +12,7 @@ import unittest
 
 from support import EXAMPLES, TOOLS, FolderTest, program_path, run, serve
 from test_log import EVENTS, number
-from client import Client, Ended, Foreign, NotHeld, Refused
+from client import Client, Ended, Foreign, NotHeld, Refused, is_first_step
 from yawl.journal import Damaged, Journal
 
 KILLS = int(os.environ.get("YAWL_KILLS", 300))
@@ -188,6 +188,17 @@ class LostTest(FolderTest):
         (self.shop() / "yawl.a").write_bytes(b"\1" + bytes(29))
         with self.assertRaises(Damaged):
             Client(self.shop())
+
+
+class FirstStepTest(unittest.TestCase):
+    def test_a_line_and_its_step(self):
+        enter = {"cmd": "enter", "who": "ann", "case": "1.3", "task": "vote"}
+        self.assertTrue(is_first_step("enter 1.3 vote from i as 1.3.4", enter))
+        self.assertFalse(is_first_step("enter 1.4 vote from i as 1.4.5", enter))
+        self.assertFalse(is_first_step("enter 1.3 assess from i as 1.3.4", enter))
+        self.assertFalse(is_first_step("add 1.3 vote as 1.3.4", enter))
+        self.assertTrue(is_first_step("launch 7 loan", {"cmd": "launch", "spec": "loan", "data": {}}))
+        self.assertTrue(is_first_step("rule 1", {"cmd": "rule", "spec": "loan", "net": "main", "task": "pay", "at": 0}))
 
 
 class Killer(threading.Thread):
