@@ -4,19 +4,19 @@ use Rattle.std.proofs.lemmas.Bool.{and_from, and_parts}
 use Rattle.std.proofs.lemmas.Slice.Eq.{bytes_eq-Decides}
 use Rattle.std.specs.List.{list_all}
 use Rattle.std.specs.Option.{option_map_or}
-use Rattle.std.specs.Prelude.{Bool, Err, List, MatchOption, None, Ok, OnErr, OnOk, Option, Result, Some, [], cond, false, find, is_none, is_some, not, option_and_then, option_map, refl, slice_get, true, unwrap_or, ℕ, ◌&&◌, ◌||◌, ◌∷◌, ◌≡◌}
+use Rattle.std.specs.Prelude.{Bool, Err, IsSome, List, MatchOption, None, Ok, OnErr, OnOk, Option, Result, Some, [], cond, false, find, is_none, is_some, not, option_and_then, option_map, refl, slice_get, true, unwrap_or, ℕ, ◌&&◌, ◌||◌, ◌∷◌, ◌≡◌}
 use Rattle.std.specs.Str.{bytes_eq}
 use Rattle.yw_cases.proofs.Allows.{free}
 use Rattle.yw_cases.proofs.GivenBack.{given_back, given_fits, given_made}
 use Rattle.yw_cases.proofs.HereLaw.{no_item}
 use Rattle.yw_cases.proofs.ItemsGo.{passed}
 use Rattle.yw_cases.proofs.OutsApart.{outs_apart}
-use Rattle.yw_cases.proofs.Trying.{done, placed, words_of}
+use Rattle.yw_cases.proofs.Trying.{done, placed, stands_well, words_of}
 use Rattle.yw_cases.specs.Completing.{IsStartedBy, MayNotComplete}
 use Rattle.yw_cases.specs.Here.{IsNetKnown}
 use Rattle.yw_cases.specs.State.{MayStand, state_of}
 use Rattle.yw_cases.specs.Steps.{IsAnswer}
-use Rattle.yw_cases.specs.Tried.{IsDone, LeadsNowhere, Tries}
+use Rattle.yw_cases.specs.Tried.{IsDone, LeadsNowhere, LeadsOn, Tries}
 use Rattle.yw_cases.specs.declared.standing.Standing.{Standing}
 use Rattle.yw_expr.specs.Meaning.{val}
 use Rattle.yw_invariant.proofs.Tasks.{atomic_has_no_child}
@@ -25,6 +25,7 @@ use Rattle.yw_known.specs.Names.{names_of}
 use Rattle.yw_known.specs.declared.here.ItemHere.{ItemHere}
 use Rattle.yw_known.specs.declared.known.KnownNet.{KnownNet}
 use Rattle.yw_model.specs.Texts.{IsAccepted, reader}
+use Rattle.yw_nest.proofs.FromState.{item_stands}
 use Rattle.yw_nest.specs.Does.{all_else}
 use Rattle.yw_spec.specs.declared.spec.Net.{Net}
 use Rattle.yw_spec.specs.declared.spec.Var.{Var}
@@ -52,11 +53,13 @@ use Rattle.yw_state.specs.declared.rule.Refusal.{Refusal}
 use Rattle.yw_state.specs.declared.rule.Rule.{Rule}
 use Rattle.yw_state.specs.declared.rule.Rule.TheVariants as rules
 use Rattle.yw_state.specs.declared.tree.TreeKind.TheVariants.{Post}
+use Rattle.yw_steps.proofs.FromState.{item_is as item_is_so}
 use Rattle.yw_steps.specs.Completes.{CompleteBreaks, CompleteIsAllowed, Completes, IsItemIn, ItemIs, MayComplete}
 use Rattle.yw_task.specs.Completes.{AnswersFirst}
 use Rattle.yw_task.specs.declared.fault.StepFault.{StepFault}
 use Rattle.yw_task.specs.declared.fault.StepFault.TheVariants.{Memory, Refused}
 use Rattle.yw_tree.proofs.Removed.{within}
+use Rattle.yw_tree.specs.Forest.{item_of}
 use Rattle.yw_tree.specs.declared.Forest.{Forest}
 use Rattle.yw_tree.specs.declared.NetState.{out-NetState}
 use Rattle.yw_tree.specs.declared.Node.{out-Node}
@@ -278,3 +281,24 @@ module _ (old : Standing) (may : MayStand old) (j : Ident) (out : Row) where
             subst (λ b. Tries old (events.Complete j out) b (record old { forest = f })) (sym answer)
             (refused_nowhere refusal first, ap (λ (g : Forest). let h : Standing = record old { forest = g } in h) err)
         complete_tried f (Err Memory) ok allowed first err leads answer = absurd answer
+
+-- ---- where it is allowed
+
+module _ (old : Standing) (may : MayStand old) (j : Ident) (out : Row) (leads : LeadsOn old (events.Complete j out)) where
+  completed_item : Completing old may j out
+  completed_item = completing old may j out leads.0 leads.1
+
+  pub completed_there : IsSome (item_of old.forest j)
+  completed_there = item_stands (names_of old.known) old.forest (state_of old) (stands_well old may) j completed_item.0 completed_item.1
+
+  pub completes_done : (f : Forest) (row : Row) → row ≡ out → ((net : Net) → Completes net j row no_checks old.forest f)
+      → IsDone old (events.Complete j out) (record old { forest = f })
+  completes_done f row same does =
+      let s : State = state_of old in
+      let names : ℕ → List ℕ = names_of old.known in
+      let x : ItemAt = completed_item.0 in
+      let is : ItemIs s j x.of_task.within.net = item_is_so names old.forest s (stands_well old may) j x completed_item.1 reader may.held.well in
+      let needs : MayComplete x.of_task.within.net j no_checks s = record { item_is = is; rule = sym ((words_of old may).rule (task_place is.there.of_task Post)) } in
+      let allowed : Allowed s (events.Complete j out) nothing = (complete_as old may j out nothing ∙ sym (complete_as old may j out leads.1.said) ∙ leads.1.allowed.0, tt) in
+      done old may (λ n. events.Complete j row) (λ n. MayComplete x.of_task.within.net j no_checks) all_else (events.Complete j out) (record old { forest = f })
+      (does x.of_task.within.net names s may.held.sites needs) needs (ap (events.Complete j) same) (placed old f) refl allowed

@@ -1,12 +1,12 @@
 -- A case is over, or goes on.
-use Rattle.std.proofs.Common.{◌∙◌}
+use Rattle.std.proofs.Common.{sym, ◌∙◌}
 use Rattle.std.specs.Prelude.{Bool, List, false, is_some, refl, true, ℕ, ◌∷◌, [], ◌≡◌}
 use Rattle.yw_base.specs.Identity.{is_identity}
 use Rattle.yw_cases.proofs.Allows.{finish_as}
-use Rattle.yw_cases.proofs.Trying.{done, fails, placed_over, words_of}
+use Rattle.yw_cases.proofs.Trying.{done, fails, leads_plainly, placed_over, words_of}
 use Rattle.yw_library.specs.Ended.{ended_of}
 use Rattle.yw_cases.specs.State.{MayStand, state_of}
-use Rattle.yw_cases.specs.Tried.{IsDone, LeadsNowhere, Tries}
+use Rattle.yw_cases.specs.Tried.{IsDone, LeadsNowhere, LeadsOn, Tries}
 use Rattle.yw_cases.specs.declared.standing.Standing.{Standing}
 use Rattle.yw_known.proofs.Items.{case_is}
 use Rattle.yw_nest.specs.Cases.{Cancels, Finishes, with_ended}
@@ -69,3 +69,23 @@ module _ (old : Standing) (may : MayStand old) (n : ℕ) where
   unfolding allows after
   advanced true e = record { leads = record { said = nothing; says = refl; allowed = (e, tt); then = refl }; boxed = may.held.boxed }
   advanced false e = (fails old (events.Advance n) (λ said. e), refl)
+
+  -- ---- where it is allowed
+
+  pub finishes_so : LeadsOn old (events.Finish n) → at_output (state_of old) (case_ident n) ≡ true
+  finishes_so leads = sym (finish_as (state_of old) (words_of old may) n leads.1.said) ∙ leads.1.allowed.0
+
+  pub cancels_so : LeadsOn old (events.Cancel n) → is_case (state_of old) (case_ident n) ≡ true
+  unfolding allows
+  cancels_so leads = leads.1.allowed.0
+
+  pub finishes_on : at_output (state_of old) (case_ident n) ≡ true → LeadsOn old (events.Finish n)
+  finishes_on e = leads_plainly old (events.Finish n) refl (finish_as (state_of old) (words_of old may) n nothing ∙ e, tt)
+
+  pub cancels_on : is_case (state_of old) (case_ident n) ≡ true → LeadsOn old (events.Cancel n)
+  unfolding allows
+  cancels_on e = leads_plainly old (events.Cancel n) refl (e, tt)
+
+  pub advances_so : LeadsOn old (events.Advance n) → IsDone old (events.Advance n) old
+  unfolding allows after
+  advances_so leads = record { leads = record { said = nothing; says = refl; allowed = (leads.1.allowed.0, tt); then = refl }; boxed = may.held.boxed }

@@ -6,12 +6,12 @@ use Rattle.std.specs.List.{list_all}
 use Rattle.std.specs.Prelude.{Bool, IsSome, List, MatchOption, None, Option, Some, false, is_some, nat_eq, slice_get, true, ℕ, ◌&&◌, ◌≡◌}
 use Rattle.yw_cases.proofs.Allows.{only_clear}
 use Rattle.yw_cases.proofs.HereLaw.{no_net}
-use Rattle.yw_cases.proofs.TaskHere.{its, named, named_so, numbered}
+use Rattle.yw_cases.proofs.TaskHere.{its, named, named_so, no_name_no_task, no_net_no_task, no_number_no_task, numbered}
 use Rattle.yw_cases.proofs.Trying.{done, fails, placed, words_of}
 use Rattle.yw_cases.specs.Exiting.{IsExit, IsSplitTo}
 use Rattle.yw_cases.specs.Here.{IsNetKnown, with_state}
 use Rattle.yw_cases.specs.State.{MayStand, state_of}
-use Rattle.yw_cases.specs.Tried.{IsDone, LeadsNowhere}
+use Rattle.yw_cases.specs.Tried.{IsDone, LeadsNowhere, LeadsOn}
 use Rattle.yw_cases.specs.declared.standing.Standing.{Standing}
 use Rattle.yw_enabled.specs.Free.{StandsFree}
 use Rattle.yw_enabled.specs.Left.{IsLeavingAs}
@@ -24,7 +24,7 @@ use Rattle.yw_nest.specs.Does.{all_else}
 use Rattle.yw_spec.specs.declared.spec.Net.{Net}
 use Rattle.yw_spec.specs.declared.spec.Place.{Place}
 use Rattle.yw_spec.specs.declared.task.Task.{Task}
-use Rattle.yw_state.proofs.Tests.{and_right, never, nowhere, same_numbers, some_same, there_and}
+use Rattle.yw_state.proofs.Tests.{and_right, by_option, never, nowhere, same_numbers, some_same, there_and}
 use Rattle.yw_state.specs.Allowed.{Allowed, allows, exit_values, has_room_for, may_exit, may_leave, place_numbers, puts_on}
 use Rattle.yw_state.specs.Events.{Leads}
 use Rattle.yw_state.specs.Identity.{Ident}
@@ -170,3 +170,29 @@ module _ (old : Standing) (may : MayStand old) (i : Ident) (name : List ℕ) (pl
         let needs : MayExit w.net.now i exit.task places false s = record { net_is = net_is; allowed = allowed; rule = λ case. sym ((words_of old may).rule (case_place net_is.there.part.spec Post)) } in
         done old may (λ names. events.Exit i exit.task.name places) (λ names. MayExit w.net.now i exit.task places false) all_else (events.Exit i name places)
         (record old { forest = f }) (does exit.task places of_known (names_of old.known) s may.held.sites needs) needs (ap (λ n. events.Exit i n places) its_name) (placed old f) refl exit.allowed
+
+-- ---- where it is allowed
+
+module _ (old : Standing) (may : MayStand old) (i : Ident) (name : List ℕ) (places : List Place) (leads : LeadsOn old (events.Exit i name places)) where
+  exit_allowed : Allowed (state_of old) (events.Exit i name places) nothing
+  exit_allowed = (exit_as old may i name places nothing ∙ sym (exit_as old may i name places leads.1.said) ∙ leads.1.allowed.0, tt)
+
+  -- its task is there
+  exit_task : (x : TaskAt) × (task_at (state_of old) i name ≡ Some x) × (may_exit (state_of old) i places x ≡ true)
+  exit_task = there_and (task_at (state_of old) i name) (may_exit (state_of old) i places) (sym (exit_as old may i name places leads.1.said) ∙ leads.1.allowed.0)
+
+  -- so is the net, known by these words
+  pub exit_net : {A : Type 0} (o : Option KnownNet) → o ≡ None → MatchOption o (net_part (state_of old) i ≡ None) (IsNetKnown old.known old.forest (state_of old) i) → A
+  exit_net o is found =
+      let none : net_part (state_of old) i ≡ None = subst (λ z. MatchOption z (net_part (state_of old) i ≡ None) (IsNetKnown old.known old.forest (state_of old) i)) is found in
+      nowhere (sym (no_net_no_task (state_of old) i name none) ∙ exit_task.1)
+
+  module _ (w : KnownNet) (known : IsNetKnown old.known old.forest (state_of old) i w) where
+    pub exit_named : {A : Type 0} → task_number w.net.now name ≡ None → A
+    exit_named none = nowhere (sym (no_name_no_task old i (with_state w known.state) known.here name none) ∙ exit_task.1)
+
+    pub is_exit_so : (t : ℕ) → task_number w.net.now name ≡ Some t → IsExit old i name places t
+    is_exit_so t number =
+        by_option (slice_get w.net.now.tasks t)
+        (λ none. nowhere (sym (no_number_no_task old i (with_state w known.state) known.here name t number none) ∙ exit_task.1))
+        (λ task of_net. record { net = with_state w known.state; here = known.here; task = task; number = number; of_net = of_net; allowed = exit_allowed })

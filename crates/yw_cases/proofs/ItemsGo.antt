@@ -2,11 +2,11 @@
 use Rattle.std.proofs.Common.{ap, subst, sym, ◌∙◌}
 use Rattle.std.specs.Prelude.{Bool, IsSome, List, MatchOption, None, Option, Some, [], false, not, refl, true, ℕ, ◌&&◌, ◌∷◌, ◌≡◌}
 use Rattle.yw_cases.proofs.Allows.{empty_as, start_as, sub_ends_as, sub_starts_as}
-use Rattle.yw_cases.proofs.Trying.{done, fails, placed, stands_well, words_of}
+use Rattle.yw_cases.proofs.Trying.{done, fails, leads_plainly, placed, stands_well, words_of}
 use Rattle.yw_cases.specs.Here.{IsNetKnown}
 use Rattle.yw_cases.specs.Items.{item_suits, suits as suits_it}
 use Rattle.yw_cases.specs.State.{MayStand, state_of}
-use Rattle.yw_cases.specs.Tried.{IsDone, LeadsNowhere}
+use Rattle.yw_cases.specs.Tried.{IsDone, LeadsNowhere, LeadsOn, TellsLeads}
 use Rattle.yw_cases.specs.declared.items.ItemEvent.{ItemEvent}
 use Rattle.yw_cases.specs.declared.items.ItemEvent.TheVariants.{CompleteEmpty, CompleteSub, Start, StartSub}
 use Rattle.yw_cases.specs.declared.standing.Standing.{Standing}
@@ -33,8 +33,7 @@ use Rattle.yw_state.specs.declared.rule.Refusal.{Refusal}
 use Rattle.yw_state.specs.declared.rule.Rule.{Rule}
 use Rattle.yw_state.specs.declared.rule.Rule.TheVariants as rules
 use Rattle.yw_state.specs.declared.tree.TreeKind.TheVariants.{Post}
-use Rattle.yw_steps.specs.Starts.{StartBreaks, Starts}
-use Rattle.yw_task.specs.Asked.{start_shown}
+use Rattle.yw_steps.specs.Starts.{Starts}
 use Rattle.yw_tree.specs.Forest.{item_of}
 use Rattle.yw_tree.specs.declared.Forest.{Forest}
 
@@ -83,17 +82,12 @@ module _ (old : Standing) (may : MayStand old) (j : Ident) where
           done old may (λ names. events.Start j name) NeedsNothing all_else (events.Start j who) (record old { forest = f }) does tt (ap (events.Start j) same) (placed old f) refl
           start_allowed
 
-      -- so it isn't refused
-      pub not_refused : {A : Type 0} (rule : Rule) → StartBreaks old.forest j (Some rule) → A
-      not_refused rule breaks =
-          let x = there_and (item_at (state_of old) j) (λ (x : ItemAt). is_ready x.part.stage && is_atomic x.of_task.task) suits in
-          let at : item_at (state_of old) j ≡ Some x.0 = x.1 in
-          let ready : is_some_and (item_at (state_of old) j) (λ (y : ItemAt). not (is_ready y.part.stage)) ≡ false =
-          ap (λ o. is_some_and o (λ (y : ItemAt). not (is_ready y.part.stage))) at ∙ ap not (and_left (is_ready x.0.part.stage) _ x.2) in
-          let first : First (start_shown (state_of old) who j) (Some (placeless rule)) = breaks (names_of old.known) (state_of old) x.0 who may.held.sites at in
-          nowhere (sym (passed (busy (state_of old) j) rules.Busy [] (Some (placeless rule)) ((words_of old may).busy j)
-          (passed (is_some_and (item_at (state_of old) j) (λ (y : ItemAt). not (is_ready y.part.stage))) rules.Stage (test (busy (state_of old) j) rules.Busy ∷ [])
-          (Some (placeless rule)) ready first)))
+    pub starts_so : LeadsOn old (events.Start j who) → item_suits (state_of old) Start j ≡ true
+    starts_so leads = sym (start_as (state_of old) (words_of old may) j who leads.1.said) ∙ leads.1.allowed.0
+
+    pub tells_start : (b : Bool) → item_suits (state_of old) Start j ≡ b → TellsLeads old (events.Start j who) b
+    tells_start true e = leads_plainly old (events.Start j who) refl (start_allowed e)
+    tells_start false e = not_started e
 
   -- ---- one of an empty task is completed
 
@@ -110,6 +104,13 @@ module _ (old : Standing) (may : MayStand old) (j : Ident) where
     pub empty_completed : (f : Forest) → CompletesEmpty j old.forest f → IsDone old (events.CompleteEmpty j) (record old { forest = f })
     empty_completed f does =
         done old may (λ names. events.CompleteEmpty j) NeedsNothing all_else (events.CompleteEmpty j) (record old { forest = f }) does tt refl (placed old f) refl empty_allowed
+
+  pub empties_so : LeadsOn old (events.CompleteEmpty j) → item_suits (state_of old) CompleteEmpty j ≡ true
+  empties_so leads = sym (empty_as (state_of old) (words_of old may) j leads.1.said) ∙ leads.1.allowed.0
+
+  pub tells_empty : (b : Bool) → item_suits (state_of old) CompleteEmpty j ≡ b → TellsLeads old (events.CompleteEmpty j) b
+  tells_empty true e = leads_plainly old (events.CompleteEmpty j) refl (empty_allowed e)
+  tells_empty false e = not_completed e
 
   -- ---- its child net begins
 
@@ -128,6 +129,13 @@ module _ (old : Standing) (may : MayStand old) (j : Ident) where
     begun f does =
         done old may (λ names. events.StartSub j) (λ names s. IsNetOf s (parent j) w.spec.now) all_else (events.StartSub j) (record old { forest = f }) does outer.of_state refl
         (placed old f) refl begin_allowed
+
+  pub begins_so : LeadsOn old (events.StartSub j) → item_suits (state_of old) StartSub j ≡ true
+  begins_so leads = sym (sub_starts_as (state_of old) (words_of old may) j leads.1.said) ∙ leads.1.allowed.0
+
+  pub tells_begun : (b : Bool) → item_suits (state_of old) StartSub j ≡ b → TellsLeads old (events.StartSub j) b
+  tells_begun true e = leads_plainly old (events.StartSub j) refl (sub_starts_as (state_of old) (words_of old may) j nothing ∙ e, tt)
+  tells_begun false e = not_begun e
 
   -- ---- its child net ends
 
@@ -151,3 +159,10 @@ module _ (old : Standing) (may : MayStand old) (j : Ident) where
           checks = λ x there. sym ((words_of old may).rule (task_place x.of_task Post));
         })
         refl (placed old f) refl end_allowed
+
+  pub ends_so : LeadsOn old (events.CompleteSub j) → (item_suits (state_of old) CompleteSub j && at_output (state_of old) j) ≡ true
+  ends_so leads = sym (sub_ends_as (state_of old) (words_of old may) j leads.1.said) ∙ leads.1.allowed.0
+
+  pub tells_ended : (b : Bool) → (item_suits (state_of old) CompleteSub j && at_output (state_of old) j) ≡ b → TellsLeads old (events.CompleteSub j) b
+  tells_ended true e = leads_plainly old (events.CompleteSub j) refl (sub_ends_as (state_of old) (words_of old may) j nothing ∙ e, tt)
+  tells_ended false e = not_ended e

@@ -1,11 +1,12 @@
 -- A case begins.
 use Rattle.std.proofs.Common.{ap, sym, ◌∙◌}
-use Rattle.std.specs.Prelude.{Bool, List, None, Some, false, nat_le, refl, true, ℕ, ◌&&◌, ◌+◌, ◌==◌, ◌≡◌, option_and_then, option_map}
+use Rattle.std.proofs.lemmas.Bool.{leb-true}
+use Rattle.std.specs.Prelude.{◌≤◌, Bool, List, None, Some, false, nat_le, refl, true, ℕ, ◌&&◌, ◌+◌, ◌==◌, ◌≡◌, option_and_then, option_map}
 use Rattle.yw_base.specs.Identity.{number_end}
-use Rattle.yw_cases.proofs.Trying.{done, fails, next_is, placed_next, stands_well, words_of}
+use Rattle.yw_cases.proofs.Trying.{done, fails, leads_plainly, next_is, placed_next, stands_well, words_of}
 use Rattle.yw_cases.specs.Rows.{may_begin}
 use Rattle.yw_cases.specs.State.{MayStand, state_of}
-use Rattle.yw_cases.specs.Tried.{IsDone, LeadsNowhere}
+use Rattle.yw_cases.specs.Tried.{IsDone, LeadsNowhere, LeadsOn}
 use Rattle.yw_cases.specs.declared.standing.Standing.{Standing}
 use Rattle.yw_known.proofs.Standing.{kept_called, kept_named, kept_within, specs_are}
 use Rattle.yw_known.specs.Names.{names_of}
@@ -15,6 +16,7 @@ use Rattle.yw_nest.proofs.FromState.{case_begins}
 use Rattle.yw_nest.specs.Cases.{BeginsAs, CaseMayBegin, Launches}
 use Rattle.yw_spec.specs.declared.spec.Net.{Net}
 use Rattle.yw_spec.specs.declared.spec.Spec.{Spec}
+use Rattle.yw_state.proofs.Tests.{and_left, and_right}
 use Rattle.yw_state.specs.After.{with_next}
 use Rattle.yw_state.specs.Allowed.{Allowed, allows, launch_fits}
 use Rattle.yw_state.specs.Map.{get}
@@ -50,6 +52,9 @@ module _ (old : Standing) (may : MayStand old) (n : ℕ) (name : List ℕ) (vals
   no_spec none = fails old (events.Launch n name vals) (λ said. by_none said
       (ap (λ z. option_map (λ (l : Loaded). l.spec) (get z name)) (specs_are old.known old.forest (state_of old) may.held) ∙ ap (option_map (λ (l : Loaded). l.spec)) none))
 
+  pub spec_there : {A : Type 0} → get (library.state_of old.known).specs name ≡ None → LeadsOn old (events.Launch n name vals) → A
+  spec_there none leads = absurd (no_spec none leads.0 leads.1)
+
   module _ (spec : Spec) (number : ℕ) (kept : IsKept old.known name spec number) where
     called : spec_called (state_of old) name ≡ Some spec
     called = kept_called old.known old.forest (state_of old) may.held name spec number kept
@@ -57,12 +62,24 @@ module _ (old : Standing) (may : MayStand old) (n : ℕ) (name : List ℕ) (vals
     named : names_of old.known number ≡ name
     named = kept_named old.known old.forest (state_of old) may.held name spec number kept
 
+    pub launches_so : LeadsOn old (events.Launch n name vals) → may_begin spec old.next n vals ≡ true
+    launches_so leads = sym (by_top leads.1.said spec called) ∙ leads.1.allowed.0
+
+    -- the number behind it is an identity's, or the first that isn't
+    pub next_fits : LeadsOn old (events.Launch n name vals) → n + 1 ≤ number_end
+    next_fits leads =
+        leb-true (n + 1) number_end
+        (and_right (n == old.next) (nat_le (n + 1) number_end) (and_left _ (is_some_and (top_net spec) (λ (net : Net). launch_fits net.vars vals)) (launches_so leads)))
+
     pub not_launched : may_begin spec old.next n vals ≡ false → LeadsNowhere old (events.Launch n name vals)
     not_launched e = fails old (events.Launch n name vals) (λ said. by_top said spec called ∙ e)
 
     module _ (begins : may_begin spec old.next n vals ≡ true) where
       allowed : Allowed (state_of old) (events.Launch n name vals) nothing
       allowed = (by_top nothing spec called ∙ begins, tt)
+
+      pub launches_on : LeadsOn old (events.Launch n name vals)
+      launches_on = leads_plainly old (events.Launch n name vals) refl allowed
 
       pub case_may_begin : CaseMayBegin old.forest spec n
       case_may_begin = case_begins (names_of old.known) old.forest (state_of old) spec n name vals nothing (stands_well old may) (kept_within old.known name spec number kept) allowed

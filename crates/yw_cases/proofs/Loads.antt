@@ -3,7 +3,7 @@ use Rattle.std.proofs.Common.{ap, subst, sym, ◌∙◌}
 use Rattle.std.specs.Prelude.{Bool, List, false, refl, true, ℕ, ◌≡◌}
 use Rattle.yw_library.specs.Ended.{ended_of}
 use Rattle.yw_cases.specs.State.{MayStand, state_of}
-use Rattle.yw_cases.specs.Tried.{IsDone, LeadsNowhere, Tries}
+use Rattle.yw_cases.specs.Tried.{IsDone, LeadsNowhere, LeadsOn, Tries}
 use Rattle.yw_cases.specs.declared.standing.Standing.{Standing}
 use Rattle.yw_known.proofs.Names.{load_keeps_sites}
 use Rattle.yw_known.specs.Names.{names_of}
@@ -57,3 +57,6 @@ module _ (old : Standing) where
       λ t leads. tried.0 (base (sites_of (names_of old.known) old.forest)) t leads,
       ap (λ (z : Holdings). let n : Standing = record old { known = z } in n) tried.1,
     )
+
+  pub person_so : (name : List ℕ) (roles : List (List ℕ)) → LeadsOn old (events.Person name roles) → are_roles roles ≡ true
+  person_so name roles leads = person_roles (state_of old) leads.0 name roles leads.1

@@ -4,7 +4,7 @@ use Rattle.std.specs.Prelude.{Bool, List, [], false, refl, true, ℕ, ◌≡◌}
 use Rattle.yw_accepted.proofs.Loaded.{accepted_are_sound}
 use Rattle.yw_library.specs.Ended.{ended_of}
 use Rattle.yw_cases.specs.State.{MayStand, state_of}
-use Rattle.yw_cases.specs.Tried.{IsDone, IsTried, LeadsNowhere, Tries}
+use Rattle.yw_cases.specs.Tried.{IsDone, IsTried, LeadsNowhere, LeadsOn, TellsLeads, Tries}
 use Rattle.yw_cases.specs.declared.standing.Standing.{Standing}
 use Rattle.yw_invariant.proofs.EventsWell.{event_keeps_well}
 use Rattle.yw_invariant.proofs.FromOpening.{opening_is_well}
@@ -102,6 +102,18 @@ module _ (old : Standing) (f : Forest) where
 
 pub fails : (old : Standing) (e : Event) → ((said : Said) → allows (state_of old) e said ≡ false) → LeadsNowhere old e
 fails old e test t leads = never (sym (test leads.said) ∙ leads.allowed.0)
+
+-- ---- an event that is allowed
+
+pub leads_plainly : (old : Standing) (e : Event) → Says reader (state_of old) e nothing → Allowed (state_of old) e nothing → LeadsOn old e
+leads_plainly old e says allowed = (after (state_of old) e nothing, record { said = nothing; says = says; allowed = allowed; then = refl })
+
+-- it isn't refused
+pub leads_not : {A : Type 0} (old : Standing) (e : Event) (leads : Bool) (new : Standing) → leads ≡ false → Tries old e leads new → LeadsOn old e → A
+leads_not old e leads new is tried (t, on) = absurd ((subst (λ (b : Bool). Tries old e b new) is tried).0 t on)
+
+pub leads_so : (old : Standing) (e : Event) (leads : Bool) (new : Standing) → leads ≡ true → Tries old e leads new → IsDone old e new
+leads_so old e leads new is tried = subst (λ (b : Bool). Tries old e b new) is tried
 
 -- ---- all that is kept
 

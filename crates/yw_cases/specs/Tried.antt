@@ -18,6 +18,15 @@ use Rattle.yw_tree.specs.Forest.{IsForest}
 abbrev pub LeadsNowhere : Standing → Event → Type 0
 LeadsNowhere old e = (t : State) → Leads reader (state_of old) e t → ⊥
 
+-- the event is allowed, and leads to a state
+abbrev pub LeadsOn : Standing → Event → Type 0
+LeadsOn old e = (t : State) × Leads reader (state_of old) e t
+
+-- whether it does
+abbrev pub TellsLeads : Standing → Event → Bool → Type 0
+TellsLeads old e true = LeadsOn old e
+TellsLeads old e false = LeadsNowhere old e
+
 -- the event is allowed and leads to the state that new stands for; or it leads nowhere, and nothing has changed
 abbrev pub IsTried : Standing → Event → Bool → Standing → Type 0
 IsTried old e true new = Leads reader (state_of old) e (state_of new)

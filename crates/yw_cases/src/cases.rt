@@ -1,8 +1,8 @@
 // All that is kept, so that an event leads from one state that is well to another.
-ghost use Rattle.std.specs.Prelude.{◌≡◌, IfOk, MatchOption, OnErr, true};
+ghost use Rattle.std.specs.Prelude.{◌≡◌, IfOk, MatchOption, OnErr, OnOk, true};
 ghost use Rattle.yw_library.specs.Ended.{ended_of};
 ghost use Rattle.yw_cases.specs.State.{MayStand, standing_of, state_of};
-ghost use Rattle.yw_cases.specs.Tried.{IsEnteredNowhere, IsTried, IsUnfit};
+ghost use Rattle.yw_cases.specs.Tried.{IsEnteredNowhere, IsTried, IsUnfit, LeadsOn};
 ghost use Rattle.yw_library.specs.Accepts.{IfRefused};
 ghost use Rattle.yw_model.specs.Texts.{reader};
 ghost use Rattle.yw_plain.specs.Plain.{is_plain_event};
@@ -14,7 +14,7 @@ ghost use Rattle.yw_state.specs.declared.event.Event.TheVariants as events;
 ghost use Rattle.yw_walk.specs.Finds.{ComesPlainly, EntersAs};
 
 use crate::entered::entry_event;
-use crate::event::try_event;
+use crate::event::{act, try_event};
 use crate::library::load;
 use crate::standing::Standing;
 use std::alloc::{AllocError, Global};
@@ -123,6 +123,27 @@ impl Cases {
                 Ok(true)
             }
             Ok(false) => Ok(false),
+            Err(AllocError) => {
+                forget(self.alloc, &mut self.standing);
+                self.loose.forget();
+                Err(AllocError)
+            }
+        }
+    }
+
+    /// Does an event that is allowed: the state is then that after it. Nothing is tested. An `Err` says that no memory was left; then nothing is
+    /// kept any more.
+    pub fn act(&mut self, event: &Event) -> Result<(), AllocError>
+        requires plain { is_plain_event event.now ≡ true }
+        requires leads { LeadsOn self.old event.now }
+        ensures done { OnOk result (Leads reader (state_of self.old) event.now (state_of self.new)) }
+        ensures err { OnErr result (state_of self.new ≡ opening) }
+    {
+        match act(self.alloc, &mut self.standing, event) {
+            Ok(()) => {
+                self.loose.after(self.alloc, &self.standing.forest, event);
+                Ok(())
+            }
             Err(AllocError) => {
                 forget(self.alloc, &mut self.standing);
                 self.loose.forget();

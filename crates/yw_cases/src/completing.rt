@@ -1,8 +1,8 @@
 // A person completes an item.
-ghost use Rattle.std.specs.Prelude.{◌≡◌, IfOk, MatchOption};
+ghost use Rattle.std.specs.Prelude.{◌≡◌, IfOk, MatchOption, OnOk};
 ghost use Rattle.yw_cases.specs.Completing.{IsStartedBy, MayNotComplete};
 ghost use Rattle.yw_cases.specs.State.{MayStand};
-ghost use Rattle.yw_cases.specs.Tried.{Tries};
+ghost use Rattle.yw_cases.specs.Tried.{IsDone, LeadsOn, Tries};
 ghost use Rattle.yw_state.specs.declared.event.Event.TheVariants as events;
 
 use crate::items::outer_net;
@@ -64,4 +64,20 @@ pub fn try_complete(
     );
     let leads = was_done(done)?;
     Ok(leads)
+}
+
+/// The person who started an item completes it with these values, as is allowed. An `Err` says that no memory was left.
+pub fn act_complete(
+    alloc: Global,
+    standing: &mut Standing,
+    j: &Ident,
+    out: &Row,
+) -> Result<(), AllocError>
+    requires stands { MayStand standing.old }
+    requires leads { LeadsOn standing.old (events.Complete j.now out.now) }
+    ensures { OnOk result (IsDone standing.old (events.Complete j.now out.now) standing.new) }
+{
+    let made = copy_row(alloc, out)?;
+    yw_steps::finish_at(&mut standing.forest, j, made, NO_CHECKS);
+    Ok(())
 }

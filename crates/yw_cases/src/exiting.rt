@@ -1,8 +1,8 @@
 // A task exits.
-ghost use Rattle.std.specs.Prelude.{◌≡◌, IfOk, MatchOption};
+ghost use Rattle.std.specs.Prelude.{◌≡◌, IfOk, MatchOption, OnOk};
 ghost use Rattle.yw_cases.specs.Exiting.{IsExit, IsSplitTo};
 ghost use Rattle.yw_cases.specs.State.{MayStand};
-ghost use Rattle.yw_cases.specs.Tried.{LeadsNowhere, Tries};
+ghost use Rattle.yw_cases.specs.Tried.{IsDone, LeadsNowhere, LeadsOn, Tries};
 ghost use Rattle.yw_state.specs.declared.event.Event.TheVariants as events;
 
 use crate::here::known_net;
@@ -80,4 +80,26 @@ pub fn try_exit(
     };
     let _numbers = yw_steps::exit(alloc, &mut standing.forest, found.net, at, t, false)?;
     Ok(true)
+}
+
+/// A task exits, and a token comes to each of these places, as is allowed. An `Err` says that no memory was left.
+pub fn act_exit(
+    alloc: Global,
+    standing: &mut Standing,
+    at: &Ident,
+    name: &Name,
+    _places: &PlaceList,
+) -> Result<(), AllocError>
+    requires stands { MayStand standing.old }
+    requires leads { LeadsOn standing.old (events.Exit at.now name.now _places.now) }
+    ensures { OnOk result (IsDone standing.old (events.Exit at.now name.now _places.now) standing.new) }
+{
+    let Some(found) = known_net(&standing.known, &standing.forest, at) else {
+        unreachable!();
+    };
+    let Some(t) = task_called(found.net, name) else {
+        unreachable!();
+    };
+    let _numbers = yw_steps::exit(alloc, &mut standing.forest, found.net, at, t, false)?;
+    Ok(())
 }

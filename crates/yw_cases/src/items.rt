@@ -1,10 +1,10 @@
 // Items that go on: one is started, a child net begins or ends at one, or one of an empty task is completed.
-ghost use Rattle.std.specs.Prelude.{◌≡◌, ◌&&◌, IfOk, None, MatchOption};
+ghost use Rattle.std.specs.Prelude.{◌≡◌, ◌&&◌, IfOk, None, MatchOption, OnOk};
 ghost use Rattle.yw_cases.specs.Here.{IsNetKnown};
 ghost use Rattle.yw_cases.specs.Items.{item_suits, suits};
 ghost use Rattle.yw_cases.specs.State.{MayStand, state_of};
 ghost use Rattle.yw_cases.specs.declared.items.ItemEvent.TheVariants.{CompleteSub};
-ghost use Rattle.yw_cases.specs.Tried.{Tries};
+ghost use Rattle.yw_cases.specs.Tried.{IsDone, LeadsOn, TellsLeads};
 ghost use Rattle.yw_known.specs.Held.{IsHeld};
 ghost use Rattle.yw_state.specs.Identity.{parent};
 ghost use Rattle.yw_state.specs.Joins.{at_output};
@@ -80,56 +80,6 @@ pub fn outer_net<'a>(
     }
 }
 
-/// A person starts an item, where that is allowed.
-pub fn try_start(
-    alloc: Global,
-    standing: &mut Standing,
-    j: &Ident,
-    who: &Name,
-) -> Result<bool, AllocError>
-    requires { MayStand standing.old }
-    ensures { IfOk result (λ leads. Tries standing.old (events.Start j.now who.now) leads standing.new) }
-{
-    if !item_suits(alloc, standing, ItemEvent::Start, j)? {
-        return Ok(false);
-    }
-    match yw_steps::start(&mut standing.forest, j, who.copy()?) {
-        Ok(()) => Ok(true),
-        Err(_) => Ok(false),
-    }
-}
-
-/// An item of an empty task is completed, where that is allowed.
-pub fn try_complete_empty(
-    alloc: Global,
-    standing: &mut Standing,
-    j: &Ident,
-) -> Result<bool, AllocError>
-    requires { MayStand standing.old }
-    ensures { IfOk result (λ leads. Tries standing.old (events.CompleteEmpty j.now) leads standing.new) }
-{
-    if !item_suits(alloc, standing, ItemEvent::CompleteEmpty, j)? {
-        return Ok(false);
-    }
-    yw_nest::complete_empty(alloc, &mut standing.forest, j);
-    Ok(true)
-}
-
-/// The child net of an item begins, where that is allowed.
-pub fn try_start_sub(alloc: Global, standing: &mut Standing, j: &Ident) -> Result<bool, AllocError>
-    requires { MayStand standing.old }
-    ensures { IfOk result (λ leads. Tries standing.old (events.StartSub j.now) leads standing.new) }
-{
-    if !item_suits(alloc, standing, ItemEvent::StartSub, j)? {
-        return Ok(false);
-    }
-    let Some(outer) = outer_net(alloc, &standing.known, &standing.forest, j)? else {
-        return Ok(false);
-    };
-    yw_nest::start_sub(alloc, &mut standing.forest, outer.spec, j)?;
-    Ok(true)
-}
-
 /// The item at an identity is one whose child net is at its end. An `Err` says that no memory was left.
 fn sub_ends(alloc: Global, standing: &Standing, j: &Ident) -> Result<bool, AllocError>
     requires { MayStand standing.now }
@@ -141,21 +91,83 @@ fn sub_ends(alloc: Global, standing: &Standing, j: &Ident) -> Result<bool, Alloc
     )
 }
 
-/// The child net of an item ends, where that is allowed.
-pub fn try_complete_sub(
+/// Whether a person may start an item. An `Err` says that no memory was left.
+pub fn may_start(
     alloc: Global,
-    standing: &mut Standing,
+    standing: &Standing,
     j: &Ident,
+    who: &Name,
 ) -> Result<bool, AllocError>
-    requires { MayStand standing.old }
-    ensures { IfOk result (λ leads. Tries standing.old (events.CompleteSub j.now) leads standing.new) }
+    requires { MayStand standing.now }
+    ensures { IfOk result (TellsLeads standing.now (events.Start j.now who.now)) }
 {
-    if !sub_ends(alloc, standing, j)? {
-        return Ok(false);
-    }
+    item_suits(alloc, standing, ItemEvent::Start, j)
+}
+
+/// A person starts an item, as is allowed. An `Err` says that no memory was left.
+pub fn act_start(standing: &mut Standing, j: &Ident, who: &Name) -> Result<(), AllocError>
+    requires stands { MayStand standing.old }
+    requires leads { LeadsOn standing.old (events.Start j.now who.now) }
+    ensures { OnOk result (IsDone standing.old (events.Start j.now who.now) standing.new) }
+{
+    let starter = who.copy()?;
+    yw_steps::begin(&mut standing.forest, j, starter);
+    Ok(())
+}
+
+/// Whether an item may be completed as one of an empty task. An `Err` says that no memory was left.
+pub fn may_complete_empty(alloc: Global, standing: &Standing, j: &Ident) -> Result<bool, AllocError>
+    requires { MayStand standing.now }
+    ensures { IfOk result (TellsLeads standing.now (events.CompleteEmpty j.now)) }
+{
+    item_suits(alloc, standing, ItemEvent::CompleteEmpty, j)
+}
+
+/// An item of an empty task is completed, as is allowed. It takes no memory.
+pub fn act_complete_empty(alloc: Global, standing: &mut Standing, j: &Ident)
+    requires stands { MayStand standing.old }
+    requires leads { LeadsOn standing.old (events.CompleteEmpty j.now) }
+    ensures { IsDone standing.old (events.CompleteEmpty j.now) standing.new }
+{
+    yw_nest::complete_empty(alloc, &mut standing.forest, j);
+}
+
+/// Whether the child net of an item may begin. An `Err` says that no memory was left.
+pub fn may_start_sub(alloc: Global, standing: &Standing, j: &Ident) -> Result<bool, AllocError>
+    requires { MayStand standing.now }
+    ensures { IfOk result (TellsLeads standing.now (events.StartSub j.now)) }
+{
+    item_suits(alloc, standing, ItemEvent::StartSub, j)
+}
+
+/// The child net of an item begins, as is allowed. An `Err` says that no memory was left.
+pub fn act_start_sub(alloc: Global, standing: &mut Standing, j: &Ident) -> Result<(), AllocError>
+    requires stands { MayStand standing.old }
+    requires leads { LeadsOn standing.old (events.StartSub j.now) }
+    ensures { OnOk result (IsDone standing.old (events.StartSub j.now) standing.new) }
+{
     let Some(outer) = outer_net(alloc, &standing.known, &standing.forest, j)? else {
-        return Ok(false);
+        unreachable!();
     };
-    yw_nest::complete_sub(alloc, &mut standing.forest, outer.spec, j, NO_CHECKS)?;
-    Ok(true)
+    yw_nest::start_sub(alloc, &mut standing.forest, outer.spec, j)
+}
+
+/// Whether the child net of an item may end: it is at its end. An `Err` says that no memory was left.
+pub fn may_complete_sub(alloc: Global, standing: &Standing, j: &Ident) -> Result<bool, AllocError>
+    requires { MayStand standing.now }
+    ensures { IfOk result (TellsLeads standing.now (events.CompleteSub j.now)) }
+{
+    sub_ends(alloc, standing, j)
+}
+
+/// The child net of an item ends, as is allowed. An `Err` says that no memory was left.
+pub fn act_complete_sub(alloc: Global, standing: &mut Standing, j: &Ident) -> Result<(), AllocError>
+    requires stands { MayStand standing.old }
+    requires leads { LeadsOn standing.old (events.CompleteSub j.now) }
+    ensures { OnOk result (IsDone standing.old (events.CompleteSub j.now) standing.new) }
+{
+    let Some(outer) = outer_net(alloc, &standing.known, &standing.forest, j)? else {
+        unreachable!();
+    };
+    yw_nest::complete_sub(alloc, &mut standing.forest, outer.spec, j, NO_CHECKS)
 }

@@ -1,7 +1,7 @@
 // Persons, and specifications that are loaded.
-ghost use Rattle.std.specs.Prelude.{◌≡◌, IfOk};
+ghost use Rattle.std.specs.Prelude.{◌≡◌, IfOk, OnOk};
 ghost use Rattle.yw_cases.specs.State.{MayStand};
-ghost use Rattle.yw_cases.specs.Tried.{IsDone, IsUnfit, Tries};
+ghost use Rattle.yw_cases.specs.Tried.{IsDone, IsUnfit, LeadsOn, Tries};
 ghost use Rattle.yw_library.specs.Accepts.{IfRefused};
 ghost use Rattle.yw_state.specs.Allowed.{are_roles};
 ghost use Rattle.yw_state.specs.declared.event.Event.TheVariants as events;
@@ -55,4 +55,14 @@ pub fn load(standing: &mut Standing, text: &str) -> Result<Name, LibraryFault>
         Ok(name) => Ok(name),
         Err(fault) => Err(fault),
     }
+}
+
+/// Sets a person's roles, as is allowed. An `Err` says that no memory was left.
+pub fn act_person(standing: &mut Standing, name: &Name, roles: &NameList) -> Result<(), AllocError>
+    requires stands { MayStand standing.old }
+    requires leads { LeadsOn standing.old (events.Person name.now roles.now) }
+    ensures { OnOk result (IsDone standing.old (events.Person name.now roles.now) standing.new) }
+{
+    standing.known.person(name, roles)?;
+    Ok(())
 }

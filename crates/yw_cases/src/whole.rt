@@ -1,8 +1,8 @@
 // Cases that begin, and that are over.
-ghost use Rattle.std.specs.Prelude.{◌≡◌, IfOk};
+ghost use Rattle.std.specs.Prelude.{◌≡◌, IfOk, OnOk};
 ghost use Rattle.yw_cases.specs.Rows.{may_begin};
 ghost use Rattle.yw_cases.specs.State.{MayStand, state_of};
-ghost use Rattle.yw_cases.specs.Tried.{Tries};
+ghost use Rattle.yw_cases.specs.Tried.{IsDone, LeadsOn, Tries};
 ghost use Rattle.yw_spec.specs.declared.spec.Net.{Net};
 ghost use Rattle.yw_state.specs.Allowed.{launch_fits};
 ghost use Rattle.yw_state.specs.Identity.{case_ident};
@@ -55,23 +55,13 @@ pub fn try_launch(
     requires { MayStand standing.old }
     ensures { IfOk result (λ leads. Tries standing.old (events.Launch n name.now values.now) leads standing.new) }
 {
-    let Some((spec, number)) = standing.known.spec_named(name) else {
+    let Some((spec, _number)) = standing.known.spec_named(name) else {
         return Ok(false);
     };
     if !may_begin(spec, standing.next, n, values) {
         return Ok(false);
     }
-    let copy = copy_row(alloc, values)?;
-    yw_nest::launch(
-        alloc,
-        &mut standing.forest,
-        spec,
-        number,
-        n,
-        copy,
-        NO_CHECKS,
-    )?;
-    standing.next = n + 1;
+    act_launch(alloc, standing, n, name, values)?;
     Ok(true)
 }
 
@@ -94,8 +84,7 @@ pub fn try_finish(alloc: Global, standing: &mut Standing, n: u64) -> Result<bool
     if !case_at_output(alloc, standing, n)? {
         return Ok(false);
     }
-    standing.ended.put(n, Way::Finished)?;
-    yw_nest::finish(&mut standing.forest, n);
+    act_finish(standing, n)?;
     Ok(true)
 }
 
@@ -115,8 +104,7 @@ pub fn try_cancel(standing: &mut Standing, n: u64) -> Result<bool, AllocError>
     if !case_stands(standing, n) {
         return Ok(false);
     }
-    standing.ended.put(n, Way::Cancelled)?;
-    yw_nest::cancel(&mut standing.forest, n);
+    act_cancel(standing, n)?;
     Ok(true)
 }
 
@@ -126,4 +114,55 @@ pub fn may_advance(standing: &Standing, n: u64) -> bool
     ensures { Tries standing.now (events.Advance n) result standing.now }
 {
     case_stands(standing, n)
+}
+
+/// Finishes a case, as is allowed. An `Err` says that no memory was left.
+pub fn act_finish(standing: &mut Standing, n: u64) -> Result<(), AllocError>
+    requires stands { MayStand standing.old }
+    requires leads { LeadsOn standing.old (events.Finish n) }
+    ensures { OnOk result (IsDone standing.old (events.Finish n) standing.new) }
+{
+    standing.ended.put(n, Way::Finished)?;
+    yw_nest::finish(&mut standing.forest, n);
+    Ok(())
+}
+
+/// Cancels a case, as is allowed. An `Err` says that no memory was left.
+pub fn act_cancel(standing: &mut Standing, n: u64) -> Result<(), AllocError>
+    requires stands { MayStand standing.old }
+    requires leads { LeadsOn standing.old (events.Cancel n) }
+    ensures { OnOk result (IsDone standing.old (events.Cancel n) standing.new) }
+{
+    standing.ended.put(n, Way::Cancelled)?;
+    yw_nest::cancel(&mut standing.forest, n);
+    Ok(())
+}
+
+/// Begins a case, as is allowed. An `Err` says that no memory was left.
+pub fn act_launch(
+    alloc: Global,
+    standing: &mut Standing,
+    n: u64,
+    name: &Name,
+    values: &Row,
+) -> Result<(), AllocError>
+    requires stands { MayStand standing.old }
+    requires leads { LeadsOn standing.old (events.Launch n name.now values.now) }
+    ensures { OnOk result (IsDone standing.old (events.Launch n name.now values.now) standing.new) }
+{
+    let Some((spec, number)) = standing.known.spec_named(name) else {
+        unreachable!();
+    };
+    let copy = copy_row(alloc, values)?;
+    yw_nest::launch(
+        alloc,
+        &mut standing.forest,
+        spec,
+        number,
+        n,
+        copy,
+        NO_CHECKS,
+    )?;
+    standing.next = n + 1;
+    Ok(())
 }

@@ -3,7 +3,6 @@ use Rattle.std.specs.Prelude.{MatchOption}
 use Rattle.std.proofs.Common.{◌≡◌, ◌↔◌, ◌∙◌, Bool, Err, IfOk, IsTrue, None, Ok, Option, Result, Some, ap, false, refl, subst, sym, true, ℕ}
 use Rattle.yw_built.specs.Built.{is_built}
 use Rattle.yw_cases.specs.State.{MayStand, state_of}
-use Rattle.yw_cases.specs.Tried.{IsTried}
 use Rattle.yw_cases.specs.declared.standing.Standing.{Standing}
 use Rattle.yw_engine.specs.Decides.{IsDone, IsNext, LeadsOn}
 use Rattle.yw_engine.proofs.Parts.{held_by, next_of}
@@ -56,12 +55,6 @@ plain_is_built (events.CompleteSub j) plain = refl
 plain_is_built (events.CompleteEmpty j) plain = refl
 plain_is_built (events.Advance n) plain = refl
 plain_is_built e plain = never plain
-
--- ---- what is tried
-
--- what leads on isn't refused
-pub leads_not : (old : Standing) (e : Event) (leads : Bool) (new : Standing) → leads ≡ false → IsTried old e leads new → LeadsOn old e → ⊥
-leads_not old e leads new is tried (t, leads_to) = (subst (λ (b : Bool). IsTried old e b new) is tried).0 t leads_to
 
 -- ---- what comes of itself
 

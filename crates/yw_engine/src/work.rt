@@ -89,9 +89,8 @@ impl Work {
         requires leads { LeadsOn self.old.standing event.now }
         ensures { OnOk result (IsDone self.old.standing event.now self.new.standing) }
     {
-        if !self.try_event(event)? {
-            unreachable!();
-        }
+        self.standing.act(event)?;
+        self.standing.may_stand();
         Ok(())
     }
 }

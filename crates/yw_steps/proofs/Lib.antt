@@ -8,4 +8,4 @@ mod PostLaw
 mod ExitLaw
 mod Gathered
 mod CompleteLaw
-mod FromState
+pub mod FromState

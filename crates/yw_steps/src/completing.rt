@@ -57,8 +57,9 @@ pub fn ask_complete(
     first_broken(alloc, forest, net, j, who, out)
 }
 
-/// The item at an identity is completed, and has made these values. If `due` says so, the check after it is due.
-fn finish_at(forest: &mut Forest, j: &Ident, out: Row, due: Checks)
+/// The item at an identity is completed, and has made these values. If `due` says so, the check after it is due. Nothing is tested. It takes no
+/// memory.
+pub fn finish_at(forest: &mut Forest, j: &Ident, out: Row, due: Checks)
     requires boxed { IsForest forest.old }
     requires stands { IsSome (item_of forest.old j.now) }
     ensures { (net : Net) → Completes net j.now out due forest.old forest.new }

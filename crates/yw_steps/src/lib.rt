@@ -13,7 +13,7 @@ mod starting;
 mod together;
 
 pub use adding::add;
-pub use completing::{ask_complete, complete};
+pub use completing::{ask_complete, complete, finish_at};
 pub use entering::enter;
 pub use exiting::exit;
-pub use starting::start;
+pub use starting::{begin, start};

@@ -12,7 +12,8 @@ use yw_base::Name;
 use yw_state::{Rule, Stage};
 use yw_tree::Node;
 
-fn begin(node: &mut Node, who: Name)
+/// The item is executing by the person from now on. Nothing is tested. It takes no memory.
+pub fn begin(node: &mut Node, who: Name)
     ensures { out-Node node.new ≡ record (out-Node node.old) { stage = Executing; who = Some who } }
 {
     node.stage = Stage::Executing;

@@ -25,7 +25,7 @@ pub use entering::enter;
 pub use exits::{exit, exit_places};
 pub use fault::StepFault;
 pub use giving::{count_rule, element_count, first_lacking};
-pub use item::start;
+pub use item::{begin, start};
 pub use made::{int_in, is_text, items_in, made_by, text_in};
 pub use region::empty_region;
 pub use waits::{is_active, or_waits};
