@@ -1,51 +1,63 @@
--- The children of tasks: which nets they name, how many name one, and the nets on the ways down.
-use Rattle.std.proofs.Common.{◌≡◌, ◌==◌, ℕ, zero, suc, ◌+◌, ◌<◌, ◌⊎◌, inl, inr, Bool, true, false, cond, List, [], ◌∷◌, ◌++◌, length, get_or, All, Option, Some, None, Contains, count_by, bytes_eq, option_map, refl, sym, ap, ◌∙◌, subst, arith, zero-add}
+-- The children of tasks: which nets they name, and which nets lead to which.
+use Rattle.std.proofs.Common.{◌≡◌, ◌↔◌, ℕ, zero, suc, ◌+◌, ◌<◌, ◌⊎◌, inl, inr, Bool, true, false, List, [], ◌∷◌, ◌++◌, length, get_or, Option, Some, None, Contains, option_map, refl, sym, ap, ◌∙◌, subst, arith}
 use Rattle.std.specs.List.{filter_map, flat_map, cons_option}
-use Rattle.std.specs.Option.{option_map_or}
-use Rattle.std.proofs.lemmas.Bool.{and_parts, cases_Bool, false_from_ne_true, false≢true}
-use Rattle.std.proofs.lemmas.Bool.Decides.{Decides-eqb}
-use Rattle.std.proofs.lemmas.List.Elements.{All-head, All-tail, Contains-append_cases, Contains-append_left, Contains-append_right}
-use Rattle.std.proofs.lemmas.List.Sums.{sum_by-append, sum_by-cons}
-use Rattle.std.proofs.lemmas.Slice.Eq.{bytes_eq-Decides}
+use Rattle.std.specs.Prelude.{IsSome, if◌then◌else◌, slice_get}
+use Rattle.std.proofs.lemmas.Bool.{cases_Bool, false≢true}
+use Rattle.std.proofs.lemmas.List.{get_or_default}
+use Rattle.std.proofs.lemmas.List.Elements.{Contains-append_cases, Contains-append_left, Contains-append_right}
 use Rattle.yw_read.specs.declared.raw.RawFlow.{RawFlow}
-use Rattle.yw_read.specs.declared.raw.RawKind.{RawKind}
-use Rattle.yw_read.specs.declared.raw.RawKind.TheVariants as kinds
 use Rattle.yw_read.specs.declared.raw.RawNet.{RawNet}
 use Rattle.yw_read.specs.declared.raw.RawSpec.{RawSpec}
 use Rattle.yw_read.specs.declared.raw.RawTask.{RawTask}
 use Rattle.yw_reach.specs.declared.flow.Flow.{Flow}
-use Rattle.yw_reach.specs.Flows.{HasFlow, IsWithin}
-use Rattle.yw_reach.specs.Renaming.{HasPair, Renames, named_flows}
+use Rattle.yw_reach.specs.Flows.{HasFlow}
+use Rattle.yw_reach.specs.Renaming.{HasPair, Renames}
+use Rattle.yw_reach.specs.Walks.{PathAlong, WalkAlong}
 use Rattle.yw_reach.proofs.Renaming.{pairs_rename}
 use Rattle.yw_accept.specs.Facts.{AreDistinct}
-use Rattle.yw_accept.specs.Graph.{ChildFits, ChildrenFit, Holds, all_tasks, child, may_be_child, names_net, names_of_kind}
-use Rattle.yw_accept.specs.Nodes.{is_net, net_names}
-use Rattle.yw_accept.specs.Order.{InOrder}
-use Rattle.yw_accept.proofs.FactsLemmas.{order_all}
+use Rattle.yw_accept.specs.Graph.{Holds, LeadsBack, child}
+use Rattle.yw_accept.specs.Nodes.{is_name_among, is_net, net_names}
+use Rattle.yw_accept.proofs.Among.{among_at}
+use Rattle.yw_accept.proofs.Lists.{contains_map}
 use Rattle.yw_check_graph.specs.Graph.{AreNumbered, flow_between, name_at}
-use Rattle.yw_check_graph.specs.Nets.{ChildrenAreAmong, NetChildrenFit, link, links, links_from}
+use Rattle.yw_check_graph.specs.Nets.{IsChildNumber, IsMarkedAt, TellsBack, among, child_among, link, links, links_from}
+use Rattle.yw_check_graph.proofs.LinkLemmas.{count_of_nets}
+use Rattle.yw_check_graph.proofs.NumberLemmas.{found_at}
 use Rattle.yw_check_graph.proofs.PathLemmas.{pairing}
 
--- ---- the nets that tasks name are nets
+-- ---- the nets that tasks name
 
-task_child : (raw : RawSpec) (kind : RawKind) (net : Option (List ℕ)) (name : List ℕ) → may_be_child raw kind net ≡ true → names_of_kind kind net ≡ Some name → is_net raw name ≡ true
-task_child raw kinds.Sub (Some net) name h e =
-    let same : net ≡ name = cc in
-    let P : List ℕ → Type 0 = λ n. is_net raw n ≡ true in
-    subst P same (and_parts _ _ h).0
-task_child raw kinds.Sub None name h e = cc
-task_child raw kinds.Atomic net name h e = cc
-task_child raw kinds.Empty net name h e = cc
+kept_if : (b : Bool) (n name : List ℕ) → (if b then Some n else None) ≡ Some name → (b ≡ true) × (n ≡ name)
+kept_if true n name e = (refl, cc)
+kept_if false n name e = cc
 
-pub children_among : (raw : RawSpec) → InOrder (NetChildrenFit raw) raw.net None → All (ChildrenAreAmong (net_names raw.net)) raw.net
-children_among raw h = λ i d lt j e le name is.
-    let net : RawNet = get_or raw.net i d in
-    let task : RawTask = get_or net.task j e in
-    task_child raw task.kind task.net name (order_all (ChildFits raw net) net.task (order_all (NetChildrenFit raw) raw.net h i d lt) j e le) is
+among_is : (names : List (List ℕ)) (o : Option (List ℕ)) (name : List ℕ) → among names o ≡ Some name → (o ≡ Some name) × (is_name_among names name ≡ true)
+among_is names None name e = cc
+among_is names (Some n) name e =
+    let r = kept_if (is_name_among names n) n name e in
+    let P : List ℕ → Type 0 = λ m. is_name_among names m ≡ true in
+    (ap Some r.1, subst P r.1 r.0)
 
-pub nets_among : (raw : RawSpec) → ChildrenFit raw None → All (ChildrenAreAmong (net_names raw.net)) raw.net
-unfolding ChildrenFit
-nets_among raw h = children_among raw h.0
+among_some : (names : List (List ℕ)) (o : Option (List ℕ)) (name : List ℕ) → o ≡ Some name → is_name_among names name ≡ true → among names o ≡ Some name
+among_some names o name e is = ap (among names) e ∙ ap (λ b. if b then Some name else None) is
+
+among_none : (names : List (List ℕ)) (o : Option (List ℕ)) (name : List ℕ) → o ≡ Some name → (is_name_among names name ≡ true → ⊥) → among names o ≡ None
+among_none names o name e isnt = ap (among names) e ∙ elim (cases_Bool (is_name_among names name)) [
+  | inl t ↦ absurd (isnt t)
+  | inr f ↦ ap (λ b. if b then Some name else None) f
+]
+
+is_among_at : (names : List (List ℕ)) (k : ℕ) → k < length names → is_name_among names (name_at names k) ≡ true
+is_among_at names k lt = among_at names (name_at names k) (k, lt, get_or_default names k (name_at names k) [] lt)
+
+pub child_nowhere : (names : List (List ℕ)) (task : RawTask) → child task ≡ None → IsChildNumber names task None
+child_nowhere names task e = ap (among names) e
+
+pub child_numbered : (names : List (List ℕ)) (task : RawTask) (text : List ℕ) (r : Option ℕ) → child task ≡ Some text → ((k : ℕ) → r ≡ Some k → slice_get names k ≡ Some text) → (is_name_among names text ≡ true → IsSome r) → IsChildNumber names task r
+child_numbered names task text None e found missed = among_none names (child task) text e (λ t. false≢true (missed t))
+child_numbered names task text (Some k) e found missed =
+    let at = found_at names k text (found k refl) in
+    (at.0, among_some names (child task) (name_at names k) (e ∙ ap Some (sym at.1)) (is_among_at names k at.0))
 
 -- ---- a net holds a task that names another exactly where a flow goes between them
 
@@ -92,77 +104,80 @@ linked outer (Some z) x y e =
     let parts = pairing outer z x y same in
     (parts.0, ap Some parts.1)
 
-pub holds_of_link : (raw : RawSpec) (x y : List ℕ) → HasPair flow_between (links raw.net) x y → Holds raw x y
-holds_of_link raw x y c =
-    let r = joined_from (λ (net : RawNet). links_from net.name net.task) raw.net (flow_between x y) c in
-    let net : RawNet = r.0 in
-    let s = kept_from (link net.name) net.task (flow_between x y) r.2 in
-    let task : RawTask = s.0 in
-    let parts = linked net.name (child task) x y s.2 in
-    (net, r.1, parts.0, task, s.1, parts.1)
+module _ (raw : RawSpec) where
+  -- a net holds a task that names a net of the specification
+  abbrev pub HoldsNet : List ℕ → List ℕ → Type 0
+  HoldsNet outer inner = Holds raw outer inner × (is_net raw inner ≡ true)
 
-pub link_of_holds : (raw : RawSpec) (x y : List ℕ) → Holds raw x y → HasPair flow_between (links raw.net) x y
-link_of_holds raw x y h =
-    let net : RawNet = h.0 in
-    let task : RawTask = h.3 in
-    let P : List ℕ → Type 0 = λ outer. Contains (links raw.net) (flow_between outer y) in
-    subst P h.2 (has_joined (λ (n : RawNet). links_from n.name n.task) raw.net net (flow_between net.name y) h.1
-    (has_kept (link net.name) net.task task (flow_between net.name y) h.4 (ap (option_map (flow_between net.name)) h.5)))
+  abbrev HasLink : List ℕ → List ℕ → Type 0
+  HasLink x y = HasPair flow_between (links (net_names raw.net) raw.net) x y
 
-pub nets_rename : (raw : RawSpec) (flows : List Flow) → AreDistinct (net_names raw.net) → AreNumbered (net_names raw.net) (links raw.net) flows → Renames (length (net_names raw.net)) (name_at (net_names raw.net)) (HasFlow flows) (Holds raw)
-nets_rename raw flows distinct numbered =
-    let r : Renames (length (net_names raw.net)) (name_at (net_names raw.net)) (HasFlow flows) (HasPair flow_between (links raw.net)) =
-    pairs_rename (length (net_names raw.net)) (name_at (net_names raw.net)) flow_between (links raw.net) flows distinct pairing numbered.within numbered.same in
-    record {
-      distinct = r.distinct;
-      named = λ i j f. holds_of_link raw (name_at (net_names raw.net) i) (name_at (net_names raw.net) j) (r.named i j f);
-      numbered = λ x y h. r.numbered x y (link_of_holds raw x y h);
-    }
+  holds_of_link : (x y : List ℕ) → HasLink x y → HoldsNet x y
+  holds_of_link x y c =
+      let r = joined_from (λ (net : RawNet). links_from (net_names raw.net) net.name net.task) raw.net (flow_between x y) c in
+      let net : RawNet = r.0 in
+      let s = kept_from (link (net_names raw.net) net.name) net.task (flow_between x y) r.2 in
+      let task : RawTask = s.0 in
+      let parts = linked net.name (child_among (net_names raw.net) task) x y s.2 in
+      let is = among_is (net_names raw.net) (child task) y parts.1 in
+      ((net, r.1, parts.0, task, s.1, is.0), is.1)
 
--- ---- as many tasks name a net as flows go to it
+  link_of_holds : (x y : List ℕ) → HoldsNet x y → HasLink x y
+  link_of_holds x y (h, is) =
+      let net : RawNet = h.0 in
+      let task : RawTask = h.3 in
+      let P : List ℕ → Type 0 = λ outer. Contains (links (net_names raw.net) raw.net) (flow_between outer y) in
+      subst P h.2 (has_joined (λ (n : RawNet). links_from (net_names raw.net) n.name n.task) raw.net net (flow_between net.name y) h.1
+      (has_kept (link (net_names raw.net) net.name) net.task task (flow_between net.name y) h.4 (ap (option_map (flow_between net.name)) (among_some (net_names raw.net) (child task) y h.5 is))))
 
-count_by-cons : {A : Type 0} (p : A → Bool) (x : A) (xs : List A) → count_by p (x ∷ xs) ≡ cond (p x) 1 0 + count_by p xs
-count_by-cons p x xs = sum_by-cons (λ y. cond (p y) 1 0) x xs
+  pub nets_rename : (flows : List Flow) → AreDistinct (net_names raw.net) → AreNumbered (net_names raw.net) (links (net_names raw.net) raw.net) flows → Renames (length (net_names raw.net)) (name_at (net_names raw.net)) (HasFlow flows) HoldsNet
+  nets_rename flows distinct numbered =
+      let r : Renames (length (net_names raw.net)) (name_at (net_names raw.net)) (HasFlow flows) HasLink =
+      pairs_rename (length (net_names raw.net)) (name_at (net_names raw.net)) flow_between (links (net_names raw.net) raw.net) flows distinct pairing numbered.within numbered.same in
+      record {
+        distinct = r.distinct;
+        named = λ i j f. holds_of_link (name_at (net_names raw.net) i) (name_at (net_names raw.net) j) (r.named i j f);
+        numbered = λ x y h. r.numbered x y (link_of_holds x y h);
+      }
 
-count_by-append : {A : Type 0} (p : A → Bool) (xs ys : List A) → count_by p (xs ++ ys) ≡ count_by p xs + count_by p ys
-count_by-append p xs ys = sum_by-append (λ y. cond (p y) 1 0) xs ys
+  -- ---- a walk to a net goes through nets alone
 
-count_link : (name outer : List ℕ) (o : Option (List ℕ)) (rest : List RawFlow) → count_by (λ (f : RawFlow). bytes_eq f.to name) (cons_option (option_map (flow_between outer) o) rest) ≡ cond (option_map_or (λ n. bytes_eq n name) o false) 1 0 + count_by (λ (f : RawFlow). bytes_eq f.to name) rest
-count_link name outer None rest = sym (zero-add _)
-count_link name outer (Some n) rest = count_by-cons (λ (f : RawFlow). bytes_eq f.to name) (flow_between outer n) rest
+  pub is_net_of : (net : RawNet) → Contains raw.net net → is_net raw net.name ≡ true
+  is_net_of net c = among_at (net_names raw.net) net.name (contains_map (λ (n : RawNet). n.name) raw.net net c)
 
-count_from : (name outer : List ℕ) (tasks : List RawTask) → count_by (λ (f : RawFlow). bytes_eq f.to name) (links_from outer tasks) ≡ count_by (names_net name) tasks
-count_from name outer [] = refl
-count_from name outer (task ∷ tasks) =
-    count_link name outer (child task) (links_from outer tasks) ∙ ap (λ n. cond (names_net name task) 1 0 + n) (count_from name outer tasks)
-    ∙ sym (count_by-cons (names_net name) task tasks)
+  pub is_net_at : (k : ℕ) → k < length (net_names raw.net) → is_net raw (name_at (net_names raw.net) k) ≡ true
+  is_net_at k lt = is_among_at (net_names raw.net) k lt
 
-count_links : (name : List ℕ) (nets : List RawNet) → count_by (λ (f : RawFlow). bytes_eq f.to name) (links nets) ≡ count_by (names_net name) (flat_map (λ (net : RawNet). net.task) nets)
-count_links name [] = refl
-count_links name (net ∷ nets) =
-    count_by-append (λ (f : RawFlow). bytes_eq f.to name) (links_from net.name net.task) (links nets)
-    ∙ ap (λ n. n + count_by (λ (f : RawFlow). bytes_eq f.to name) (links nets)) (count_from name net.name net.task)
-    ∙ ap (λ n. count_by (names_net name) net.task + n) (count_links name nets)
-    ∙ sym (count_by-append (names_net name) net.task (flat_map (λ (n : RawNet). n.task) nets))
+  is_outer : (x y : List ℕ) → Holds raw x y → is_net raw x ≡ true
+  is_outer x y h =
+      let P : List ℕ → Type 0 = λ n. is_net raw n ≡ true in
+      subst P h.2 (is_net_of h.0 h.1)
 
-module _ (names : List (List ℕ)) (distinct : AreDistinct names) (k : ℕ) (lt : k < length names) where
-  same_end : (to : ℕ) → to < length names → bytes_eq (name_at names to) (name_at names k) ≡ (to == k)
-  same_end to le = elim (cases_Bool (to == k)) [
-    | inl t ↦ (bytes_eq-Decides (name_at names to) (name_at names k)).1 (ap (name_at names) ((Decides-eqb to k).0 t)) ∙ sym t
-    | inr f ↦ false_from_ne_true _ (λ t. false≢true (sym f ∙ (Decides-eqb to k).1 (distinct to k le lt ((bytes_eq-Decides (name_at names to) (name_at names k)).0 t)))) ∙ sym f
-  ]
+  pub nets_walk : (a b : List ℕ) (n : ℕ) → is_net raw b ≡ true → WalkAlong (Holds raw) a b n → (is_net raw a ≡ true) × WalkAlong HoldsNet a b n
+  nets_walk a b zero is w = (let P : List ℕ → Type 0 = λ m. is_net raw m ≡ true in subst P (sym w) is, w)
+  nets_walk a b (suc n) is w =
+      let r = nets_walk a w.0 n (is_outer w.0 b w.2) w.1 in
+      (r.0, (w.0, r.1, (w.2, is)))
 
-  count_numbered : (flows : List Flow) → All (IsWithin (length names)) flows → count_by (λ (f : RawFlow). bytes_eq f.to (name_at names k)) (named_flows (name_at names) flow_between flows) ≡ count_by (λ (f : Flow). f.to == k) flows
-  count_numbered [] h = refl
-  count_numbered (f ∷ fs) h =
-      count_by-cons (λ (g : RawFlow). bytes_eq g.to (name_at names k)) (flow_between (name_at names f.from) (name_at names f.to)) (named_flows (name_at names) flow_between fs)
-      ∙ ap (λ b. cond b 1 0 + count_by (λ (g : RawFlow). bytes_eq g.to (name_at names k)) (named_flows (name_at names) flow_between fs)) (same_end f.to (All-head (IsWithin (length names)) f fs h).1)
-      ∙ ap (λ n. cond (f.to == k) 1 0 + n) (count_numbered fs (All-tail (IsWithin (length names)) f fs h))
-      ∙ sym (count_by-cons (λ (g : Flow). g.to == k) f fs)
+  -- ---- that a task leads back is told by the mark of the net that it names
 
-pub uses_counted : (raw : RawSpec) (flows : List Flow) (k : ℕ) → AreDistinct (net_names raw.net) → AreNumbered (net_names raw.net) (links raw.net) flows → k < length (net_names raw.net) → count_by (λ (f : Flow). f.to == k) flows ≡ count_by (names_net (name_at (net_names raw.net) k)) (all_tasks raw)
-uses_counted raw flows k distinct numbered lt =
-    let name : List ℕ = name_at (net_names raw.net) k in
-    sym (count_numbered (net_names raw.net) distinct k lt flows numbered.within)
-    ∙ ap (count_by (λ (f : RawFlow). bytes_eq f.to name)) (sym numbered.same)
-    ∙ count_links name raw.net
+  module _ (net : RawNet) (task : RawTask) (there : Contains raw.net net) (in_net : Contains net.task task) where
+    pub told : (back : Option (List Bool)) (number : Option ℕ) → TellsBack raw net back → IsChildNumber (net_names raw.net) task number → IsMarkedAt back number ↔ LeadsBack raw net task
+    told None number tells c = ((λ x. absurd x), (λ b. tells task in_net b))
+    told (Some marks) None tells c = (
+      (λ x. absurd x),
+      (λ b.
+          let w = nets_walk b.0 net.name b.2.0 (is_net_of net there) b.2.1 in
+          let e : None ≡ Some b.0 = sym c ∙ among_some (net_names raw.net) (child task) b.0 b.1 w.0 in
+          cc),
+    )
+    told (Some marks) (Some k) tells c =
+        let lt : k < length raw.net = omega (arith, c.0, count_of_nets raw.net) in
+        let is = among_is (net_names raw.net) (child task) (name_at (net_names raw.net) k) c.1 in (
+          (λ m. (name_at (net_names raw.net) k, is.0, (tells.1 k lt).0 m)),
+          (λ b.
+              let e : Some b.0 ≡ Some (name_at (net_names raw.net) k) = sym b.1 ∙ is.0 in
+              let same : b.0 ≡ name_at (net_names raw.net) k = cc in
+              let P : List ℕ → Type 0 = λ inner. PathAlong (Holds raw) inner net.name in
+              (tells.1 k lt).1 (subst P same b.2)),
+        )

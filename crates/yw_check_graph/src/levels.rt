@@ -1,6 +1,6 @@
 // Nets don't nest too deep.
 ghost use Rattle.std.specs.Prelude.{◌≡◌, ℕ, ◌<◌, length, None, IfOk};
-ghost use Rattle.yw_accept.specs.Graph.{ChildrenFit, LevelsFit};
+ghost use Rattle.yw_accept.specs.Graph.{LevelsFit};
 ghost use Rattle.yw_accept.specs.Names.{NamesFit};
 ghost use Rattle.yw_check_graph.specs.Nets.{IsFirstWithout};
 ghost use Rattle.yw_reach.specs.Marking.{Marked};
@@ -32,8 +32,7 @@ fn first_marked(marks: &Marks) -> Option<usize>
 /// the only error is want of memory. Our own.
 #[tactic(auto, unfolding(yw_accept::specs::Graph::LevelsFit))]
 pub fn levels_fit(alloc: Global, raw: &RawSpec) -> Result<Option<Broken>, AllocError>
-    requires names { NamesFit raw.now None }
-    requires children { ChildrenFit raw.now None }
+    requires { NamesFit raw.now None }
     ensures { IfOk result (LevelsFit raw.now) }
 {
     let graph = net_graph(alloc, raw)?;

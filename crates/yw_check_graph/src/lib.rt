@@ -1,4 +1,4 @@
-//! Where nets lead: every node is on the way, each net but the top is one task's, nets don't nest too deep, and a net
+//! Where nets lead: every node is on the way, no net uses itself, each is reached, nets don't nest too deep, and a net
 //! with an OR-join has no cycle. The third check is the paper's, that of workflow nets; the others are our own.
 #![tactic(auto)]
 

@@ -1,5 +1,5 @@
 // The nets as a graph of numbers.
-ghost use Rattle.std.specs.Prelude.{◌≡◌, ℕ, ◌<◌, ◌∷◌, ◌++◌, [], List, length, All, IfOk, OnOk, option_to_list};
+ghost use Rattle.std.specs.Prelude.{◌≡◌, ℕ, ◌<◌, ◌∷◌, ◌++◌, [], List, length, IfOk, OnOk, option_to_list};
 ghost use Rattle.std.specs.Option.{option_copied};
 ghost use Rattle.yw_accept.specs.Facts.{IsNamed};
 ghost use Rattle.yw_accept.specs.Faults.{of_net};
@@ -7,16 +7,16 @@ ghost use Rattle.yw_accept.specs.Graph.{child};
 ghost use Rattle.yw_accept.specs.Index.{IsIndexOf};
 ghost use Rattle.yw_accept.specs.Nodes.{net_names};
 ghost use Rattle.yw_check_graph.specs.Graph.{AreNumbered, name_at};
-ghost use Rattle.yw_check_graph.specs.Nets.{AddsFlows, ChildIsAmong, ChildrenAreAmong, IsNetGraph, link, links, links_from};
+ghost use Rattle.yw_check_graph.specs.Nets.{AddsFlows, IsChildNumber, IsNetGraph, link, links, links_from};
 
 use crate::graph::{number_in, push_copy};
 use std::alloc::{AllocError, Global};
-use yw_accept::{Broken, Index, index_of};
+use yw_accept::{Broken, Index, index_of, number_of};
 use yw_base::Text;
 use yw_reach::Flow;
 use yw_read::{RawNet, RawSpec, RawTask};
 
-/// The nets by their numbers. A flow goes from a net to each net that a task of it names.
+/// The nets by their numbers. A flow goes from a net to each net of the specification that a task of it names.
 #[derive(Drop)]
 pub struct NetGraph {
     /// How many nets there are.
@@ -25,6 +25,8 @@ pub struct NetGraph {
     pub top: usize,
     /// The flows between nets, in the order of the tasks.
     pub flows: Vec<Flow>,
+    /// The numbers by names.
+    pub index: Index,
 }
 
 /// The names of nets in document order.
@@ -48,6 +50,16 @@ fn child_of(task: &RawTask) -> Option<&Text>
     None
 }
 
+/// The number of the net that the task names, or `None` where it names no net of the index.
+pub fn child_number(index: &Index, task: &RawTask) -> Option<usize>
+    ensures { (names : List (List ℕ)) → IsIndexOf names index.now → IsChildNumber names task.now result }
+{
+    match child_of(task) {
+        None => None,
+        Some(child) => number_of(index, child.as_str()),
+    }
+}
+
 /// Adds the flow from the net with this number to the net that a task of it names.
 fn push_link(
     index: &Index,
@@ -58,13 +70,11 @@ fn push_link(
 ) -> Result<(), AllocError>
     requires index { IsIndexOf names.now index.now }
     requires from { from < length names.now }
-    requires child { ChildIsAmong names.now task.now }
-    ensures { OnOk result (AddsFlows names.now (option_to_list (link (name_at names.now from) task.now)) flows.old.items flows.new.items) }
+    ensures { OnOk result (AddsFlows names.now (option_to_list (link names.now (name_at names.now from) task.now)) flows.old.items flows.new.items) }
 {
-    match child_of(task) {
+    match child_number(index, task) {
         None => Ok(()),
-        Some(child) => {
-            let to = number_in(index, names, child);
+        Some(to) => {
             flows.push(Flow { from, to })?;
             Ok(())
         }
@@ -81,8 +91,7 @@ fn push_links(
 ) -> Result<(), AllocError>
     requires index { IsIndexOf names.now index.now }
     requires from { from < length names.now }
-    requires children { All (ChildIsAmong names.now) tasks.now }
-    ensures { OnOk result (AddsFlows names.now (links_from (name_at names.now from) tasks.now) flows.old.items flows.new.items) }
+    ensures { OnOk result (AddsFlows names.now (links_from names.now (name_at names.now from) tasks.now) flows.old.items flows.new.items) }
 {
     for task in tasks {
         push_link(index, names, from, task, flows)?;
@@ -99,8 +108,7 @@ fn links_of(
 ) -> Result<Vec<Flow>, AllocError>
     requires index { IsIndexOf names.now index.now }
     requires names { names.now ≡ net_names nets.now }
-    requires children { All (ChildrenAreAmong names.now) nets.now }
-    ensures { IfOk result (λ v. AreNumbered names.now (links nets.now) v.items) }
+    ensures { IfOk result (λ v. AreNumbered names.now (links names.now nets.now) v.items) }
 {
     let mut flows = Vec::new(alloc);
     for (from, net) in nets.iter().enumerate() {
@@ -111,8 +119,7 @@ fn links_of(
 
 /// The nets by their numbers.
 pub fn net_graph(alloc: Global, raw: &RawSpec) -> Result<NetGraph, AllocError>
-    requires named { IsNamed raw.now }
-    requires children { All (ChildrenAreAmong (net_names raw.now.net)) raw.now.net }
+    requires { IsNamed raw.now }
     ensures { IfOk result (IsNetGraph raw.now) }
 {
     let names = names_of(alloc, raw.net.as_slice())?;
@@ -123,6 +130,7 @@ pub fn net_graph(alloc: Global, raw: &RawSpec) -> Result<NetGraph, AllocError>
         count: names.len(),
         top,
         flows,
+        index,
     })
 }
 

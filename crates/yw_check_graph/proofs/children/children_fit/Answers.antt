@@ -3,18 +3,15 @@ use Rattle.yw_accept.specs.declared.broken.Broken.{Broken}
 use Rattle.yw_accept.specs.Graph.{ChildrenFit}
 use Rattle.yw_accept.specs.Order.{InOrder}
 use Rattle.yw_accept.proofs.FactsLemmas.{is_named}
-use Rattle.yw_check_graph.specs.Nets.{NetChildrenFit, NetIsUsedOnce}
-use Rattle.yw_check_graph.proofs.ChildLemmas.{children_among}
+use Rattle.yw_check_graph.specs.Nets.{NetChildrenFit, NetIsReached}
 use Rattle.yw_accept.proofs.Loops.{then_second}
 use Rattle.yw_check_graph.proofs.children.children_fit.Goals as goal
 
-pub net_graph-requires-clause-named : goal.net_graph-requires-clause-named
-net_graph-requires-clause-named c = is_named c.args.raw.now c.requires
+pub net_graph-requires : goal.net_graph-requires
+net_graph-requires c = is_named c.args.raw.now c.requires
 
-pub net_graph-requires-clause-children : goal.net_graph-requires-clause-children
-net_graph-requires-clause-children c =
-    let P : Option Broken → Type 0 = λ found. InOrder (NetChildrenFit c.args.raw.now) c.args.raw.now.net found in
-    children_among c.args.raw.now (subst P c.in-None.is (c.in_ok-broken.ensures))
+pub check_tasks-requires-clause-named : goal.check_tasks-requires-clause-named
+check_tasks-requires-clause-named c = is_named c.args.raw.now c.requires
 
 pub check_nets-requires-clause-named : goal.check_nets-requires-clause-named
 check_nets-requires-clause-named c = is_named c.args.raw.now c.requires
@@ -25,9 +22,9 @@ returns-in-Some c =
     let P : Option Broken → Type 0 = λ found. InOrder (NetChildrenFit c.args.raw.now) c.args.raw.now.net found in
     inl (subst P c.in-Some.is (c.in_ok-broken.ensures))
 
-pub returns-in_ok-found-in-None : goal.returns-in_ok-found-in-None
+pub returns : goal.returns
 unfolding ChildrenFit
-returns-in_ok-found-in-None c =
+returns c =
     let P : Option Broken → Type 0 = λ found. InOrder (NetChildrenFit c.args.raw.now) c.args.raw.now.net found in
-    then_second (InOrder (NetChildrenFit c.args.raw.now) c.args.raw.now.net) (InOrder (NetIsUsedOnce c.args.raw.now) c.args.raw.now.net)
+    then_second (InOrder (NetChildrenFit c.args.raw.now) c.args.raw.now.net) (InOrder (NetIsReached c.args.raw.now) c.args.raw.now.net)
     (subst P c.in-None.is (c.in_ok-broken.ensures)) c.in_ok-found-in-None.found (c.in_ok-found-in-None.ensures)

@@ -1,22 +1,16 @@
-use Rattle.std.proofs.Common.{All, List, subst, sym}
+use Rattle.std.proofs.Common.{List, subst}
 use Rattle.yw_read.specs.declared.raw.RawTask.{RawTask}
 use Rattle.yw_check_graph.specs.Graph.{name_at}
-use Rattle.yw_check_graph.specs.Nets.{AddsFlows, ChildIsAmong, ChildrenAreAmong, links_from}
+use Rattle.yw_check_graph.specs.Nets.{AddsFlows, links_from}
 use Rattle.yw_check_graph.proofs.LinkLemmas.{net_more, net_within, nets_all}
 use Rattle.yw_check_graph.proofs.nets.links_of.Goals as goal
 
 pub push_links-requires-clause-from : goal.push_links-requires-clause-from
 push_links-requires-clause-from c = net_within _ _ _ c.requires.names c.loop-from-test.true
 
-pub push_links-requires-clause-children : goal.push_links-requires-clause-children
-push_links-requires-clause-children c =
-    let P : List RawTask → Type 0 = λ tasks. All (ChildIsAmong c.args.names.now) tasks in
-    subst P (sym c.as_slice.ensures)
-    (subst (ChildrenAreAmong c.args.names.now) (sym c.index-nets-from.is) (c.requires.children c.loop-from.from c.index-nets-from.result c.loop-from-test.true))
-
 pub loop-from-preserved : goal.loop-from-preserved
 loop-from-preserved c =
-    let P : List RawTask → Type 0 = λ tasks. AddsFlows c.args.names.now (links_from (name_at c.args.names.now c.loop-from.from) tasks) c.loop-from.flows.items c.push_links.new.flows.items in
+    let P : List RawTask → Type 0 = λ tasks. AddsFlows c.args.names.now (links_from c.args.names.now (name_at c.args.names.now c.loop-from.from) tasks) c.loop-from.flows.items c.push_links.new.flows.items in
     net_more _ _ c.loop-from.from c.index-nets-from.result _ _ c.requires.names c.loop-from-test.true c.index-nets-from.is c.loop-from.invariant
     (subst P c.as_slice.ensures (c.in_ok-push_links.ensures))
 

@@ -5,4 +5,4 @@ use Rattle.yw_check_graph.proofs.nets.push_links.Given as goal
 
 abbrev pub invariant-loop-task : goal.invariant-loop-task
 invariant-loop-task l =
-    AddsFlows l.names (links_from (name_at l.names l.from) (take l.task-index l.tasks)) l.fn.flows.items l.flows.items
+    AddsFlows l.names (links_from l.names (name_at l.names l.from) (take l.task-index l.tasks)) l.fn.flows.items l.flows.items
