@@ -3,18 +3,18 @@
 
     python3 bench/checks.py [PROGRAM]
 
-The shapes are those of bench/specifications.py, in the two sizes, and a small net behind a comment, a text of one bracket
-repeated, and a text past the limit of 1,048,576 bytes, which isn't read to its end. Nothing of the time is that of a
-disk: `check` touches no file. Each run is shown, with the load of the machine before it, and behind each shape the growth
-of its least time from the small size to the large one, beside that of its bytes. Nothing is asserted: read the
-numbers. PROGRAM is crates/yw_main/out/yw_main where it isn't given.
+The shapes are those of bench/specifications.py, in the two sizes, nets that all name each other, a net that many tasks
+name, a small net behind a comment, a text of one bracket repeated, and a text past the limit of 1,048,576 bytes, which
+isn't read to its end. Nothing of the time is that of a disk: `check` touches no file. Each run is shown, with the load of
+the machine before it, and behind each shape the growth of its least time from the small size to the large one, beside
+that of its bytes. Nothing is asserted: read the numbers. PROGRAM is crates/yw_main/out/yw_main where it isn't given.
 """
 import os
 import sys
 import tempfile
 
 from running import run
-from specifications import assignments, branches, conditions, flows, nets, nodes, variables
+from specifications import HEAD, assignments, branches, conditions, flows, nets, nodes, variables
 
 TOP = os.path.dirname(os.path.dirname(os.path.abspath(__file__)))
 RUNS = 3
@@ -38,8 +38,31 @@ def past(size):
     return comment(LIMIT + size)
 
 
+def mutual(count):
+    """So many nets, each with a task for each other: at fault is the first net's first task, since its net leads back."""
+    names = ["n%d" % k for k in range(count)]
+    text = HEAD.replace('"n0"', '"top"') + used("top", names[:1])
+    return text + "".join(used(name, [other for other in names if other != name]) for name in names)
+
+
+def shared(count):
+    """A net that so many tasks name."""
+    return HEAD.replace('"n0"', '"top"') + used("top", ["leaf"] * count) + used("leaf", [])
+
+
+def used(name, children):
+    """A net with a task for each of these nets, and one more, one behind the other."""
+    tasks = ["t%d" % k for k in range(len(children) + 1)]
+    flows = zip(["i"] + tasks, tasks + ["o"])
+    text = '[[net]]\nname = "%s"\ninput = "i"\noutput = "o"\n' % name
+    text += "flows = [%s]\n" % ",".join('["%s","%s"]' % flow for flow in flows)
+    for task, child in zip(tasks, children):
+        text += '[[net.task]]\nname = "%s"\nkind = "sub"\nnet = "%s"\n' % (task, child)
+    return text + '[[net.task]]\nname = "%s"\n' % tasks[-1]
+
+
 # The second size of nets is the most whose text is judged.
-SHAPES = [(nets, (6, 57))] + [(shape, (SMALL, LARGE)) for shape in (conditions, flows, variables, assignments, branches, comment, brackets, past)]
+SHAPES = [(nets, (6, 57)), (mutual, (16, 64)), (shared, (25, 250))] + [(shape, (SMALL, LARGE)) for shape in (conditions, flows, variables, assignments, branches, comment, brackets, past)]
 
 
 def measure(program, folder, shape, size):

@@ -254,26 +254,47 @@ fn finds_in_nets(alloc: Global, nets: &str, want: &str) -> Result<bool, ReadFaul
 }
 
 /// Nets, a line of words for each, and what is found.
-const NETS: [(&str, &str); 19] = [
-    // each used once
+const NETS: [(&str, &str); 35] = [
+    // each used by one task
     ("main", "-"),
     ("main t", "-"),
     ("main t=a\na", "-"),
     ("a u\nmain t=a", "-"),
     ("c\nmain t=a u v=b\nb\na t=c", "-"),
-    // named by none
+    // by two, of one net or of two
+    ("main t=a u=a\na", "-"),
+    ("main t=a u=b\na t=b\nb", "-"),
+    // by none
     ("main t\nb\na", "V6 b b"),
-    // by two tasks, of one net or of two
-    ("main t=a u=a\na", "V6 a a"),
-    ("main t=a u=b\na t=b\nb", "V6 b b"),
-    // by one, and not reached
-    ("main\na t=a", "V6 a a"),
-    ("main t=c\na t=b\nb t=a\nc", "V6 a a"),
     ("main\nb\na t=b", "V6 b b"),
+    // by a net alone that isn't reached
+    ("main\na t=b\nb", "V6 a a"),
+    ("main t=c\nb\na t=b u=c\nc", "V6 b b"),
+    // a net that uses itself, reached or not
+    ("main t=a\na t=a", "V6 a t"),
+    ("main\na t=a", "V6 a t"),
+    // through another net, or two
+    ("main t=p\np u=q\nq v=p", "V6 p u"),
+    ("main t=c\na t=b\nb t=a\nc", "V6 a t"),
+    ("main t=a\na t u=b\nb v=c\nc w=a x", "V6 a u"),
+    // the first task on a way back, by the order of the document
+    ("q v=p\nmain t=p\np u=q", "V6 q v"),
+    ("main t=a\na t=d u=b\nb v=a\nd", "V6 a u"),
+    ("main t=b\nb u=d v=c x=c\nc w=b y=c\nd", "V6 b v"),
+    ("main t=b\nb v=c\nc w=c", "V6 c w"),
+    ("c w=c\nmain t=b\nb v=b", "V6 c w"),
+    // to the top none leads
+    ("main t=a\na u=main", "V6 main t"),
+    ("a u=main\nmain t=a", "V6 a u"),
+    // beside a task that names no net
+    ("main t=a\na t=a u=x", "V6 a t"),
+    ("main t=a\na u=x t=a", "V6 a u"),
+    ("main t=a\na t=x u=b\nb", "V6 a t"),
     // a task before a net, wherever they stand
     ("a\nmain t u=x", "V6 main u"),
     ("a\nmain t=a\nb u=main v=x", "V6 b u"),
     ("a u=main\nmain t=x", "V6 a u"),
+    ("b\nmain t=a\na t=a", "V6 a t"),
     // of two nets the first
     ("main t=a u=a\nb\na", "V6 b b"),
     ("b\nmain t=a\nc\na", "V6 b b"),
@@ -344,6 +365,77 @@ fn fan(alloc: Global, count: u32) -> Result<String, AllocError> {
         write!(nets, "\nn{n}")?;
     }
     Ok(nets)
+}
+
+/// A net with so many tasks, each for the one other net.
+fn shared(alloc: Global, count: u32) -> Result<String, AllocError> {
+    let mut nets = String::from_str(alloc, "leaf\nmain")?;
+    for n in 0..count {
+        write!(nets, " t{n}=leaf")?;
+    }
+    Ok(nets)
+}
+
+#[test]
+fn a_net_of_many_tasks(rt: HostRuntime) -> Result<(), Fail> {
+    let nets = shared(rt.alloc(), 200)?;
+    assert!(rt; finds_in_nets(rt.alloc(), nets.as_str(), "-")?);
+    Ok(())
+}
+
+/// Below the top so many levels of two nets each; both nets of a level have a task for each of the next level.
+fn diamond(alloc: Global, levels: u32) -> Result<String, AllocError> {
+    let mut nets = String::from_str(alloc, "main t=a1 u=b1")?;
+    for n in 1..levels {
+        let below = n.wrapping_add(1);
+        write!(nets, "\na{n} t=a{below} u=b{below}\nb{n} t=a{below} u=b{below}")?;
+    }
+    write!(nets, "\na{levels}\nb{levels}")?;
+    Ok(nets)
+}
+
+/// How many levels there are, and what is found.
+const DIAMONDS: [(u32, &str); 4] = [
+    (1, "-"),
+    (7, "-"),
+    (8, "V7 a8 a8"),
+    (200, "V7 a8 a8"),
+];
+
+#[test]
+fn levels_of_a_diamond(rt: HostRuntime) -> Result<(), Fail> {
+    for (levels, want) in &DIAMONDS {
+        let nets = diamond(rt.alloc(), *levels)?;
+        assert!(rt; finds_in_nets(rt.alloc(), nets.as_str(), want)?, "of {levels}");
+    }
+    Ok(())
+}
+
+/// The net `n0`, `n1` or so on of so many, with a task for each other.
+fn push_others(nets: &mut String, count: u32, net: u32) -> Result<(), AllocError> {
+    write!(nets, "\nn{net}")?;
+    for other in 0..count {
+        if other != net {
+            write!(nets, " t{other}=n{other}")?;
+        }
+    }
+    Ok(())
+}
+
+/// So many nets beside the top, each with a task for each other.
+fn all_to_all(alloc: Global, count: u32) -> Result<String, AllocError> {
+    let mut nets = String::from_str(alloc, "main t=n0")?;
+    for net in 0..count {
+        push_others(&mut nets, count, net)?;
+    }
+    Ok(nets)
+}
+
+#[test]
+fn nets_that_all_name_each_other(rt: HostRuntime) -> Result<(), Fail> {
+    let nets = all_to_all(rt.alloc(), 64)?;
+    assert!(rt; finds_in_nets(rt.alloc(), nets.as_str(), "V6 n0 t1")?);
+    Ok(())
 }
 
 #[test]
