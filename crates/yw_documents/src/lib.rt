@@ -1,6 +1,10 @@
-//! Worked specifications as TOML texts, for tests. The calls that give them out promise nothing, so that no proof of a test holds their
-//! letters. The loan, the net of depth one and the reminder are our own.
+//! Worked specifications as TOML texts, for tests, and the texts that lines of test data stand for. The calls that give them out promise
+//! nothing, so that no proof of a test holds their letters. The loan, the net of depth one and the reminder are our own.
 #![tactic(auto)]
+
+mod line;
+
+pub use line::{number_at, spelled, unfolded, word_at};
 
 /// Two tasks, one after the other.
 pub fn seq() -> &'static str {
