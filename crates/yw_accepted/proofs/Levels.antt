@@ -47,14 +47,14 @@ module _ (raw : RawSpec) (verdict : IsVerdict raw None) (spec : Spec) (is_spec :
       let one : k ≡ c = some_same k c (ap (λ b. child_net (record t { kind = b })) (sym is) ∙ e) in
       net_is ∙ sym name_called ∙ ap (λ q. option_map (λ (n : RawNet). n.name) (slice_get raw.net q)) one ∙ called
 
-  one_step : (k c : ℕ) → HasChild spec k c → (n m : List ℕ) → IsNetCalled raw n k → IsNetCalled raw m c → Holds raw n m
+  pub one_step : (k c : ℕ) → HasChild spec k c → (n m : List ℕ) → IsNetCalled raw n k → IsNetCalled raw m c → Holds raw n m
   one_step k c (net, at, i, t, task_at, child_is) n m outer inner =
       let (rn, rat, built) = zip_at (IsNet raw) raw.net spec.nets is_spec.nets k net at in
       let (rt, rtat, is) = zip_at (IsTask raw rn) rn.task net.tasks built.tasks i t task_at in
       let name_is : rn.name ≡ n = some_same rn.name n (sym (ap (option_map (λ (x : RawNet). x.name)) rat) ∙ outer) in
       (rn, contains raw.net k rn rat, name_is, rt, contains rn.task i rt rtat, names_child t c m inner rt.kind rt.net t.kind is.kind child_is)
 
-  named : (k : ℕ) (net : Net) → slice_get spec.nets k ≡ Some net → (n : List ℕ) × IsNetCalled raw n k
+  pub named : (k : ℕ) (net : Net) → slice_get spec.nets k ≡ Some net → (n : List ℕ) × IsNetCalled raw n k
   named k net at = let (rn, rat, built) = zip_at (IsNet raw) raw.net spec.nets is_spec.nets k net at in (rn.name, ap (option_map (λ (x : RawNet). x.name)) rat)
 
   walks : (n k : ℕ) → WalkAlong (HasChild spec) spec.top k n → (m : List ℕ) → IsNetCalled raw m k → WalkAlong (Holds raw) raw.top m n

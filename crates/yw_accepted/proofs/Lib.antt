@@ -3,6 +3,7 @@ pub mod Expressions
 pub mod Items
 pub mod Exits
 pub mod Levels
+pub mod Uses
 pub mod Soundness
 pub mod Numbered
 pub mod Flows

@@ -9,7 +9,8 @@ ghost use Rattle.yw_model.specs.Texts.{reader};
 ghost use Rattle.yw_read.specs.Inits.{HasInits};
 ghost use Rattle.yw_read.specs.Reading.{spec_in};
 ghost use Rattle.yw_read.specs.declared.raw.RawSpec.{RawSpec};
-ghost use Rattle.yw_sound.specs.Sound.{IsSound, ReadsSound};
+ghost use Rattle.yw_reach.specs.Walks.{CycleAlong};
+ghost use Rattle.yw_sound.specs.Sound.{HasChild, IsSound, ReadsSound};
 ghost use Rattle.yw_spec.specs.declared.spec.Spec.{Spec};
 ghost use Rattle.yw_within.specs.Within.{IsWithin, ReadsWithin};
 
@@ -26,6 +27,11 @@ pub fn checked_is_sound()
 /// It is within.
 pub fn checked_is_within()
     ensures { (raw : RawSpec) (spec : Spec) → HasInits raw → IsVerdict raw None → IsSpec raw spec → IsWithin spec }
+{}
+
+/// In it no net uses itself, also not through nets that it uses: so each way down ends, however many tasks name a net.
+pub fn no_net_uses_itself()
+    ensures { (raw : RawSpec) (spec : Spec) → IsVerdict raw None → IsSpec raw spec → CycleAlong (HasChild spec) → ⊥ }
 {}
 
 /// Each specification that can be loaded, which is each that is accepted, is sound.
