@@ -26,7 +26,9 @@ fn be_u64(field: &[u8]) -> u64
 }
 
 impl Field for u32 {
+    ghost use Rattle.std.specs.Prelude.{◌≡◌, IfErr, IfOk};
     ghost use Rattle.yw_codec.specs.Fields.{is_u32, u32_bytes};
+    ghost use Rattle.yw_codec.specs.Forms.{NoneStands, Stands};
     ghost use Rattle.yw_codec.specs.FieldLaws.{u32_apart};
 
     ghost is_field = { is_u32 };
@@ -35,7 +37,11 @@ impl Field for u32 {
 
     ghost apart = { u32_apart };
 
-    fn read(_alloc: Global, reader: &mut Reader<'_>) -> Result<u32, CodecFault> {
+    fn read(_alloc: Global, reader: &mut Reader<'_>) -> Result<u32, CodecFault>
+        ensures ok { IfOk result (λ value. Stands is_u32 u32_bytes reader.old value reader.new) }
+        ensures bad { IfErr result (λ fault. fault ≡ CodecFault.Bad → NoneStands is_u32 u32_bytes reader.old) }
+        ensures takes_none { IfErr result (λ fault. fault ≡ CodecFault.Bad) }
+    {
         Ok(be_u32(reader.take(4)?))
     }
 
@@ -48,7 +54,9 @@ impl Field for u32 {
 }
 
 impl Field for u64 {
+    ghost use Rattle.std.specs.Prelude.{◌≡◌, IfErr, IfOk};
     ghost use Rattle.yw_codec.specs.Fields.{is_u64, u64_bytes};
+    ghost use Rattle.yw_codec.specs.Forms.{NoneStands, Stands};
     ghost use Rattle.yw_codec.specs.FieldLaws.{u64_apart};
 
     ghost is_field = { is_u64 };
@@ -57,7 +65,11 @@ impl Field for u64 {
 
     ghost apart = { u64_apart };
 
-    fn read(_alloc: Global, reader: &mut Reader<'_>) -> Result<u64, CodecFault> {
+    fn read(_alloc: Global, reader: &mut Reader<'_>) -> Result<u64, CodecFault>
+        ensures ok { IfOk result (λ value. Stands is_u64 u64_bytes reader.old value reader.new) }
+        ensures bad { IfErr result (λ fault. fault ≡ CodecFault.Bad → NoneStands is_u64 u64_bytes reader.old) }
+        ensures takes_none { IfErr result (λ fault. fault ≡ CodecFault.Bad) }
+    {
         Ok(be_u64(reader.take(8)?))
     }
 
@@ -70,7 +82,9 @@ impl Field for u64 {
 }
 
 impl Field for i64 {
+    ghost use Rattle.std.specs.Prelude.{◌≡◌, IfErr, IfOk};
     ghost use Rattle.yw_codec.specs.Fields.{is_i64, i64_bytes};
+    ghost use Rattle.yw_codec.specs.Forms.{NoneStands, Stands};
     ghost use Rattle.yw_codec.specs.FieldLaws.{i64_apart};
 
     ghost is_field = { is_i64 };
@@ -79,7 +93,11 @@ impl Field for i64 {
 
     ghost apart = { i64_apart };
 
-    fn read(alloc: Global, reader: &mut Reader<'_>) -> Result<i64, CodecFault> {
+    fn read(alloc: Global, reader: &mut Reader<'_>) -> Result<i64, CodecFault>
+        ensures ok { IfOk result (λ value. Stands is_i64 i64_bytes reader.old value reader.new) }
+        ensures bad { IfErr result (λ fault. fault ≡ CodecFault.Bad → NoneStands is_i64 i64_bytes reader.old) }
+        ensures takes_none { IfErr result (λ fault. fault ≡ CodecFault.Bad) }
+    {
         let number = u64::read(alloc, reader)?;
         Ok(number.cast_signed())
     }
@@ -93,7 +111,9 @@ impl Field for i64 {
 }
 
 impl Field for bool {
+    ghost use Rattle.std.specs.Prelude.{◌≡◌, IfErr, IfOk};
     ghost use Rattle.yw_codec.specs.Fields.{is_flag, flag_bytes};
+    ghost use Rattle.yw_codec.specs.Forms.{NoneStands, Stands};
     ghost use Rattle.yw_codec.specs.FieldLaws.{flag_apart};
 
     ghost is_field = { is_flag };
@@ -102,7 +122,11 @@ impl Field for bool {
 
     ghost apart = { flag_apart };
 
-    fn read(_alloc: Global, reader: &mut Reader<'_>) -> Result<bool, CodecFault> {
+    fn read(_alloc: Global, reader: &mut Reader<'_>) -> Result<bool, CodecFault>
+        ensures ok { IfOk result (λ value. Stands is_flag flag_bytes reader.old value reader.new) }
+        ensures bad { IfErr result (λ fault. fault ≡ CodecFault.Bad → NoneStands is_flag flag_bytes reader.old) }
+        ensures takes_none { IfErr result (λ fault. fault ≡ CodecFault.Bad) }
+    {
         match reader.byte()? {
             0 => Ok(false),
             1 => Ok(true),

@@ -46,6 +46,8 @@ impl<'a> Reader<'a> {
         ensures ok { IfOk result (λ part. self.old ≡ part.now ++ self.new) }
         ensures long { IfOk result (λ part. length part.now ≡ count) }
         ensures bad { IfErr result (λ fault. length self.old < count) }
+        // It takes no memory.
+        ensures takes_none { IfErr result (λ fault. fault ≡ CodecFault.Bad) }
     {
         if count > self.rest.len() {
             return Err(CodecFault::Bad);
@@ -59,6 +61,8 @@ impl<'a> Reader<'a> {
     pub fn byte(&mut self) -> Result<u8, CodecFault>
         ensures ok { IfOk result (λ byte. self.old ≡ byte ∷ self.new) }
         ensures bad { IfErr result (λ fault. self.old ≡ []) }
+        // It takes no memory.
+        ensures takes_none { IfErr result (λ fault. fault ≡ CodecFault.Bad) }
     {
         let Some((byte, rest)) = self.rest.split_first() else {
             return Err(CodecFault::Bad);

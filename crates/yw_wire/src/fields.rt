@@ -1,5 +1,5 @@
 // The fields of a line.
-ghost use Rattle.std.specs.Prelude.{◌≡◌, Option};
+ghost use Rattle.std.specs.Prelude.{◌≡◌, IfErr, Option};
 ghost use Rattle.serde_json.specs.Data.{Data};
 ghost use Rattle.serde_json.specs.View.{items_view, view};
 ghost use Rattle.yw_lines.specs.Fields.{field, has_members, list_of};
@@ -65,9 +65,10 @@ pub fn has_members(value: &JsonValue, n: usize) -> bool
     }
 }
 
-/// What is asked, where the value has so many members.
+/// What is asked, where the value has so many members. It takes no memory.
 pub fn asked_by(value: &JsonValue, n: usize, asked: Asked) -> Result<Asked, FieldFault>
-    ensures { Says result (asked_by n (view value.now) asked) }
+    ensures says { Says result (asked_by n (view value.now) asked) }
+    ensures takes_none { IfErr result (λ fault. fault ≡ FieldFault.Kind) }
 {
     if has_members(value, n) {
         Ok(asked)

@@ -1,5 +1,5 @@
 // The kinds of fields: names, identities, words and numbers.
-ghost use Rattle.std.specs.Prelude.{◌≡◌, codes};
+ghost use Rattle.std.specs.Prelude.{◌≡◌, IfErr, codes};
 ghost use Rattle.serde_json.specs.Find.{as_str};
 ghost use Rattle.yw_lines.specs.Kinds.{kind_words, raised_words};
 ghost use Rattle.yw_lines.specs.Fields.{field, identity_of, line_text_of, may_be_name, name_of, node_of, one_of, only_if, optional_name_of, roles_of, side_words};
@@ -151,7 +151,10 @@ fn kind_in(word: &str) -> Option<TreeKind>
 impl FromValue for TreeKind {
     ghost kind = { one_of kind_words };
 
-    fn from_value(_alloc: Global, value: &JsonValue) -> Result<TreeKind, FieldFault> {
+    fn from_value(_alloc: Global, value: &JsonValue) -> Result<TreeKind, FieldFault>
+        ensures says { Says result (one_of kind_words (view value.now)) }
+        ensures takes_none { IfErr result (λ fault. fault ≡ FieldFault.Kind) }
+    {
         value.as_str().and_then(kind_in).ok_or(FieldFault::Kind)
     }
 }
@@ -167,9 +170,10 @@ fn raised_in(word: &str) -> Option<TreeKind>
     }
 }
 
-/// What happened outside, which the field `kind` says.
+/// What happened outside, which the field `kind` says. It takes no memory.
 pub fn raised_kind(value: &JsonValue) -> Result<TreeKind, FieldFault>
-    ensures { Says result (field (one_of raised_words) (codes "kind") (view value.now)) }
+    ensures says { Says result (field (one_of raised_words) (codes "kind") (view value.now)) }
+    ensures takes_none { IfErr result (λ fault. fault ≡ FieldFault.Kind) }
 {
     value
         .get("kind")
@@ -191,7 +195,10 @@ fn side_in(word: &str) -> Option<bool>
 impl FromValue for bool {
     ghost kind = { one_of side_words };
 
-    fn from_value(_alloc: Global, value: &JsonValue) -> Result<bool, FieldFault> {
+    fn from_value(_alloc: Global, value: &JsonValue) -> Result<bool, FieldFault>
+        ensures says { Says result (one_of side_words (view value.now)) }
+        ensures takes_none { IfErr result (λ fault. fault ≡ FieldFault.Kind) }
+    {
         value.as_str().and_then(side_in).ok_or(FieldFault::Kind)
     }
 }
@@ -199,7 +206,10 @@ impl FromValue for bool {
 impl FromValue for u32 {
     ghost kind = { node_of };
 
-    fn from_value(_alloc: Global, value: &JsonValue) -> Result<u32, FieldFault> {
+    fn from_value(_alloc: Global, value: &JsonValue) -> Result<u32, FieldFault>
+        ensures says { Says result (node_of (view value.now)) }
+        ensures takes_none { IfErr result (λ fault. fault ≡ FieldFault.Kind) }
+    {
         match value.as_u64() {
             Some(number) if number <= MOST_NODE => Ok(number as u32),
             _ => Err(FieldFault::Kind),

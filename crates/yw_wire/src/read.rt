@@ -1,5 +1,5 @@
 // What a line means.
-ghost use Rattle.std.specs.Prelude.{◌≡◌, IfErr, IfOk, MatchOption, Ok, Err, Some, false, true};
+ghost use Rattle.std.specs.Prelude.{◌≡◌, ◌≤◌, IfErr, IfOk, MatchOption, Ok, Err, Some, false, length, true};
 ghost use Rattle.std.specs.Str.{is_utf8};
 ghost use Rattle.serde_json.specs.View.{view};
 ghost use Rattle.yw_lines.specs.Meaning.{AsksProperly, is_built, meaning, text_meaning, value_meaning, word_meaning};
@@ -58,7 +58,8 @@ fn text_in(line: &[u8]) -> Option<&str>
 
 #[tactic(auto, unfolding(yw_lines::specs::Meaning::text_meaning))]
 fn text_asked(alloc: Global, line: &[u8], built: &[Word]) -> Result<Asked, WireFault>
-    ensures { Gives result (text_meaning built.now line.now) }
+    ensures gives { Gives result (text_meaning built.now line.now) }
+    ensures memory { IfErr result (λ fault. fault ≡ WireFault.Memory → is_utf8 line.now ≡ true) }
 {
     let Some(text) = text_in(line) else {
         return Err(WireFault::NotJson);
@@ -77,7 +78,9 @@ fn text_asked(alloc: Global, line: &[u8], built: &[Word]) -> Result<Asked, WireF
 
 #[tactic(auto, unfolding(yw_lines::specs::Meaning::meaning))]
 fn line_asked(alloc: Global, line: &[u8], built: &[Word]) -> Result<Asked, WireFault>
-    ensures { Gives result (meaning built.now line.now) }
+    ensures gives { Gives result (meaning built.now line.now) }
+    ensures memory { IfErr result (λ fault. fault ≡ WireFault.Memory → is_utf8 line.now ≡ true) }
+    ensures short { IfErr result (λ fault. fault ≡ WireFault.Memory → length line.now ≤ 1048576) }
 {
     if line.len() > LINE_LIMIT {
         return Err(WireFault::LineTooLong);
@@ -96,6 +99,10 @@ pub fn read_command(alloc: Global, line: &[u8], built: &[Word]) -> Result<Asked,
 
     // The line breaks the rule of the fault.
     ensures err { IfErr result (λ fault. (rule : Rule) → rule_of fault ≡ Some rule → meaning built.now line.now ≡ Err rule) }
+
+    // No memory is taken for a line that is too long, or isn't UTF-8.
+    ensures memory { IfErr result (λ fault. fault ≡ WireFault.Memory → is_utf8 line.now ≡ true) }
+    ensures short { IfErr result (λ fault. fault ≡ WireFault.Memory → length line.now ≤ 1048576) }
 
     // A person's roles are at most 64 distinct names.
     ensures proper { IfOk result AsksProperly }

@@ -1,4 +1,5 @@
 // What lines ask, by their words: one function for each, with one `let` a field.
+ghost use Rattle.std.specs.Prelude.{◌≡◌, IfErr};
 ghost use Rattle.serde_json.specs.View.{view};
 ghost use Rattle.yw_lines.specs.Shapes.{add_shape, advance_shape, cancel_shape, complete_shape, continue_shape, ended_shape, enter_shape, launch_shape, list_shape, load_shape, person_shape, raise_shape, rule_shape, shape_of, show_shape, specs_shape, start_shape, suspend_shape};
 ghost use Rattle.yw_wire.specs.Faults.{Says};
@@ -185,7 +186,8 @@ fn ended_asked(alloc: Global, line: &JsonValue) -> Result<Asked, FieldFault>
 
 #[tactic(auto, unfolding(yw_lines::specs::Shapes::specs_shape))]
 fn specs_asked(line: &JsonValue) -> Result<Asked, FieldFault>
-    ensures { Says result (specs_shape (view line.now)) }
+    ensures says { Says result (specs_shape (view line.now)) }
+    ensures takes_none { IfErr result (λ fault. fault ≡ FieldFault.Kind) }
 {
     asked_by(line, 1, Asked::Query(Query::Specs))
 }

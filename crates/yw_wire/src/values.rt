@@ -1,5 +1,5 @@
 // The values that JSON values stand for, and what is given under names.
-ghost use Rattle.std.specs.Prelude.{◌≡◌, Some, nat_le};
+ghost use Rattle.std.specs.Prelude.{◌≡◌, IfErr, Some, nat_le};
 ghost use Rattle.serde_json.specs.Events.{items_len};
 ghost use Rattle.serde_json.specs.View.{items_view, members_view, view};
 ghost use Rattle.yw_base.specs.Values.{most_elements};
@@ -17,7 +17,10 @@ use yw_state::{Given, GivenList};
 impl FromValue for i64 {
     ghost kind = { int_of };
 
-    fn from_value(_alloc: Global, value: &JsonValue) -> Result<i64, FieldFault> {
+    fn from_value(_alloc: Global, value: &JsonValue) -> Result<i64, FieldFault>
+        ensures says { Says result (int_of (view value.now)) }
+        ensures takes_none { IfErr result (λ fault. fault ≡ FieldFault.Kind) }
+    {
         value.as_i64().ok_or(FieldFault::Kind)
     }
 }

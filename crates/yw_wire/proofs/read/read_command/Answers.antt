@@ -13,4 +13,4 @@ properly (Ok asked) said gives h = h asked gives
 properly (Err fault) said gives h = tt
 
 pub returns-clause-proper : goal.returns-clause-proper
-returns-clause-proper c = properly c.line_asked.result _ c.line_asked.ensures (λ asked is. (asks_properly c.args.built.now c.args.line.now asked is).0)
+returns-clause-proper c = properly c.line_asked.result _ c.line_asked.ensures.gives (λ asked is. (asks_properly c.args.built.now c.args.line.now asked is).0)
