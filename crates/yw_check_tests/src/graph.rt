@@ -388,25 +388,26 @@ fn diamond(alloc: Global, levels: u32) -> Result<String, AllocError> {
     let mut nets = String::from_str(alloc, "main t=a1 u=b1")?;
     for n in 1..levels {
         let below = n.wrapping_add(1);
-        write!(nets, "\na{n} t=a{below} u=b{below}\nb{n} t=a{below} u=b{below}")?;
+        write!(
+            nets,
+            "\na{n} t=a{below} u=b{below}\nb{n} t=a{below} u=b{below}"
+        )?;
     }
     write!(nets, "\na{levels}\nb{levels}")?;
     Ok(nets)
 }
 
 /// How many levels there are, and what is found.
-const DIAMONDS: [(u32, &str); 4] = [
-    (1, "-"),
-    (7, "-"),
-    (8, "V7 a8 a8"),
-    (200, "V7 a8 a8"),
-];
+const DIAMONDS: [(u32, &str); 4] = [(1, "-"), (7, "-"), (8, "V7 a8 a8"), (200, "V7 a8 a8")];
 
 #[test]
 fn levels_of_a_diamond(rt: HostRuntime) -> Result<(), Fail> {
     for (levels, want) in &DIAMONDS {
         let nets = diamond(rt.alloc(), *levels)?;
-        assert!(rt; finds_in_nets(rt.alloc(), nets.as_str(), want)?, "of {levels}");
+        assert!(rt;
+            finds_in_nets(rt.alloc(), nets.as_str(), want)?,
+            "of {levels}"
+        );
     }
     Ok(())
 }
