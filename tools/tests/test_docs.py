@@ -1,6 +1,6 @@
 """Each command in the documents is run, and each output that is shown is compared.
 
-The commands of a document are run in their order, in one folder that has the examples, the tools and `./yw`. Blocks are found by their fences:
+The commands of a document are run in their order, in one folder that has the examples, the tools, `./yw` and `./try`. Blocks are found by their fences:
 
 - `sh` with lines that begin with `$ `: commands, each with its whole output behind it;
 - `sh` otherwise: commands that end well; what a single one says stands behind `  # `;
@@ -88,9 +88,15 @@ class Room:
         self.place = 0
         for name in ("examples", "tools", "docs"):
             (folder / name).symlink_to(TOP / name)
-        (folder / "yw").write_text(f'#!/bin/sh\nexec {program_path()} "$@"\n')
-        (folder / "yw").chmod(0o755)
+        self.script("yw", f'exec {program_path()} "$@"')
+        # `.ci/program` runs the real one, which says the same.
+        self.script("try", f'mkdir tried && exec {program_path()} tried run <examples/order.jsonl')
         self.furnish()
+
+    def script(self, name: str, text: str) -> None:
+        """A script that stands for one of the repository's."""
+        (self.folder / name).write_text(f"#!/bin/sh\n{text}\n")
+        (self.folder / name).chmod(0o755)
 
     def furnish(self) -> None:
         """What the documents suppose to be there: lines, a backup, and a copy that is damaged at PLACE, where a gate is open before the end. And
