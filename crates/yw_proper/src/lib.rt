@@ -1,0 +1,6 @@
+//! Proper completion by a certificate.
+#![tactic(auto)]
+
+mod certificate;
+
+pub use certificate::{MOST_WEIGHT, ProofFault, WeightList, prove};
