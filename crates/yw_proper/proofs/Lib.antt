@@ -1,0 +1,10 @@
+pub mod Sums
+pub mod Tokens
+pub mod Active
+pub mod Lighter
+pub mod Calm
+pub mod Beginning
+pub mod NetsComing
+pub mod Entering
+pub mod Exiting
+pub mod Bounded

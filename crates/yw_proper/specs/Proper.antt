@@ -41,9 +41,10 @@ split_weighs And w after own = nat_le (weight_of_each w after) own
 split_weighs Xor w after own = list_all (λ c. nat_le (weight_of_place w c) own) after
 split_weighs Or w after own = nat_le (weight_of_each w after) own
 
-pub record TaskIsProper (net : Net) (w : List ℕ) (k : ℕ) (t : Task) : Type 0 where
-  pub join : IsTrue (join_weighs t.join w t.before (weight_of_task net w k))
-  pub split : IsTrue (split_weighs t.split w t.after (weight_of_task net w k))
+-- A task of this weight makes nothing heavier.
+pub record TaskIsProper (w : List ℕ) (own : ℕ) (t : Task) : Type 0 where
+  pub join : IsTrue (join_weighs t.join w t.before own)
+  pub split : IsTrue (split_weighs t.split w t.after own)
 
 -- ---- the certificate
 
@@ -51,7 +52,7 @@ abbrev pub AreWeights : List ℕ → Type 0
 AreWeights w = (k n : ℕ) → slice_get w k ≡ Some n → IsTrue (is_weight n)
 
 abbrev pub TasksAreProper : Net → List ℕ → Type 0
-TasksAreProper net w = (k : ℕ) (t : Task) → slice_get net.tasks k ≡ Some t → TaskIsProper net w k t
+TasksAreProper net w = (k : ℕ) (t : Task) → slice_get net.tasks k ≡ Some t → TaskIsProper w (weight_of_task net w k) t
 
 -- no more at the input than at the output
 abbrev pub ends_weigh : Net → List ℕ → Bool
@@ -66,6 +67,11 @@ pub record IsProper (net : Net) (w : List ℕ) : Type 0 where
   pub weights : AreWeights w
   pub tasks : TasksAreProper net w
   pub ends : IsTrue (ends_weigh net w)
+
+-- It is proper, and this is the weight of the input.
+pub record IsProved (net : Net) (w : List ℕ) (bound : ℕ) : Type 0 where
+  pub proper : IsProper net w
+  pub input : bound ≡ weight_of_place w net.input
 
 -- so of the net with this number
 abbrev pub OfNet : Spec → ℕ → (Net → Type 0) → Type 0

@@ -1,8 +1,9 @@
 // A certificate is tried.
 ghost use Rattle.std.specs.Prelude.{◌≡◌, ◌+◌, ◌<◌, ◌⊎◌, ℕ, false, IfErr, IfOk, IsOk, IsTrue, OnOk, length, nat_le, slice_get};
 ghost use Rattle.std.specs.List.{list_all};
-ghost use Rattle.yw_proper.specs.First.{IsFirst};
-ghost use Rattle.yw_proper.specs.Proper.{AreWeights, HasWeights, IsProper, OfNet, TasksAreProper};
+ghost use Rattle.yw_proper.specs.First.{IsFirst, IsOfTask};
+ghost use Rattle.yw_proper.specs.Proper.{AreWeights, HasWeights, IsProper, IsProved, OfNet};
+ghost use Rattle.yw_proper.specs.Proper.{TaskIsProper, TasksAreProper};
 ghost use Rattle.yw_proper.specs.Proper.{is_weight, join_weighs, split_weighs, weight_of_each, weight_of_place, weight_of_task};
 ghost use Rattle.yw_spec.specs.declared.spec.Net.{Net};
 
@@ -116,10 +117,8 @@ fn check_weights(weights: &[u64]) -> Result<(), ProofFault>
 
 /// The join and the split of the task with this number weigh right, or this is the first that doesn't.
 fn check_task(task: &Task, k: usize, weights: &[u64], own: u64) -> Result<(), ProofFault>
-    ensures ok { OnOk result (IsTrue (join_weighs task.now.join weights.now task.now.before own) × IsTrue (split_weighs task.now.split weights.now task.now.after own)) }
-    ensures fault { IfErr result (λ fault.
-        (fault ≡ ProofFault.Join k) × (join_weighs task.now.join weights.now task.now.before own ≡ false)
-        ⊎ (fault ≡ ProofFault.Split k) × IsTrue (join_weighs task.now.join weights.now task.now.before own) × (split_weighs task.now.split weights.now task.now.after own ≡ false)) }
+    ensures ok { OnOk result (TaskIsProper weights.now own task.now) }
+    ensures fault { IfErr result (IsOfTask weights.now own k task.now) }
 {
     if !join_weighs(task, weights, own) {
         return Err(ProofFault::Join(k));
@@ -151,7 +150,7 @@ fn check_tasks(net: &Net, weights: &[u64]) -> Result<(), ProofFault>
 /// Tries a certificate of one net.
 fn prove_net(net: &Net, weights: &[u64]) -> Result<u64, ProofFault>
     requires { HasWeights net.now weights.now }
-    ensures ok { IfOk result (λ bound. IsProper net.now weights.now × (bound ≡ weight_of_place weights.now net.now.input)) }
+    ensures ok { IfOk result (IsProved net.now weights.now) }
     ensures fault { IfErr result (IsFirst net.now weights.now) }
 {
     check_weights(weights)?;
@@ -163,16 +162,17 @@ fn prove_net(net: &Net, weights: &[u64]) -> Result<u64, ProofFault>
     Ok(bound)
 }
 
-/// Tries a certificate of the net with this number: weights of its places and then of its tasks. The answer is the weight of the input, exactly where
-/// the certificate is proper; else it is the first fault: of the weights in order, then of each task in order its join and its split, then
-/// of the ends. It takes no memory.
+/// Tries a certificate of the net with this number: weights of its places and then of its tasks. The answer is the weight of the input,
+/// exactly where the certificate is proper; else it is the first fault: of the weights in order, then of each task in order its join
+/// and its split, then of the ends. It takes no memory.
 pub fn prove(spec: &Spec, net: usize, weights: &WeightList) -> Result<u64, ProofFault>
     requires net { net < length spec.now.nets }
     requires weights { OfNet spec.now net (λ n. HasWeights n weights.now) }
-    ensures ok { OfNet spec.now net (λ n. IfOk result (λ bound. IsProper n weights.now × (bound ≡ weight_of_place weights.now n.input))) }
+    ensures ok { OfNet spec.now net (λ n. IfOk result (IsProved n weights.now)) }
     ensures fault { OfNet spec.now net (λ n. IfErr result (IsFirst n weights.now)) }
     ensures proper { OfNet spec.now net (λ n. IsProper n weights.now → IsOk result) }
-    ensures first { OfNet spec.now net (λ n. (fault : ProofFault) → IsFirst n weights.now fault → result ≡ Err fault) }
+    ensures first { OfNet spec.now net (λ n. (fault : ProofFault) → IsFirst n weights.now fault
+        → result ≡ Err fault) }
 {
     prove_net(&spec.nets.as_slice()[net], weights.as_slice())
 }
