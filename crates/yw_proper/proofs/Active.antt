@@ -1,11 +1,11 @@
 -- A task is active exactly where an item of it stands in the net.
-use Rattle.std.specs.Prelude.{◌≡◌, ◌==◌, ◌||◌, ℕ, Bool, true, false, List, [], ◌∷◌, length, Option, Some, None, nat_lt, option_and_then, refl, if◌then◌else◌}
+use Rattle.std.specs.Prelude.{◌≡◌, ◌==◌, ℕ, Bool, true, false, List, [], ◌∷◌, length, Option, Some, None, nat_lt, option_and_then, refl, if◌then◌else◌}
 use Rattle.std.specs.List.{list_any}
-use Rattle.std.proofs.Common.{sym, ◌∙◌, ap, arith}
+use Rattle.std.proofs.Common.{◌∙◌, ap, arith}
 use Rattle.std.proofs.lemmas.Bool.{eq-eqb, eqb-true, lt-ltb}
 use Rattle.yw_state.proofs.Entries.{IsIn, comes_from, entry-found, find-entry, mapped_in}
 use Rattle.yw_state.proofs.MapLemmas.{by_name}
-use Rattle.yw_state.proofs.Tests.{never, nowhere, then_some}
+use Rattle.yw_state.proofs.Tests.{nowhere, then_some}
 use Rattle.yw_state.specs.Identity.{Ident, is_child}
 use Rattle.yw_state.specs.Map.{entries, get}
 use Rattle.yw_state.specs.State.{State, Site, ItemPart, if_of_task, item_of_task, item_part, items_of}

@@ -1,21 +1,20 @@
 -- A net that begins weighs no more than one token on its input.
-use Rattle.std.specs.Prelude.{◌≡◌, ◌≤◌, ◌+◌, ◌*◌, ◌==◌, ◌&&◌, ℕ, zero, suc, Bool, true, false, List, cond, length, replicate, Option, Some, None, is_some, nat_eq, nat_lt, option_and_then, option_map, slice_get, slice_set, refl, if◌then◌else◌}
-use Rattle.std.specs.Ordering.{eq_by_cmp}
+use Rattle.std.specs.Prelude.{◌≡◌, ◌≤◌, ◌+◌, ◌*◌, ℕ, zero, suc, Bool, false, List, cond, length, replicate, Option, Some, None, nat_eq, option_and_then, option_map, slice_get, slice_set, refl, if◌then◌else◌}
 use Rattle.std.proofs.Common.{sym, ◌∙◌, ap, subst, arith}
 use Rattle.std.proofs.Math.Nat.{mul-le-mul_right}
 use Rattle.std.proofs.lemmas.Bool.{eq-eqb, eqb-true}
 use Rattle.yw_invariant.proofs.Changes.{at_each}
 use Rattle.yw_invariant.proofs.Places.{parent_of_child}
-use Rattle.yw_proper.proofs.Active.{HasItem, active_item}
+use Rattle.yw_proper.proofs.Active.{active_item}
 use Rattle.yw_proper.proofs.Lighter.{Holds, ItemFrom, NetFrom, active_before, changed_from, counted, item_gone, item_itself, net_itself, put_from, still_holds}
-use Rattle.yw_proper.proofs.Sums.{by_same, total_less, total_rises}
+use Rattle.yw_proper.proofs.Sums.{total_less, total_rises}
 use Rattle.yw_proper.proofs.Tokens.{begun, begun_fewer}
-use Rattle.yw_proper.specs.Load.{IsNetOf, load, tasks_weigh, tokens_weigh, total}
+use Rattle.yw_proper.specs.Load.{IsNetOf, load, total}
 use Rattle.yw_proper.specs.Proper.{weight_of_place, weight_of_task}
 use Rattle.yw_spec.specs.declared.spec.Net.{Net}
 use Rattle.yw_spec.specs.declared.spec.Spec.{Spec}
 use Rattle.yw_state.proofs.MapLemmas.{by_name, get-insert_other, get-insert_same, get-update_other, get-update_same}
-use Rattle.yw_state.proofs.Tests.{by_test, never, nowhere, some_same}
+use Rattle.yw_state.proofs.Tests.{by_test, nowhere, some_same}
 use Rattle.yw_state.specs.After.{change, count_on, put, stands, with_next}
 use Rattle.yw_state.specs.Identity.{Ident, parent}
 use Rattle.yw_state.specs.Map.{get}
@@ -63,7 +62,7 @@ module _ (spec : Spec) (k : ℕ) (net : Net) (at : slice_get spec.nets k ≡ Som
       let its_net : new.net ≡ net = some_same new.net net (sym new.at ∙ ap (λ (x : Spec). slice_get x.nets n.net) its_spec ∙ ap (λ (p : NetPart). slice_get spec.nets p.net) same ∙ ap (slice_get spec.nets) of.number ∙ at) in
       let begins : n.tokens ≡ slice_set (replicate (length net.places) 0) net.input 1 = new.tokens ∙ ap (λ (x : Net). slice_set (replicate (length x.places) 0) x.input 1) its_net in
       let tokens = total_less (λ c. tokens_on t i c * weight_of_place w c) (λ c. begun net.input c * weight_of_place w c) (length net.places)
-          (λ c within. mul-le-mul_right (weight_of_place w c) (few c begins)) in
+      (λ c within. mul-le-mul_right (weight_of_place w c) (few c begins)) in
       let one = one_weighs w net.input (length net.places) in
       let tasks = total_less (λ c. if active t i c then weight_of_task net w c else 0) (λ c. 0) (length net.tasks) (λ c within. none_active c (idle c)) in
       let none = nothing_weighs (length net.tasks) in

@@ -1,8 +1,8 @@
 -- By a certificate no net ever weighs more than one token on its input: so no place gets more tokens than so many weigh, and where the output
 -- is marked nothing is left behind.
-use Rattle.std.specs.Prelude.{◌≡◌, ◌≤◌, ◌<◌, ◌+◌, ◌*◌, ◌/◌, ◌&&◌, ℕ, zero, suc, Bool, true, false, not, List, [], ◌∷◌, length, Option, Some, None, is_some, nat_le, nat_lt, option_map, slice_get, unwrap_or, refl, if◌then◌else◌}
+use Rattle.std.specs.Prelude.{◌≡◌, ◌≤◌, ◌<◌, ◌+◌, ◌*◌, ◌/◌, ℕ, Bool, true, false, not, List, [], ◌∷◌, length, Some, is_some, nat_le, option_map, slice_get, unwrap_or, refl, if◌then◌else◌}
 use Rattle.std.specs.Str.{bytes_eq}
-use Rattle.std.proofs.Common.{sym, ◌∙◌, ap, get_or, subst, arith, le_trans}
+use Rattle.std.proofs.Common.{sym, ◌∙◌, ap, get_or, subst, arith}
 use Rattle.std.proofs.Math.Nat.{le-mul_of_pos_right, le_of_mul-le-mul_right}
 use Rattle.std.proofs.lemmas.Bool.{and_parts, leb-true, ltb-true, not-true}
 use Rattle.std.proofs.lemmas.Nat.{le-div}
@@ -16,24 +16,24 @@ use Rattle.yw_proper.proofs.Exiting.{exit_holds}
 use Rattle.yw_proper.proofs.Lighter.{Holds, Leaves, counted, leaves-some, leaves-same, leaves-then, leaves_hold}
 use Rattle.yw_proper.proofs.NetsComing.{launch_holds, prim_holds, start_sub_holds, substitute_holds}
 use Rattle.yw_proper.proofs.Sums.{total_has, total_has_two}
-use Rattle.yw_proper.specs.Load.{IsAtEnd, IsBounded, IsNetOf, JoinsApart, load, tasks_weigh, tokens_weigh}
-use Rattle.yw_proper.specs.Proper.{IsProper, is_weight, most_weight, weight_of_place, weight_of_task}
+use Rattle.yw_proper.specs.Load.{IsBounded, IsNetOf, JoinsApart, load}
+use Rattle.yw_proper.specs.Proper.{IsProper, most_weight, weight_of_place, weight_of_task}
 use Rattle.yw_sound.specs.Sound.{ReadsSound}
 use Rattle.yw_spec.specs.declared.spec.Net.{Net}
 use Rattle.yw_spec.specs.declared.spec.Spec.{Spec}
 use Rattle.yw_state.proofs.Alike.{net_by}
 use Rattle.yw_state.proofs.MapLemmas.{by_name, get-insert_other}
-use Rattle.yw_state.proofs.Tests.{by_option, by_test, map_some, never, nowhere, some_same, then_some, there, there_and}
+use Rattle.yw_state.proofs.Tests.{by_test, map_some, never, nowhere, some_same, then_some, there, there_and}
 use Rattle.yw_state.specs.After as After
 use Rattle.yw_state.specs.After.{begun, completed, pass, where_some}
 use Rattle.yw_state.specs.Allowed.{Allowed, allows}
 use Rattle.yw_state.specs.ByName.{made_by_child, made_by_worklet}
-use Rattle.yw_state.specs.Events.{LeadAll, Leads, after}
+use Rattle.yw_state.specs.Events.{LeadAll, after}
 use Rattle.yw_state.specs.Identity.{Ident}
 use Rattle.yw_state.specs.Joins.{at_output, marked}
-use Rattle.yw_state.specs.Map.{get, has_key, insert}
-use Rattle.yw_state.specs.State.{State, NetAt, NetPart, item_at, net_at, net_part, opening, spec_called, tokens_on}
-use Rattle.yw_state.specs.Texts.{Reader, Said, Says, nothing, a_spec, a_test}
+use Rattle.yw_state.specs.Map.{get, has_key}
+use Rattle.yw_state.specs.State.{State, NetAt, NetPart, item_at, net_at, net_part, opening, tokens_on}
+use Rattle.yw_state.specs.Texts.{Reader, Said, nothing, a_spec, a_test}
 use Rattle.yw_state.specs.Well.{IsWell}
 use Rattle.yw_state.specs.Words.{active}
 use Rattle.yw_state.specs.declared.event.Event.{Event}

@@ -1,19 +1,18 @@
 -- Events by which neither a net nor an item comes, and no token: each net and each item that stands then stood before.
-use Rattle.std.specs.Prelude.{◌≡◌, ℕ, Bool, true, false, not, List, ◌||◌, refl, if◌then◌else◌}
+use Rattle.std.specs.Prelude.{◌≡◌, ℕ, Bool, true, false, not, List, ◌||◌, refl}
 use Rattle.std.proofs.Common.{sym}
 use Rattle.yw_base.specs.Identity.{under}
 use Rattle.yw_proper.proofs.Lighter.{Leaves, item_itself, item_mapped, leaves-change, leaves-if, leaves-put, leaves-retain, leaves-same, leaves-some, leaves-then, net_gone, net_itself}
 use Rattle.yw_state.proofs.Tests.{never}
-use Rattle.yw_state.specs.After.{add_rule, begin_run, begun, change, complete, completed, end_case, end_net, make_due, make_select_due, new_run, pass, put, where_some, with_item, with_run, with_sites}
+use Rattle.yw_state.specs.After.{add_rule, begin_run, change, complete, completed, end_case, end_net, make_due, make_select_due, pass, with_item, with_run, with_sites}
 use Rattle.yw_state.specs.ByName.{made_of_given}
-use Rattle.yw_state.specs.Events.{after}
 use Rattle.yw_state.specs.Exlets.{case_above, continue_at, cut_back, end_compensation, end_if_over, going_on, is_over, primitive, restarted, suspend}
 use Rattle.yw_state.specs.Identity.{Ident, case_ident, child, same, strictly_under}
 use Rattle.yw_state.specs.Judged.{task_place}
 use Rattle.yw_state.specs.Map.{insert, remove, retain}
 use Rattle.yw_state.specs.Nets.{is_atomic}
 use Rattle.yw_state.specs.Options.{is_some_and}
-use Rattle.yw_state.specs.State.{State, Site, ItemPart, RunPart, NetAt, ItemAt, TaskAt, bare, bare_but, drop, item_at, net_at, run_part, without_net}
+use Rattle.yw_state.specs.State.{State, ItemPart, RunPart, NetAt, ItemAt, TaskAt, bare, bare_but, item_at, net_at, run_part, without_net}
 use Rattle.yw_state.specs.Texts.{Said, nothing, a_spec, a_test}
 use Rattle.yw_state.specs.Values.{Row}
 use Rattle.yw_state.specs.Words.{is_completed}

@@ -1,10 +1,10 @@
 -- Where items come, no net gets heavier: an entry takes tokens that weigh as much as the task, or more; and an item more of a task that is
 -- active changes nothing.
-use Rattle.std.specs.Prelude.{◌≡◌, ◌⊎◌, ◌≤◌, ◌<◌, ◌+◌, ◌*◌, ◌==◌, ◌&&◌, ◌||◌, ℕ, zero, suc, Bool, true, false, not, List, [], ◌∷◌, cond, filter, fold, length, Option, Some, None, is_some, nat_eq, nat_le, nat_lt, option_and_then, option_map, slice_get, unwrap_or, refl, if◌then◌else◌}
+use Rattle.std.specs.Prelude.{◌≡◌, ◌⊎◌, ◌≤◌, ◌<◌, ◌+◌, ◌*◌, ◌==◌, ◌&&◌, ◌||◌, ℕ, zero, suc, Bool, true, false, not, List, [], ◌∷◌, cond, filter, fold, length, Some, nat_eq, nat_le, nat_lt, option_and_then, option_map, slice_get, unwrap_or, refl, if◌then◌else◌}
 use Rattle.std.specs.Cmp.Lexicographic.{pointwise}
 use Rattle.std.specs.List.{list_all, range_with_len, zip}
 use Rattle.std.specs.Ordering.{eq_by_cmp}
-use Rattle.std.proofs.Common.{sym, ◌∙◌, ap, subst, inl, inr, arith, le_trans}
+use Rattle.std.proofs.Common.{sym, ◌∙◌, ap, subst, inl, inr, arith}
 use Rattle.std.proofs.Math.Nat.{mul-le-mul_right}
 use Rattle.std.proofs.lemmas.Bool.{and_parts, eq-eqb, eqb-true, leb-true, ltb-true}
 use Rattle.yw_base.specs.declared.gate.Gate.{Gate}
@@ -14,10 +14,10 @@ use Rattle.yw_invariant.proofs.Changes.{at_each}
 use Rattle.yw_invariant.proofs.Children.{parent_child}
 use Rattle.yw_invariant.proofs.Places.{parent_of_child}
 use Rattle.yw_invariant.proofs.Tasks.{OfTask, of_spec, part_of, task_there}
-use Rattle.yw_proper.proofs.Active.{HasItem, active_item, item_active}
-use Rattle.yw_proper.proofs.Lighter.{Holds, ItemFrom, Leaves, Lighter, NetFrom, active_before, counted, item_itself, leaves-change, net-then, net_before, net_gone, net_itself, net_mapped, put_from, still_holds, weighs_less}
+use Rattle.yw_proper.proofs.Active.{active_item, item_active}
+use Rattle.yw_proper.proofs.Lighter.{Holds, Leaves, NetFrom, active_before, counted, item_itself, leaves-change, net-then, net_before, net_gone, net_itself, net_mapped, put_from, still_holds, weighs_less}
 use Rattle.yw_proper.proofs.NetsComing.{some_holds}
-use Rattle.yw_proper.proofs.Sums.{by_same, total_less, total_rises}
+use Rattle.yw_proper.proofs.Sums.{total_less, total_rises}
 use Rattle.yw_proper.proofs.Tokens.{taken_each, taken_fewer, taken_some, weigh}
 use Rattle.yw_proper.specs.Load.{IsNetOf, JoinsApart, load, tasks_weigh, tokens_weigh}
 use Rattle.yw_proper.specs.Proper.{IsProper, join_weighs, weight_of_each, weight_of_place, weight_of_task}
@@ -26,10 +26,10 @@ use Rattle.yw_spec.specs.declared.spec.Net.{Net}
 use Rattle.yw_spec.specs.declared.spec.Place.{Place}
 use Rattle.yw_spec.specs.declared.spec.Spec.{Spec}
 use Rattle.yw_state.proofs.Alike.{net_by}
-use Rattle.yw_state.proofs.MapLemmas.{by_name, get-insert, get-update_same, tied}
-use Rattle.yw_state.proofs.Tests.{by_option, by_test, map_some, never, nowhere, same_numbers, some_same, then_some, there_and}
+use Rattle.yw_state.proofs.MapLemmas.{by_name, get-insert, tied}
+use Rattle.yw_state.proofs.Tests.{by_test, never, same_numbers, some_same, then_some, there_and}
 use Rattle.yw_state.proofs.Updated.{made_here}
-use Rattle.yw_state.specs.After.{add, add_item, add_items, change, count_on, enter, enter_with, item_checks, new_item, one_less, put, take, where_some, with_net, with_next}
+use Rattle.yw_state.specs.After.{add, add_item, add_items, count_on, enter, item_checks, new_item, one_less, take, where_some, with_net}
 use Rattle.yw_state.specs.Allowed.{Allowed, allows, makes, may_add, may_enter, place_numbers, takes_from}
 use Rattle.yw_state.specs.Identity.{Ident, child, parent}
 use Rattle.yw_state.specs.Joins.{joins, marked}
@@ -62,8 +62,10 @@ module _ (x : TaskAt) (i : Ident) (due : Checks) (s : State) where
         items = λ q y is.
             by_test (eq_by_cmp lexical q (child i e.0))
             (λ here.
-            inr (ap parent (tied by_name q (child i e.0) here) ∙ parent_child i e.0,
-            ap (λ (z : ItemPart). z.task) (sym (some_same _ y (sym (ap (λ b. option_and_then (λ (z : Site). z.item) (cond b (Some (new_item x.number e.1 due)) (get t.sites q))) here) ∙ ap (option_and_then (λ (z : Site). z.item)) (sym (get-insert by_name t.sites (child i e.0) (new_item x.number e.1 due) q)) ∙ is)))))
+            inr (
+              ap parent (tied by_name q (child i e.0) here) ∙ parent_child i e.0,
+              ap (λ (z : ItemPart). z.task) (sym (some_same _ y (sym (ap (λ b. option_and_then (λ (z : Site). z.item) (cond b (Some (new_item x.number e.1 due)) (get t.sites q))) here) ∙ ap (option_and_then (λ (z : Site). z.item)) (sym (get-insert by_name t.sites (child i e.0) (new_item x.number e.1 due) q)) ∙ is))),
+            ))
             (λ other.
             before.items q y
             (sym (ap (λ b. option_and_then (λ (z : Site). z.item) (cond b (Some (new_item x.number e.1 due)) (get t.sites q))) other)
@@ -79,7 +81,7 @@ module _ (x : TaskAt) (i : Ident) (due : Checks) (s : State) where
 items_come : (x : TaskAt) (i : Ident) (first : ℕ) (rows : List Row) (s : State) → Comes s (add_items x i first rows s) i x.number
 items_come x i first rows s =
     let all = each_comes x i (item_checks s x) s (zip (range_with_len first (length rows)) rows) s
-        (record { nets = λ q. net_itself (net_part s q); items = λ q y is. inl (y, is, refl); specs = refl }) in
+    (record { nets = λ q. net_itself (net_part s q); items = λ q y is. inl (y, is, refl); specs = refl }) in
     record { nets = all.nets; items = all.items; specs = all.specs }
 
 -- a task that is active then was so, or is the one
@@ -262,9 +264,9 @@ module _ (spec : Spec) (k : ℕ) (net : Net) (at : slice_get spec.nets k ≡ Som
         tokens_fall =
             let now = total_less (λ c. tokens_on late i c * weight_of_place w c) (λ c. count_on (fold one_less was.part.tokens cs) c * weight_of_place w c) (length net.places) (λ c within. mul-le-mul_right (weight_of_place w c) (fewer c)) in
             let before = total_less (λ c. count_on was.part.tokens c * weight_of_place w c) (λ c. tokens_on s i c * weight_of_place w c) (length net.places)
-                (λ c within. mul-le-mul_right (weight_of_place w c) (let is = counted s i was.part was.stands c in omega (arith, is))) in
+            (λ c within. mul-le-mul_right (weight_of_place w c) (let is = counted s i was.part was.stands c in omega (arith, is))) in
             let between : weigh w (length net.places) (fold one_less was.part.tokens cs) + own ≤ weigh w (length net.places) was.part.tokens =
-                subst (λ places. weigh w places (fold one_less was.part.tokens cs) + own ≤ weigh w places was.part.tokens) counts enough in
+            subst (λ places. weigh w places (fold one_less was.part.tokens cs) + own ≤ weigh w places was.part.tokens) counts enough in
             omega (arith, now, before, between)
 
         tasks_rise : tasks_weigh net w late i ≤ tasks_weigh net w s i + own

@@ -1,8 +1,8 @@
 -- Where a task exits, its net gets no heavier: the task is active no longer, and what its split puts weighs as much as the task, or less.
-use Rattle.std.specs.Prelude.{◌≡◌, ◌≤◌, ◌<◌, ◌+◌, ◌*◌, ◌==◌, ◌&&◌, ◌||◌, ℕ, Bool, true, false, List, [], ◌∷◌, filter, fold, length, Option, Some, None, is_some, nat_eq, nat_le, option_and_then, option_map, slice_get, unwrap_or, refl, if◌then◌else◌}
+use Rattle.std.specs.Prelude.{◌≡◌, ◌≤◌, ◌+◌, ◌*◌, ◌&&◌, ◌||◌, ℕ, Bool, true, false, List, [], ◌∷◌, fold, length, Some, None, nat_eq, option_and_then, option_map, slice_get, unwrap_or, refl, if◌then◌else◌}
 use Rattle.std.specs.Cmp.Lexicographic.{pointwise}
-use Rattle.std.specs.List.{list_all, list_any}
-use Rattle.std.proofs.Common.{sym, ◌∙◌, ap, subst, inl, inr, arith, le_trans}
+use Rattle.std.specs.List.{list_all}
+use Rattle.std.proofs.Common.{sym, ◌∙◌, ap, subst, arith, le_trans}
 use Rattle.std.proofs.Math.Nat.{mul-le-mul_right}
 use Rattle.std.proofs.lemmas.Bool.{and_parts, eq-eqb, eqb-true, leb-true}
 use Rattle.std.proofs.lemmas.Option.{slice_get_within}
@@ -12,13 +12,13 @@ use Rattle.yw_base.specs.declared.gate.Gate.TheVariants.{And, Xor, Or}
 use Rattle.yw_invariant.proofs.Changes.{at_each}
 use Rattle.yw_invariant.proofs.Places.{under_itself}
 use Rattle.yw_invariant.proofs.Tasks.{OfTask, net_sound, task_there}
-use Rattle.yw_proper.proofs.Active.{HasItem, active_item, item_active}
+use Rattle.yw_proper.proofs.Active.{active_item}
 use Rattle.yw_proper.proofs.Calm.{due-leaves}
 use Rattle.yw_proper.proofs.Entering.{within_is}
 use Rattle.yw_proper.proofs.Lighter.{Holds, ItemFrom, Leaves, Lighter, NetFrom, active_before, changed_from, counted, item_itself, leaves-change, leaves-drop_all, leaves-if, leaves-same, leaves-then, net-then, net_before, net_itself, net_mapped, item-then, still_holds, weighs_less}
 use Rattle.yw_proper.proofs.NetsComing.{some_holds}
-use Rattle.yw_proper.proofs.Sums.{by_same, total_falls, total_less}
-use Rattle.yw_proper.proofs.Tokens.{emptied_fewer, filter_weighs, one_weighs, put_each, weigh, weigh_less}
+use Rattle.yw_proper.proofs.Sums.{total_falls, total_less}
+use Rattle.yw_proper.proofs.Tokens.{emptied_fewer, filter_weighs, one_weighs, put_each, weigh_less}
 use Rattle.yw_proper.specs.Load.{IsNetOf, load, tasks_weigh, tokens_weigh}
 use Rattle.yw_proper.specs.Proper.{IsProper, split_weighs, weight_of_each, weight_of_place, weight_of_task}
 use Rattle.yw_sound.specs.Sound.{ReadsSound, are_apart}
@@ -30,9 +30,9 @@ use Rattle.yw_state.proofs.Absent.{idents_of}
 use Rattle.yw_state.proofs.Entries.{entry-found, mapped_in, passes}
 use Rattle.yw_state.proofs.Leaving.{without_items-gone}
 use Rattle.yw_state.proofs.MapLemmas.{by_name, get-update_other}
-use Rattle.yw_state.proofs.Tests.{by_test, map_some, never, nowhere, same_numbers, some_same, then_some, there_and}
+use Rattle.yw_state.proofs.Tests.{by_test, map_some, never, nowhere, same_numbers, then_some, there_and}
 use Rattle.yw_state.proofs.Updated.{made_here}
-use Rattle.yw_state.specs.After.{change, count_on, exit, exit_to, items_gone, make_due, no_more, one_more, post_at_output, produce, region_emptied, set_values, values_assigned, where_some, wipe, with_net, with_sites, without_items}
+use Rattle.yw_state.specs.After.{count_on, exit, exit_to, items_gone, make_due, no_more, one_more, produce, region_emptied, values_assigned, where_some, wipe, with_net, without_items}
 use Rattle.yw_state.specs.Allowed.{Allowed, allows, exit_values, has_room_for, may_exit, may_leave, place_numbers, puts_on}
 use Rattle.yw_state.specs.Gone.{under_item}
 use Rattle.yw_state.specs.Identity.{Ident, is_case_ident, is_child}
@@ -41,7 +41,7 @@ use Rattle.yw_state.specs.Map.{entries, get}
 use Rattle.yw_state.specs.Nets.{is_among}
 use Rattle.yw_state.specs.Options.{is_some_and}
 use Rattle.yw_state.specs.Passing.{split_places, true_places}
-use Rattle.yw_state.specs.State.{State, Site, NetAt, NetPart, ItemPart, TaskAt, drop_all, if_of_task, item_of_task, item_part, items_of, net_at, net_part, spec_called, task_at, tokens_on}
+use Rattle.yw_state.specs.State.{State, Site, NetPart, ItemPart, TaskAt, if_of_task, item_of_task, item_part, items_of, net_part, spec_called, task_at, tokens_on}
 use Rattle.yw_state.specs.Texts.{Reader, Said}
 use Rattle.yw_state.specs.Values.{Row}
 use Rattle.yw_state.specs.Well.{IsWell}
@@ -228,11 +228,11 @@ module _ (spec : Spec) (k : ℕ) (net : Net) (at : slice_get spec.nets k ≡ Som
       tokens_rise : tokens_weigh net w behind i ≤ tokens_weigh net w s i + own
       tokens_rise =
           let now = total_less (λ c. tokens_on behind i c * weight_of_place w c) (λ c. count_on (fold one_more tokens cs) c * weight_of_place w c) (length net.places)
-              (λ c within. mul-le-mul_right (weight_of_place w c) (let here = counted behind i of_late.part of_late.stands c in let light = then_emptied.light.fewer c in omega (arith, here, light))) in
+          (λ c within. mul-le-mul_right (weight_of_place w c) (let here = counted behind i of_late.part of_late.stands c in let light = then_emptied.light.fewer c in omega (arith, here, light))) in
           let more = put_each w (length net.places) cs tokens in
           let less = weigh_less w (length net.places) tokens was.part.tokens was_heavier.fewer in
           let before = total_less (λ c. count_on was.part.tokens c * weight_of_place w c) (λ c. tokens_on s i c * weight_of_place w c) (length net.places)
-              (λ c within. mul-le-mul_right (weight_of_place w c) (let is = counted s i was.part was.stands c in omega (arith, is))) in
+          (λ c within. mul-le-mul_right (weight_of_place w c) (let is = counted s i was.part was.stands c in omega (arith, is))) in
           omega (arith, now, more, less, before, puts_little)
 
       tasks_fall : tasks_weigh net w behind i + own ≤ tasks_weigh net w s i

@@ -8,3 +8,4 @@ pub mod NetsComing
 pub mod Entering
 pub mod Exiting
 pub mod Bounded
+pub mod Accepted

@@ -1,5 +1,5 @@
 -- What keeps or takes away what stands makes no net heavier.
-use Rattle.std.specs.Prelude.{◌≡◌, ◌≤◌, ◌+◌, ◌*◌, ℕ, Bool, true, false, List, [], ◌∷◌, cond, length, fold, not, Option, Some, None, option_and_then, option_map, slice_get, unwrap_or, refl, if◌then◌else◌}
+use Rattle.std.specs.Prelude.{◌≡◌, ◌≤◌, ◌*◌, ℕ, Bool, true, false, List, [], ◌∷◌, cond, length, not, Option, Some, None, option_and_then, option_map, slice_get, unwrap_or, refl, if◌then◌else◌}
 use Rattle.std.specs.Ordering.{eq_by_cmp}
 use Rattle.std.proofs.Common.{sym, ◌∙◌, ap, subst, inl, inr, arith, le_trans}
 use Rattle.std.proofs.Math.Nat.{mul-le-mul_right}
@@ -12,7 +12,7 @@ use Rattle.yw_spec.specs.declared.spec.Net.{Net}
 use Rattle.yw_spec.specs.declared.spec.Spec.{Spec}
 use Rattle.yw_state.proofs.ChangeWell.{changed_or_same}
 use Rattle.yw_state.proofs.MapLemmas.{by_name, get-insert, get-retain}
-use Rattle.yw_state.proofs.Tests.{by_test, never, nowhere, some_same}
+use Rattle.yw_state.proofs.Tests.{never, nowhere, some_same}
 use Rattle.yw_state.specs.After.{change, count_on, put, where_some, with_sites}
 use Rattle.yw_state.specs.Identity.{Ident}
 use Rattle.yw_state.specs.Map.{get, lexical, retain}
@@ -188,13 +188,15 @@ Holds spec k net w s = (i : Ident) → IsNetOf s i spec k → load net w s i ≤
 module _ (spec : Spec) (k : ℕ) (net : Net) (w : List ℕ) (s t : State) (specs : t.specs ≡ s.specs) where
   pub net_before : (i : Ident) → NetFrom (net_part s i) (net_part t i) → (of : IsNetOf t i spec k) → (was : IsNetOf s i spec k) × Lighter was.part of.part
   net_before i from of =
-      let (n, before, lighter) = from of.part of.stands in
-      (record {
-        part = n;
-        stands = before;
-        called = subst (λ name. spec_called s name ≡ Some spec) lighter.spec (ap (λ m. option_map (λ (l : Loaded). l.spec) (get m of.part.spec)) (sym specs) ∙ of.called);
-        number = sym lighter.net ∙ of.number;
-      }, lighter)
+      let (n, before, lighter) = from of.part of.stands in (
+        record {
+          part = n;
+          stands = before;
+          called = subst (λ name. spec_called s name ≡ Some spec) lighter.spec (ap (λ m. option_map (λ (l : Loaded). l.spec) (get m of.part.spec)) (sym specs) ∙ of.called);
+          number = sym lighter.net ∙ of.number;
+        },
+        lighter,
+      )
 
   pub fewer_tokens : (i : Ident) (n m : NetPart) → net_part s i ≡ Some n → net_part t i ≡ Some m → Lighter n m → (c : ℕ) → tokens_on t i c ≤ tokens_on s i c
   fewer_tokens i n m before now lighter c =

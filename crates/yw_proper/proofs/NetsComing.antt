@@ -1,5 +1,5 @@
 -- The events by which a net begins: a case, a child net, a worklet and a compensation.
-use Rattle.std.specs.Prelude.{◌≡◌, ◌+◌, ◌&&◌, ◌==◌, ℕ, Bool, true, false, not, List, [], ◌∷◌, length, Option, Some, None, is_some, nat_lt, option_and_then, option_map, slice_get, refl, if◌then◌else◌}
+use Rattle.std.specs.Prelude.{◌≡◌, ◌+◌, ◌&&◌, ℕ, Bool, true, false, not, List, length, Option, Some, None, is_some, nat_lt, option_and_then, option_map, slice_get, refl, if◌then◌else◌}
 use Rattle.std.proofs.Common.{sym, ◌∙◌, ap, subst, arith}
 use Rattle.std.proofs.lemmas.Bool.{and_parts, ltb-true, not-true}
 use Rattle.yw_invariant.proofs.Ancestors as ancestors
@@ -8,25 +8,24 @@ use Rattle.yw_invariant.proofs.ReadyItems as items
 use Rattle.yw_invariant.proofs.RunsGoOn as runs
 use Rattle.yw_invariant.proofs.Tasks.{part_of_item}
 use Rattle.yw_proper.proofs.Beginning.{IsIdle, IsNew, change_begins, put_begins}
-use Rattle.yw_proper.proofs.Calm.{is_compensation, over-leaves, pass-leaves, primitive-leaves, run-leaves}
+use Rattle.yw_proper.proofs.Calm.{over-leaves, pass-leaves, primitive-leaves, run-leaves}
 use Rattle.yw_proper.proofs.Lighter.{Holds, Leaves, item_itself, item_mapped, leaves_hold}
 use Rattle.yw_spec.specs.declared.spec.Net.{Net}
 use Rattle.yw_spec.specs.declared.spec.Spec.{Spec}
 use Rattle.yw_state.proofs.Gone.{taken}
-use Rattle.yw_state.proofs.Tests.{by_option, by_test, map_some, never, nowhere, some_same, then_some, there_and}
-use Rattle.yw_state.specs.After.{begin_at, begin_case, begun, change, launch, net_numbered, new_case, new_net, pass, put, start_sub, substitute, where_some, where_spec, with_item, with_run}
+use Rattle.yw_state.proofs.Tests.{by_option, map_some, never, then_some, there_and}
+use Rattle.yw_state.specs.After.{begin_at, begin_case, begun, launch, net_numbered, new_net, pass, start_sub, substitute, where_some, where_spec, with_item, with_run}
 use Rattle.yw_state.specs.Allowed.{Allowed, allows, comes_next, is_first, launch_fits}
 use Rattle.yw_state.specs.ByName.{first_values, given_named, source_at}
-use Rattle.yw_state.specs.Events.{after}
-use Rattle.yw_state.specs.Exlets.{begin_compensation, compensate, end_if_over, primitive, take_primitive, taken_first, waiting}
+use Rattle.yw_state.specs.Exlets.{begin_compensation, compensate, primitive, take_primitive, taken_first, waiting}
 use Rattle.yw_state.specs.Identity.{Ident, case_ident, parent}
 use Rattle.yw_state.specs.Map.{get}
 use Rattle.yw_state.specs.Nets.{child_net, top_net}
 use Rattle.yw_state.specs.Options.{is_some_and}
-use Rattle.yw_state.specs.State.{State, Site, NetPart, ItemPart, ItemAt, RunPart, due_at, item_at, item_part, net_part, run_part, spec_called, top_called}
+use Rattle.yw_state.specs.State.{State, Site, ItemPart, ItemAt, RunPart, due_at, item_at, item_part, run_part, spec_called, top_called}
 use Rattle.yw_state.specs.Texts.{Reader, Said}
 use Rattle.yw_state.specs.Values.{Row}
-use Rattle.yw_state.specs.Well.{IsWell, is_drawn}
+use Rattle.yw_state.specs.Well.{IsWell}
 use Rattle.yw_state.specs.Words.{busy, clear, has_check, is_first_due, is_ready}
 use Rattle.yw_state.specs.declared.event.Event.TheVariants as events
 use Rattle.yw_state.specs.declared.part.Checks.{Checks}

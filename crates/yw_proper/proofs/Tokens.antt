@@ -1,12 +1,10 @@
 -- What the tokens of a net weigh where tokens are taken, places are emptied, or each of several places gets one.
-use Rattle.std.specs.Prelude.{◌≡◌, ◌≤◌, ◌<◌, ◌+◌, ◌-◌, ◌*◌, ◌&&◌, ◌||◌, ℕ, zero, suc, Bool, true, false, not, List, [], ◌∷◌, cond, filter, fold, length, nat_eq, nat_le, slice_set, replicate, refl}
+use Rattle.std.specs.Prelude.{◌≡◌, ◌≤◌, ◌<◌, ◌+◌, ◌-◌, ◌*◌, ◌||◌, ℕ, zero, suc, Bool, true, false, not, List, [], ◌∷◌, cond, filter, fold, nat_eq, nat_le, slice_set, replicate, refl}
 use Rattle.std.specs.List.{list_all}
-use Rattle.std.proofs.Common.{sym, ◌∙◌, ap, subst, arith, le_trans}
+use Rattle.std.proofs.Common.{sym, ◌∙◌, ap, subst, arith}
 use Rattle.std.proofs.Math.Nat.{mul-le-mul_right}
-use Rattle.std.proofs.lemmas.Bool.{and_parts, eq-eqb, eqb-true, leb-true, not-true}
+use Rattle.std.proofs.lemmas.Bool.{and_parts, eq-eqb, leb-true, not-true}
 use Rattle.std.proofs.lemmas.List.Sums.{sum_by-cons}
-use Rattle.yw_base.specs.declared.gate.Gate.{Gate}
-use Rattle.yw_base.specs.declared.gate.Gate.TheVariants.{And, Xor, Or}
 use Rattle.yw_proper.proofs.Sums.{by_same, total_falls, total_less, total_rises}
 use Rattle.yw_proper.specs.Load.{total}
 use Rattle.yw_proper.specs.Proper.{weight_of_each, weight_of_place}

@@ -1,16 +1,20 @@
 -- What a net's tokens and active tasks weigh, and what a certificate says of each state: the net can't flood a place, and where it is at
 -- its end nothing is left behind. The paper's proper completion, for all its events and those of the thesis; the bounds are our own.
-use Rattle.std.specs.Prelude.{◌≡◌, ◌≤◌, ◌<◌, ◌+◌, ◌*◌, ◌/◌, ℕ, zero, suc, Bool, false, List, length, nat_lt, slice_get, Some, IsTrue, if◌then◌else◌}
+use Rattle.std.specs.Prelude.{◌≡◌, ◌≤◌, ◌<◌, ◌+◌, ◌*◌, ◌/◌, ℕ, zero, suc, false, List, length, slice_get, Some, IsTrue, if◌then◌else◌}
 use Rattle.yw_spec.specs.declared.spec.Net.{Net}
 use Rattle.yw_spec.specs.declared.spec.Spec.{Spec}
 use Rattle.yw_spec.specs.declared.task.Task.{Task}
+use Rattle.yw_model.specs.Texts.{reader}
 use Rattle.yw_proper.specs.Proper.{weight_of_place, weight_of_task}
 use Rattle.yw_sound.specs.Sound.{are_apart}
+use Rattle.yw_state.specs.Events.{LeadAll}
 use Rattle.yw_state.specs.Identity.{Ident}
 use Rattle.yw_state.specs.Joins.{at_output}
 use Rattle.yw_state.specs.Map.{get}
-use Rattle.yw_state.specs.State.{State, NetPart, net_part, spec_called, tokens_on}
+use Rattle.yw_state.specs.State.{State, NetPart, net_part, opening, spec_called, tokens_on}
+use Rattle.yw_state.specs.Texts.{Reader}
 use Rattle.yw_state.specs.Words.{active}
+use Rattle.yw_state.specs.declared.event.Event.{Event}
 use Rattle.yw_state.specs.declared.loaded.Loaded.{Loaded}
 
 -- the sum of f over the numbers below n
@@ -65,3 +69,11 @@ pub record IsBounded (net : Net) (w : List ℕ) (s : State) (i : Ident) : Type 0
   pub whole : load net w s i ≤ weight_of_place w net.input
   pub places : (c : ℕ) → c < length net.places → tokens_on s i c ≤ weight_of_place w net.input / weight_of_place w c
   pub end : IsTrue (at_output s i) → IsAtEnd net s i
+
+-- so of each net with this number of this specification, in each state to which allowed events lead from the opening one
+abbrev pub StaysBounded : Reader → Spec → ℕ → Net → List ℕ → Type 0
+StaysBounded by spec k net w = (es : List Event) (s : State) → LeadAll by opening es s → (i : Ident) → IsNetOf s i spec k → IsBounded net w s i
+
+-- so of each that was loaded with this text, which is accepted
+abbrev pub TextStaysBounded : List ℕ → ℕ → Net → List ℕ → Type 0
+TextStaysBounded text k net w = (es : List Event) (s : State) → LeadAll reader opening es s → (i : Ident) → IsNetOfText s i text k → IsBounded net w s i

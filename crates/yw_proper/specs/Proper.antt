@@ -1,7 +1,7 @@
 -- A certificate that a net completes properly: a weight for each of its places and tasks, by which no task makes anything heavier. That a
 -- net's tokens never get heavier is the field's (place invariants of Petri nets, as inequalities); that an active task has a weight of its
 -- own, so that an OR-split and a removal set can be weighed, is our own.
-use Rattle.std.specs.Prelude.{◌≡◌, ◌≤◌, ◌+◌, ◌&&◌, ℕ, Bool, List, length, nat_le, slice_get, sum_by, unwrap_or, Some, IsTrue}
+use Rattle.std.specs.Prelude.{◌≡◌, ◌+◌, ◌&&◌, ℕ, Bool, List, length, nat_le, slice_get, sum_by, unwrap_or, Some, IsTrue}
 use Rattle.std.specs.List.{list_all}
 use Rattle.yw_base.specs.declared.gate.Gate.{Gate}
 use Rattle.yw_base.specs.declared.gate.Gate.TheVariants.{And, Xor, Or}

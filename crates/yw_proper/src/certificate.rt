@@ -1,7 +1,9 @@
 // A certificate is tried.
-ghost use Rattle.std.specs.Prelude.{◌≡◌, ◌+◌, ◌<◌, ◌⊎◌, ℕ, false, IfErr, IfOk, IsOk, IsTrue, OnOk, length, nat_le, slice_get};
+ghost use Rattle.std.specs.Prelude.{◌≡◌, ◌↔◌, ◌+◌, ◌<◌, ◌⊎◌, ℕ, false, IfErr, IfOk, IsOk, IsTrue, List, OnOk, length, nat_le, slice_get};
 ghost use Rattle.std.specs.List.{list_all};
+ghost use Rattle.yw_model.specs.Texts.{IsAccepted};
 ghost use Rattle.yw_proper.specs.First.{IsFirst, IsOfTask};
+ghost use Rattle.yw_proper.specs.Load.{TextStaysBounded};
 ghost use Rattle.yw_proper.specs.Proper.{AreWeights, HasWeights, IsProper, IsProved, OfNet};
 ghost use Rattle.yw_proper.specs.Proper.{TaskIsProper, TasksAreProper};
 ghost use Rattle.yw_proper.specs.Proper.{is_weight, join_weighs, split_weighs, weight_of_each, weight_of_place, weight_of_task};
@@ -147,6 +149,24 @@ fn check_tasks(net: &Net, weights: &[u64]) -> Result<(), ProofFault>
     Ok(())
 }
 
+/// The net with this number.
+fn net_at(spec: &Spec, net: usize) -> &Net
+    requires { net < length spec.now.nets }
+    ensures { slice_get spec.now.nets net ≡ Some result.now }
+{
+    &spec.nets.as_slice()[net]
+}
+
+/// The weights are as many as the places and the tasks of the net with this number.
+pub fn are_weights_of(spec: &Spec, net: usize, weights: &WeightList) -> bool
+    requires { net < length spec.now.nets }
+    ensures { IsTrue result ↔ OfNet spec.now net (λ n. HasWeights n weights.now) }
+{
+    let net = net_at(spec, net);
+    let places = net.places.len();
+    places <= weights.len() && weights.len() - places == net.tasks.len()
+}
+
 /// Tries a certificate of one net.
 fn prove_net(net: &Net, weights: &[u64]) -> Result<u64, ProofFault>
     requires { HasWeights net.now weights.now }
@@ -164,7 +184,9 @@ fn prove_net(net: &Net, weights: &[u64]) -> Result<u64, ProofFault>
 
 /// Tries a certificate of the net with this number: weights of its places and then of its tasks. The answer is the weight of the input,
 /// exactly where the certificate is proper; else it is the first fault: of the weights in order, then of each task in order its join
-/// and its split, then of the ends. It takes no memory.
+/// and its split, then of the ends. It takes no memory. With a yes, in each state that is ever reached each net of this number that was
+/// loaded with a text of this specification is bounded: no place gets more tokens than so many weigh as one on the input, and where
+/// the output is marked it has one token, no other place has one, and no task is active.
 pub fn prove(spec: &Spec, net: usize, weights: &WeightList) -> Result<u64, ProofFault>
     requires net { net < length spec.now.nets }
     requires weights { OfNet spec.now net (λ n. HasWeights n weights.now) }
@@ -173,6 +195,8 @@ pub fn prove(spec: &Spec, net: usize, weights: &WeightList) -> Result<u64, Proof
     ensures proper { OfNet spec.now net (λ n. IsProper n weights.now → IsOk result) }
     ensures first { OfNet spec.now net (λ n. (fault : ProofFault) → IsFirst n weights.now fault
         → result ≡ Err fault) }
+    ensures bounded { OfNet spec.now net (λ n. IsOk result → (text : List ℕ)
+        → IsAccepted text spec.now → TextStaysBounded text net n weights.now) }
 {
-    prove_net(&spec.nets.as_slice()[net], weights.as_slice())
+    prove_net(net_at(spec, net), weights.as_slice())
 }
