@@ -8,7 +8,7 @@ use Rattle.yw_sites.proofs.Each.{Each-back}
 use Rattle.yw_sites.proofs.Parts.{is_bared, is_bared_but}
 use Rattle.yw_sites.proofs.Prefix.{child_strictly, is_child_of, under_refl}
 use Rattle.yw_sites.proofs.Swaps.{at_apart}
-use Rattle.yw_sites.specs.Entries.{AllUnder, Entries, Swaps}
+use Rattle.yw_sites.specs.Entries.{Entries}
 use Rattle.yw_sites.specs.Idents.{AreChildren, IsChild}
 use Rattle.yw_state.specs.Identity.{Ident, strictly_under}
 use Rattle.yw_state.specs.Map.{lexical}
@@ -17,12 +17,11 @@ use Rattle.yw_tree.proofs.Asked.{held_off}
 use Rattle.yw_tree.proofs.Equations.{run_entries_is}
 use Rattle.yw_tree.proofs.ForestLaw.{InCase, item_found}
 use Rattle.yw_tree.proofs.Induct.{below_every_node}
-use Rattle.yw_tree.proofs.Keys.{run_keys}
 use Rattle.yw_tree.proofs.Made.{made_node, made_run}
 use Rattle.yw_tree.proofs.NetLaw.{placing, site_open, under_is, under_was}
-use Rattle.yw_tree.proofs.RunLaw.{run_found, run_placed}
+use Rattle.yw_tree.proofs.RunLaw.{opened}
 use Rattle.yw_tree.specs.Boxed.{AtNet, AtNode, AtRun, Held, IsBoxedNet, IsBoxedNode, IsBoxedRun, head, net_ids, run_ids}
-use Rattle.yw_tree.specs.Entries.{below_net, below_run, item_site, net_part_of, run_entries, run_site}
+use Rattle.yw_tree.specs.Entries.{below_net, below_run, item_site, net_part_of, run_site}
 use Rattle.yw_tree.specs.Forest.{IsForest, entries, item_of, item_replaced, sites_of}
 use Rattle.yw_tree.specs.Places.{placed_run, run_of}
 use Rattle.yw_tree.specs.declared.Forest.{Forest}
@@ -38,9 +37,6 @@ RunLevel = Run-F NetState Node Run
 
 -- ---- a run
 module _ (f : Forest) (b : IsForest f) (id : Ident) (long : 1 ≤ length id) (r w : Run) (e : run_of f id ≡ Some r) (is : out-Run w ≡ record (out-Run r) { net = None }) where
-  own : ((out-Run r).id ≡ id) × IsBoxedRun r
-  own = run_found f id r b e
-
   run_boxed : IsBoxedRun w
   run_boxed =
       let l : RunLevel = record (out-Run r) { net = None } in
@@ -50,22 +46,15 @@ module _ (f : Forest) (b : IsForest f) (id : Ident) (long : 1 ≤ length id) (r 
   same_id : (out-Run w).id ≡ (out-Run r).id
   same_id = ap (λ (z : RunLevel). z.id) is
 
-  keys_below : (names : ℕ → List ℕ) (k : Run) → IsBoxedRun k → (out-Run k).id ≡ id → AllUnder id (below_net names (out-Run k).net)
-  keys_below names k kb same = subst (λ z. AllUnder z (below_net names (out-Run k).net)) same (subst (AllUnder (out-Run k).id) (run_entries_is names k) (run_keys names k kb)).1
-
   abbrev run_open : (ℕ → List ℕ) → RunLevel → Site
   run_open names l = record { net = net_part_of names l.net; item = None; run = Some (record { rest = l.rest; waiting = l.waiting }); suspended = false; due = no_checks }
 
   pub run_bared : (names : ℕ → List ℕ) → (sites_of names (placed_run f id w) ≡ bare (sites_of names f) id) × IsForest (placed_run f id w)
   run_bared names =
-      let p = run_placed names f b id long r w e same_id run_boxed in
-      let g : Forest = placed_run f id w in
-      let first : run_entries names r ≡ (id, run_site names r) ∷ below_net names (out-Run r).net = run_entries_is names r ∙ ap (λ z. (z, run_site names r) ∷ below_net names (out-Run r).net) own.0 in
-      let second : run_entries names w ≡ (id, run_site names w) ∷ below_net names (out-Run w).net = run_entries_is names w ∙ ap (λ z. (z, run_site names w) ∷ below_net names (out-Run w).net) (same_id ∙ own.0) in
-      let s = subst (λ z. Swaps id z ((id, run_site names w) ∷ below_net names (out-Run w).net) (entries names f) (entries names g)) first (subst (λ z. Swaps id (run_entries names r) z (entries names f) (entries names g)) second p.0) in (
-        is_bared id (run_site names r) (run_site names w) (below_net names (out-Run r).net) (below_net names (out-Run w).net) (entries names f) (entries names g) s (keys_below names r own.1 own.0) (keys_below names w run_boxed (same_id ∙ own.0))
+      let p = opened names f b id long r w e same_id run_boxed in (
+        is_bared id (run_site names r) (run_site names w) (below_net names (out-Run r).net) (below_net names (out-Run w).net) (entries names f) (entries names (placed_run f id w)) p.0 p.1 p.2
             (ap (λ (z : RunLevel). below_net names z.net) is) (ap (run_open names) is),
-        p.1,
+        p.3,
       )
 
 -- ---- an item, but for its run

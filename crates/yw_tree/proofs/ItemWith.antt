@@ -13,7 +13,7 @@ use Rattle.yw_tree.proofs.Parents.{parent_child, parent_length, parent_there}
 use Rattle.yw_tree.proofs.Split.{place_leads}
 use Rattle.yw_tree.proofs.Stood.{net_above, place_there_too}
 use Rattle.yw_tree.specs.Cases.{case_at}
-use Rattle.yw_tree.specs.Forest.{IsForest, item_of, item_of_case, sites_of}
+use Rattle.yw_tree.specs.Forest.{IsForest, item_of, item_of_case}
 use Rattle.yw_tree.specs.Places.{net_at}
 use Rattle.yw_tree.specs.Ways.{node_at, place_of}
 use Rattle.yw_tree.specs.declared.Forest.{Forest}

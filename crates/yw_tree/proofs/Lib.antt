@@ -62,3 +62,4 @@ pub mod Stood
 pub mod ItemThere
 pub mod ItemWith
 pub mod Drawn
+pub mod Lent

@@ -1,7 +1,6 @@
 -- The net at an identity, whether of a case, an item or a run: what a change of it does to the whole forest.
-use Rattle.std.proofs.Common.{◌≡◌, ◌≤◌, ℕ, true, false, cond, refl, length, Option, Some, None, List, [], ◌∷◌, ◌++◌, ap, subst, sym, ◌∙◌}
-use Rattle.std.specs.Prelude.{Box, is_some, option_and_then, option_map}
-use Rattle.std.specs.FinMap.Entries.{find}
+use Rattle.std.proofs.Common.{◌≡◌, ◌≤◌, ℕ, false, cond, refl, length, Option, Some, None, List, [], ◌∷◌, ◌++◌, ap, subst, sym, ◌∙◌}
+use Rattle.std.specs.Prelude.{Box, option_and_then, option_map}
 use Rattle.std.specs.declared.alloc.Global.{Global}
 use Rattle.yw_base.specs.Identity.{under}
 use Rattle.yw_sites.specs.Entries.{AllUnder, Entries, Swaps}
@@ -11,12 +10,12 @@ use Rattle.yw_sites.proofs.Dropped.{above, get-drop_all, untouched}
 use Rattle.yw_sites.proofs.Each.{nil_right}
 use Rattle.yw_state.specs.After.{with_net as with_part}
 use Rattle.yw_state.specs.Identity.{Ident, case_ident}
-use Rattle.yw_state.specs.Map.{get, lexical}
+use Rattle.yw_state.specs.Map.{get}
 use Rattle.yw_state.specs.State.{NetPart, Site, Sites, drop_all, no_checks}
 use Rattle.yw_state.proofs.Tests.{map_some, nowhere, some_same}
 use Rattle.yw_tree.specs.Boxed.{AtNet, AtNode, AtRun, Held, IsBoxedNet, IsBoxedRun, IsNetAt, ids, net_ids, run_ids}
 use Rattle.yw_tree.specs.Cases.{case_at}
-use Rattle.yw_tree.specs.Entries.{below_net, below_run, net_entries, net_part, net_part_of, run_entries, run_site}
+use Rattle.yw_tree.specs.Entries.{below_net, below_run, net_entries, net_part, net_part_of, run_site}
 use Rattle.yw_tree.specs.Forest.{IsForest, entries, item_of, item_part_replaced, item_net_replaced, top_replaced, sites_of, top_of, with_top}
 use Rattle.yw_tree.specs.Places.{over_run_net, placed_run, run_of}
 use Rattle.yw_tree.specs.Shows.{ShowsNet, StandsBeside}
@@ -28,31 +27,16 @@ use Rattle.yw_tree.specs.declared.Node.{Node, out-Node}
 use Rattle.yw_tree.specs.declared.Run.{Run, Run-F, out-Run, out-roll-Run, every_here-Run}
 use Rattle.yw_tree.proofs.Beside.{none_beside, run_beside, run_known}
 use Rattle.yw_tree.proofs.CaseLaw.{its, top_changes, top_shown}
-use Rattle.yw_tree.proofs.Equations.{run_entries_is}
 use Rattle.yw_tree.proofs.ForestLaw.{InCase, item_found}
 use Rattle.yw_tree.proofs.Found.{boxed_in}
 use Rattle.yw_tree.proofs.Induct.{below_every_node, below_every_run}
-use Rattle.yw_tree.proofs.Keys.{run_keys}
 use Rattle.yw_tree.proofs.Made.{made_run}
 use Rattle.yw_tree.proofs.NetLaw.{net_lifted, shown}
 use Rattle.yw_tree.proofs.PartNet.{net_changes, net_shown}
-use Rattle.yw_tree.proofs.RunLaw.{run_found, run_placed}
+use Rattle.yw_tree.proofs.RunLaw.{opened, run_found}
 use Rattle.yw_tree.proofs.TaskCut.{its_children, its_net}
-
--- The net s stands at i. What stands beside it, and beside any identities that fit there, as those of another net; and what the forest
--- means with another net there.
-pub record NetHere (f : Forest) (i : Ident) (s : NetState) (placed : NetState → Forest) : Type 0 where
-  pub boxed : IsBoxedNet s
-  pub others : List Ident
-  pub here : AreChildren i (ids s ++ others)
-  pub beside : (ℕ → List ℕ) → Entries
-  pub stands : (names : ℕ → List ℕ) → StandsBeside i (ids s) (beside names)
-  pub stands_with : (js : List Ident) → AreChildren i (js ++ others) → (names : ℕ → List ℕ) → StandsBeside i js (beside names)
-  pub shows : (names : ℕ → List ℕ) → ShowsNet names (sites_of names f) i (beside names) s
-  pub known : (names : ℕ → List ℕ) → Each (λ j. is_some (find lexical j (beside names)) ≡ true) others
-  pub lift : (w : NetState) → IsBoxedNet w → AreChildren i (ids w ++ others) → (names : ℕ → List ℕ) (m : Sites) → ShowsNet names m i (beside names) w
-      → get m i ≡ option_map (with_part (λ _. net_part names w)) (get (sites_of names f) i) → ((q : Ident) → under q i ≡ false → get m q ≡ get (sites_of names f) q)
-      → (sites_of names (placed w) ≡ m) × IsForest (placed w)
+-- that a net stands at an identity, as the definitions say it
+pub use Rattle.yw_tree.specs.Lent.{NetHere}
 
 -- ---- of a case
 pub top_here : (f : Forest) (n : ℕ) (s : NetState) → IsForest f → top_of f n ≡ Some s → NetHere f (case_ident n) s (top_replaced f n)
@@ -142,41 +126,23 @@ module _ (f : Forest) (id : Ident) (long : 1 ≤ length id) (r : Run) (s : NetSt
     old_below : below_net names (out-Run r).net ≡ (net_entries names s).1 ++ []
     old_below = (held w (out-Run r).net at).1 names ∙ sym (nil_right (net_entries names s).1)
 
-    old_first : run_entries names r ≡ (id, run_site names r) ∷ below_net names (out-Run r).net
-    old_first = run_entries_is names r ∙ ap (λ z. (z, run_site names r) ∷ below_net names (out-Run r).net) own.0
-
-    new_first : run_entries names (with_net_in_run r w) ≡ (id, run_site names (with_net_in_run r w)) ∷ below_net names (out-Run (with_net_in_run r w)).net
-    new_first = run_entries_is names (with_net_in_run r w) ∙ ap (λ z. (z, run_site names (with_net_in_run r w)) ∷ below_net names (out-Run (with_net_in_run r w)).net) (new_id ∙ own.0)
-
-    after : Forest
-    after = placed_run f id (with_net_in_run r w)
-
     placing : Swaps id ((id, run_site names r) ∷ below_net names (out-Run r).net) ((id, run_site names (with_net_in_run r w)) ∷ below_net names (out-Run (with_net_in_run r w)).net) (entries names f) (entries names (placed_run f id (with_net_in_run r w)))
-        × IsForest (placed_run f id (with_net_in_run r w))
-    placing =
-        let p = run_placed names f b id long r (with_net_in_run r w) e new_id new_boxed in
-        let g : Forest = placed_run f id (with_net_in_run r w) in (
-          subst (λ z. Swaps id z ((id, run_site names (with_net_in_run r w)) ∷ below_net names (out-Run (with_net_in_run r w)).net) (entries names f) (entries names g)) old_first
-              (subst (λ z. Swaps id (run_entries names r) z (entries names f) (entries names g)) new_first p.0),
-          p.1,
-        )
-
-    keys_below : (k : Run) → IsBoxedRun k → (out-Run k).id ≡ id → AllUnder id (below_net names (out-Run k).net)
-    keys_below k kb same = subst (λ z. AllUnder z (below_net names (out-Run k).net)) same (subst (AllUnder (out-Run k).id) (run_entries_is names k) (run_keys names k kb)).1
+        × AllUnder id (below_net names (out-Run r).net) × AllUnder id (below_net names (out-Run (with_net_in_run r w)).net) × IsForest (placed_run f id (with_net_in_run r w))
+    placing = opened names f b id long r (with_net_in_run r w) e new_id new_boxed
 
     run_shows : ShowsNet names (sites_of names f) id [] s
     run_shows =
         let h = held w (out-Run r).net at in
         net_shown id (run_site names r) (run_site names (with_net_in_run r w)) (below_net names (out-Run r).net) (below_net names (out-Run (with_net_in_run r w)).net) (entries names f) (entries names (placed_run f id (with_net_in_run r w)))
-        placing.0 (keys_below r own.1 own.0) (keys_below (with_net_in_run r w) new_boxed (new_id ∙ own.0)) names [] s w old_below new_below (h.2 names) new_site
+        placing.0 placing.1 placing.2 names [] s w old_below new_below (h.2 names) new_site
 
     run_changes : (m : Sites) → ShowsNet names m id [] w → get m id ≡ option_map (with_part (λ _. net_part names w)) (get (sites_of names f) id) → ((q : Ident) → under q id ≡ false → get m q ≡ get (sites_of names f) q)
         → (sites_of names (placed_run f id (with_net_in_run r w)) ≡ m) × IsForest (placed_run f id (with_net_in_run r w))
     run_changes m shows own_site outside =
         let h = held w (out-Run r).net at in (
           net_changes id (run_site names r) (run_site names (with_net_in_run r w)) (below_net names (out-Run r).net) (below_net names (out-Run (with_net_in_run r w)).net) (entries names f) (entries names (placed_run f id (with_net_in_run r w)))
-              placing.0 (keys_below r own.1 own.0) (keys_below (with_net_in_run r w) new_boxed (new_id ∙ own.0)) names [] s w old_below new_below (h.2 names) new_site m shows own_site outside,
-          placing.1,
+              placing.0 placing.1 placing.2 names [] s w old_below new_below (h.2 names) new_site m shows own_site outside,
+          placing.3,
         )
 
   nothing_beside : (js : List Ident) → StandsBeside id js []

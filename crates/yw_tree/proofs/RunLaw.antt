@@ -3,7 +3,7 @@ use Rattle.std.proofs.Common.{◌≡◌, ◌≤◌, ℕ, true, refl, length, Opt
 use Rattle.std.specs.Prelude.{Box}
 use Rattle.std.specs.declared.alloc.Global.{Global}
 use Rattle.yw_base.specs.Identity.{under}
-use Rattle.yw_sites.specs.Entries.{Entries, NoneUnder, Swaps}
+use Rattle.yw_sites.specs.Entries.{AllUnder, Entries, NoneUnder, Swaps}
 use Rattle.yw_sites.specs.Idents.{AreChildren, IsChild}
 use Rattle.yw_sites.proofs.Children.{strictly}
 use Rattle.yw_sites.proofs.Each.{Each-back}
@@ -13,7 +13,7 @@ use Rattle.yw_state.specs.Identity.{Ident, case_ident, case_number, parent}
 use Rattle.yw_state.proofs.Tests.{nowhere, some_same}
 use Rattle.yw_tree.specs.Boxed.{AtNet, AtNode, AtRun, Held, IsBoxedCase, IsBoxedNode, IsBoxedRun, ids, net_ids, run_ids}
 use Rattle.yw_tree.specs.Cases.{case_at}
-use Rattle.yw_tree.specs.Entries.{below_net, below_run, case_entries, case_site, item_site, net_entries, node_entries, run_entries}
+use Rattle.yw_tree.specs.Entries.{below_net, below_run, case_entries, case_site, item_site, net_entries, node_entries, run_entries, run_site}
 use Rattle.yw_tree.specs.Forest.{IsForest, entries, item_of, item_replaced}
 use Rattle.yw_tree.specs.Places.{over_case_run, over_item_run, placed_case, placed_run, run_at, run_of}
 use Rattle.yw_tree.specs.Ways.{run_in, with_run}
@@ -24,9 +24,10 @@ use Rattle.yw_tree.specs.declared.Node.{Node, Node-F, out-Node, roll-Node, out-r
 use Rattle.yw_tree.specs.declared.Run.{Run, out-Run}
 use Rattle.yw_tree.proofs.Asked.{held_off, net_off}
 use Rattle.yw_tree.proofs.CaseLaw.{its}
-use Rattle.yw_tree.proofs.Equations.{node_entries_is}
+use Rattle.yw_tree.proofs.Equations.{node_entries_is, run_entries_is}
 use Rattle.yw_tree.proofs.ForestLaw.{InCase, forest_law, in_case, item_found}
 use Rattle.yw_tree.proofs.Induct.{below_every_node}
+use Rattle.yw_tree.proofs.Keys.{run_keys}
 use Rattle.yw_tree.proofs.Made.{made_node}
 use Rattle.yw_tree.proofs.NetLaw.{site_open}
 use Rattle.yw_tree.proofs.Parents.{parent_there}
@@ -153,3 +154,23 @@ run_found f id r b e =
     by_host f id r e
     (λ t v c at h. (has_its_id id c.run r h, boxed_hung c.run r (run_here id c.run r h).1 (its (λ k. []) f b (case_number id) c at).1.run))
     (λ t v n at h. (has_its_id id (out-Node n).run r h, boxed_hung (out-Node n).run r (run_here id (out-Node n).run r h).1 (below_every_node AtNet AtNode AtRun n (item_found f (parent id) n b at).1).1))
+
+-- ---- the same with each run one level open, and what is below it lies under the identity
+module _ (names : ℕ → List ℕ) where
+  run_below_under : (id : Ident) (k : Run) → IsBoxedRun k → (out-Run k).id ≡ id → AllUnder id (below_net names (out-Run k).net)
+  run_below_under id k kb same = subst (λ z. AllUnder z (below_net names (out-Run k).net)) same (subst (AllUnder (out-Run k).id) (run_entries_is names k) (run_keys names k kb)).1
+
+  pub opened : (f : Forest) → IsForest f → (id : Ident) → 1 ≤ length id → (r w : Run) → run_of f id ≡ Some r → (out-Run w).id ≡ (out-Run r).id → IsBoxedRun w
+      → Swaps id ((id, run_site names r) ∷ below_net names (out-Run r).net) ((id, run_site names w) ∷ below_net names (out-Run w).net) (entries names f) (entries names (placed_run f id w))
+      × AllUnder id (below_net names (out-Run r).net) × AllUnder id (below_net names (out-Run w).net) × IsForest (placed_run f id w)
+  opened f b id long r w e same_id wb =
+      let own = run_found f id r b e in
+      let p = run_placed names f b id long r w e same_id wb in
+      let g : Forest = placed_run f id w in
+      let first : run_entries names r ≡ (id, run_site names r) ∷ below_net names (out-Run r).net = run_entries_is names r ∙ ap (λ z. (z, run_site names r) ∷ below_net names (out-Run r).net) own.0 in
+      let second : run_entries names w ≡ (id, run_site names w) ∷ below_net names (out-Run w).net = run_entries_is names w ∙ ap (λ z. (z, run_site names w) ∷ below_net names (out-Run w).net) (same_id ∙ own.0) in (
+        subst (λ z. Swaps id z ((id, run_site names w) ∷ below_net names (out-Run w).net) (entries names f) (entries names g)) first (subst (λ z. Swaps id (run_entries names r) z (entries names f) (entries names g)) second p.0),
+        run_below_under id r own.1 own.0,
+        run_below_under id w wb (same_id ∙ own.0),
+        p.1,
+      )

@@ -104,5 +104,11 @@ module _ (names : ℕ → List ℕ) where
   below_run None = []
   below_run (Some b) = run_entries b.value
 
+  abbrev pub below_item : Node → Entries
+  below_item n = below_net (out-Node n).net ++ below_run (out-Node n).run
+
+  abbrev pub below_case : Case → Entries
+  below_case c = (net_entries c.net).1 ++ below_run c.run
+
   abbrev pub case_entries : Case → Entries
-  case_entries c = (c.id, case_site c) ∷ ((net_entries c.net).1 ++ below_run c.run)
+  case_entries c = (c.id, case_site c) ∷ below_case c

@@ -12,3 +12,4 @@ pub mod Coming
 pub mod Becomes
 pub mod Holding
 pub mod Begins
+pub mod Lent

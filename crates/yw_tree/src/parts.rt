@@ -7,6 +7,7 @@ ghost use Rattle.yw_state.specs.Identity.{case_ident};
 ghost use Rattle.yw_tree.specs.Forest.{item_of, levels};
 ghost use Rattle.yw_tree.specs.Cases.{case_at};
 ghost use Rattle.yw_tree.specs.Lending.{LendsCase, LendsCaseNet, LendsCaseRun, LendsInNet, LendsItem, LendsNetAt, LendsRunAt, LendsRunNetAt, LendsRunOfCase, LendsRunOfItem};
+ghost use Rattle.yw_tree.specs.Lent.{PlacedCase, PlacedItem, PlacedNet, PlacedRun};
 ghost use Rattle.yw_tree.specs.Places.{net_at, net_of_run, run_of, run_of_case, run_of_item};
 ghost use Rattle.yw_tree.specs.Ways.{case_inner, item_in, run_leads};
 
@@ -143,6 +144,7 @@ impl Forest {
     pub fn case_mut(&mut self, n: u64) -> Option<&mut Case>
         ensures* writes_back { sem 𝓛 (LendsCase self.entry n result) }
         ensures value { option_copied_mut result ≡ case_at n self.old.cases }
+        ensures placed { PlacedCase self.old n }
     {
         self.cases.get_mut(n)
     }
@@ -151,6 +153,7 @@ impl Forest {
     pub fn run_mut<'a>(&'a mut self, id: &Ident) -> Option<&'a mut Run>
         ensures* writes_back { sem 𝓛 (LendsRunAt self.entry id.entry.now result) }
         ensures value { option_copied_mut result ≡ run_of self.old id.now }
+        ensures placed { PlacedRun self.old id.now }
         ensures identity { is_identity id.now ≡ true }
     {
         run_by(self, id.numbers())
@@ -160,6 +163,7 @@ impl Forest {
     pub fn net_mut<'a>(&'a mut self, id: &Ident) -> Option<&'a mut NetState>
         ensures* writes_back { sem 𝓛 (LendsNetAt self.entry id.entry.now result) }
         ensures value { option_copied_mut result ≡ net_at self.old id.now }
+        ensures placed { PlacedNet self.old id.now }
         ensures identity { is_identity id.now ≡ true }
     {
         net_by(self, id.numbers())
@@ -169,6 +173,7 @@ impl Forest {
     pub fn item_mut<'a>(&'a mut self, id: &Ident) -> Option<&'a mut Node>
         ensures* writes_back { sem 𝓛 (LendsItem self.entry id.entry.now result) }
         ensures value { option_copied_mut result ≡ item_of self.old id.now }
+        ensures placed { PlacedItem self.old id.now }
         ensures identity { is_identity id.now ≡ true }
     {
         item_by(self, id.numbers())

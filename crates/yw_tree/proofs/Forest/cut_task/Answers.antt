@@ -4,9 +4,7 @@ use Rattle.yw_state.specs.State.{State, drop_all, items_of, opening}
 use Rattle.yw_tree.specs.Forest.{sites_of}
 use Rattle.yw_tree.specs.Places.{net_at, placed_net}
 use Rattle.yw_tree.specs.Shows.{ShowsNet}
-use Rattle.yw_tree.proofs.NetAt.{net_here}
 use Rattle.yw_tree.proofs.NetHere.{cut_here, net_at_here}
-use Rattle.yw_tree.proofs.Parents.{identity_long}
 use Rattle.yw_tree.proofs.TaskCut.{items_children}
 use Rattle.yw_tree.proofs.Forest.cut_task.Goals as goal
 
@@ -16,7 +14,7 @@ clear_task-requires-clause-boxed c =
     let id = c.args.id.now in
     let s = c.in-Some.net.now in
     let e : net_at f id ≡ Some s = sym (rw c.in-Some.is at c.net_mut.ensures.value) in
-    (net_here f id s c.requires.boxed (identity_long id c.net_mut.ensures.identity) e).boxed
+    (c.net_mut.ensures.placed c.requires.boxed s e).boxed
 
 pub returns-in-Some-clause-sites : goal.returns-in-Some-clause-sites
 returns-in-Some-clause-sites c =
@@ -25,7 +23,7 @@ returns-in-Some-clause-sites c =
     let s = c.in-Some.net.now in
     let w = c.clear_task.new.net in
     let e : net_at f id ≡ Some s = sym (rw c.in-Some.is at c.net_mut.ensures.value) in
-    let h = net_here f id s c.requires.boxed (identity_long id c.net_mut.ensures.identity) e in
+    let h = c.net_mut.ensures.placed c.requires.boxed s e in
     let net_at = net_at_here f id s (placed_net f id) h w c.clear_task.ensures.boxed c.clear_task.ensures.children in
     λ names state is.
     let js = map (λ e. e.0) (items_of state id c.args.t) in
@@ -40,7 +38,7 @@ returns-in-Some-clause-kept c =
     let s = c.in-Some.net.now in
     let w = c.clear_task.new.net in
     let e : net_at f id ≡ Some s = sym (rw c.in-Some.is at c.net_mut.ensures.value) in
-    let h = net_here f id s c.requires.boxed (identity_long id c.net_mut.ensures.identity) e in
+    let h = c.net_mut.ensures.placed c.requires.boxed s e in
     let net_at = net_at_here f id s (placed_net f id) h w c.clear_task.ensures.boxed c.clear_task.ensures.children in
     let names : ℕ → List ℕ = λ k. [] in
     let state : State = record opening { sites = sites_of names f } in

@@ -4,6 +4,7 @@ use Rattle.yw_tree.specs.Ways.{net_in, net_of_item}
 use Rattle.yw_tree.specs.declared.Node.{out-Node}
 use Rattle.yw_tree.proofs.Attached.{item_attached, no_net}
 use Rattle.yw_tree.proofs.ForestLaw.{identity_in_case}
+use Rattle.yw_tree.proofs.Lent.{item_lent}
 use Rattle.yw_tree.proofs.Parents.{identity_long}
 use Rattle.yw_tree.proofs.grow.attach_to_item.Goals as goal
 
@@ -17,7 +18,7 @@ returns-in-Some-clause-sites c =
     let old = c.in-Some.item.now in
     let e : item_of f id ≡ Some old = sym (rw c.in-Some.is at c.item_by.ensures.value) in
     let none : net_in (out-Node old).net ≡ None = ap net_of_item (sym e) ∙ c.requires.vacant in
-    (item_attached f c.requires.boxed id c.args.net c.requires.well c.requires.empty (identity_in_case id c.requires.identity) old c.set_item_net.new.node e (no_net (out-Node old).net none) c.set_item_net.ensures).0
+    (item_attached f id c.args.net c.requires.well c.requires.empty old c.set_item_net.new.node (item_lent f id (identity_in_case id c.requires.identity) c.requires.boxed old e) (no_net (out-Node old).net none) c.set_item_net.ensures).0
 
 pub returns-in-Some-clause-kept : goal.returns-in-Some-clause-kept
 returns-in-Some-clause-kept c =
@@ -26,4 +27,4 @@ returns-in-Some-clause-kept c =
     let old = c.in-Some.item.now in
     let e : item_of f id ≡ Some old = sym (rw c.in-Some.is at c.item_by.ensures.value) in
     let none : net_in (out-Node old).net ≡ None = ap net_of_item (sym e) ∙ c.requires.vacant in
-    (item_attached f c.requires.boxed id c.args.net c.requires.well c.requires.empty (identity_in_case id c.requires.identity) old c.set_item_net.new.node e (no_net (out-Node old).net none) c.set_item_net.ensures).1
+    (item_attached f id c.args.net c.requires.well c.requires.empty old c.set_item_net.new.node (item_lent f id (identity_in_case id c.requires.identity) c.requires.boxed old e) (no_net (out-Node old).net none) c.set_item_net.ensures).1
