@@ -1,7 +1,8 @@
 -- What an entry does: tokens go, and items come.
-use Rattle.std.proofs.Common.{List, Option, Some, [], ap, false, length, subst, sym, ℕ, ◌+◌, ◌∙◌, ◌≡◌}
+use Rattle.std.proofs.Common.{List, Option, Some, [], ap, arith, false, length, lt-ltb, subst, sym, ℕ, ◌+◌, ◌∙◌, ◌∷◌, ◌≡◌}
 use Rattle.std.specs.Option.{option_map_or}
-use Rattle.std.specs.Prelude.{fold, option_map, slice_get, unwrap_or}
+use Rattle.std.specs.Prelude.{Vec, fold, nat_lt, option_map, slice_get, unwrap_or}
+use Rattle.std.specs.declared.alloc.Global.{Global}
 use Rattle.yw_base.specs.Identity.{under}
 use Rattle.yw_mark.specs.Taking.{taken_places}
 use Rattle.yw_mark.specs.declared.join.Taken.{Taken}
@@ -23,13 +24,15 @@ use Rattle.yw_task.proofs.ItemPut.{not_child}
 use Rattle.yw_task.proofs.OwnPart.{overwritten, same_ids, shows_changed, still_boxed}
 use Rattle.yw_task.proofs.Placing.{items_placed}
 use Rattle.yw_task.proofs.RoomLaw.{roomy_boxed, roomy_ids, roomy_shows}
+use Rattle.yw_task.specs.Asked.{is_active}
 use Rattle.yw_task.specs.Enters.{Enters, PlacesNet}
 use Rattle.yw_task.specs.Giving.{entry_rows}
-use Rattle.yw_task.specs.Items.{LosesTokens, NothingFrom}
+use Rattle.yw_task.specs.Items.{AreBefore, LosesTokens, NothingFrom, row_of}
 use Rattle.yw_task.specs.Room.{GetsListAndItems}
 use Rattle.yw_tree.proofs.NetHere.{same_part}
 use Rattle.yw_tree.specs.Boxed.{IsBoxedNet}
 use Rattle.yw_tree.specs.Entries.{net_part}
+use Rattle.yw_tree.specs.Shows.{row_or_none}
 use Rattle.yw_tree.specs.declared.NetState.{NetState, NetState-F, out-NetState}
 use Rattle.yw_tree.specs.declared.Node.{Node}
 use Rattle.yw_tree.specs.declared.Run.{Run}
@@ -37,6 +40,15 @@ use Rattle.yw_tree.specs.declared.Run.{Run}
 -- the input places of the task with this number
 before_is : (net : Net) (t : ℕ) (task : Task) → slice_get net.tasks t ≡ Some task → places_before net t ≡ task.before
 before_is net t task at = ap (λ (o : Option Task). option_map_or (λ (u : Task). u.before) o []) at
+
+-- before all items that come to a task that isn't active
+before_none : (i : Ident) (first : ℕ) (ns : List Node) → nat_lt 0 (length ns) ≡ false → AreBefore i first ns
+before_none i first [] idle = tt
+before_none i first (n ∷ ns) idle = never (sym idle ∙ lt-ltb 0 (length (n ∷ ns)) (omega arith))
+
+pub none_before : (old mid : NetState) (i : Ident) (first t : ℕ) → ◌≡◌ {A = Vec (Vec Node Global) Global} (out-NetState mid).items (out-NetState old).items → is_active old t ≡ false → AreBefore i first (row_of mid t)
+none_before old mid i first t same idle =
+    subst (λ (v : Vec (Vec Node Global) Global). AreBefore i first (row_or_none (slice_get v.items t))) (sym same) (before_none i first (row_of old t) idle)
 
 pub enters : (net : Net) (old mid new : NetState) (i : Ident) (t : ℕ) (u : Task) → slice_get net.tasks t ≡ Some u → (taken : Taken) (first : ℕ) (due : Checks) (rows : List Row) (count : ℕ) → IsBoxedNet old
     → LosesTokens (taken_places (out-NetState old).marks (places_before net t) taken) old mid → rows ≡ entry_rows u (out-NetState old).vals → count ≡ length rows → GetsListAndItems i t due first rows mid new

@@ -1,6 +1,6 @@
 -- A task exits: what the map is then.
 use Rattle.std.proofs.Common.{Bool, List, None, Option, Some, [], ap, arith, cond, false, get_or, refl, subst, sym, true, ℕ, ◌∙◌, ◌∷◌, ◌≡◌, ◌≤◌}
-use Rattle.std.proofs.lemmas.Bool.{and_parts, eqb-true, ltb-true}
+use Rattle.std.proofs.lemmas.Bool.{and_parts, ltb-true}
 use Rattle.std.proofs.lemmas.List.Elements.{All-cons, All-nil}
 use Rattle.std.specs.Cmp.Lexicographic.{pointwise}
 use Rattle.std.specs.List.{All, list_all}
@@ -11,7 +11,7 @@ use Rattle.yw_spec.specs.declared.spec.Place.{Place}
 use Rattle.yw_spec.specs.declared.spec.Spec.{Spec}
 use Rattle.yw_spec.specs.declared.task.Task.{Task}
 use Rattle.yw_state.proofs.MapLemmas.{by_name, get-update_same}
-use Rattle.yw_state.proofs.Tests.{never, same_numbers, some_same, there_and}
+use Rattle.yw_state.proofs.Tests.{same_numbers, some_same, there_and}
 use Rattle.yw_state.specs.After.{change, count_on, empty_region, exit, idents, no_more, one_more, post_at_output, produce, set_values, where_some, with_net, without_items}
 use Rattle.yw_state.specs.Allowed.{Allowed, allows, exit_values, has_room_for, may_exit, may_leave, most_tokens, place_numbers, puts_on}
 use Rattle.yw_state.specs.Events.{after}

@@ -1,5 +1,5 @@
 -- What an item that is added finds first, and what it does.
-use Rattle.std.specs.Prelude.{◌≡◌, ◌+◌, ℕ, Bool, List, [], ◌∷◌, Option, Some, None, codes, is_none, length, nat_le, nat_lt, not, option_and_then, option_map, slice_get, if◌then◌else◌}
+use Rattle.std.specs.Prelude.{◌≡◌, ◌+◌, ◌<◌, ℕ, Bool, IsSome, List, [], ◌∷◌, Option, Some, None, codes, is_none, length, nat_le, nat_lt, not, option_and_then, option_map, slice_get, if◌then◌else◌}
 use Rattle.std.specs.Option.{option_or}
 use Rattle.yw_base.specs.Identity.{number_end}
 use Rattle.yw_base.specs.declared.value.Value.{Value}
@@ -27,7 +27,7 @@ use Rattle.yw_task.specs.Giving.{undefined_param}
 use Rattle.yw_task.specs.Items.{row_of}
 use Rattle.yw_task.specs.Standing.{NetStands}
 use Rattle.yw_tree.specs.declared.Forest.{Forest}
-use Rattle.yw_tree.specs.declared.NetState.{NetState}
+use Rattle.yw_tree.specs.declared.NetState.{NetState, out-NetState}
 use Rattle.yw_within.specs.Within.{NetIsWithin}
 
 -- ---- the first broken rule
@@ -83,9 +83,24 @@ pub record GivesRow (task : Task) (vals : Row) (value : Value) (row : Row) : Typ
 
 -- ---- what it does
 
--- wherever the net stands, an addition for the element that the value stands for puts new in its place
+-- wherever the net stands, an addition for this element puts new in its place
+abbrev pub AddsElement : Net → NetState → Ident → ℕ → Value → ℕ → Checks → NetState → Type 0
+AddsElement net old i t element n due new =
+    (names : ℕ → List ℕ) (f : Forest) (s : State) (said : Said) (task : Task) → MayGet names f s i net old t n due task
+    → PlacesNet names f s (after s (events.Add i task.name element n) said) i new (n + 1)
+
+-- the same of the element that the value stands for
 abbrev pub Adds : Net → NetState → Ident → ℕ → Value → ℕ → Checks → NetState → Type 0
 Adds net old i t value n due new =
     (names : ℕ → List ℕ) (f : Forest) (s : State) (said : Said) (task : Task) (element : Value)
     → MayGet names f s i net old t n due task → element_value task (Some value) ≡ Some element
     → PlacesNet names f s (after s (events.Add i task.name element n) said) i new (n + 1)
+
+-- ---- what is so of the net where nothing is tested
+
+-- The net has the task with number t, each parameter of which has a value for this element, and number n is left.
+pub record MayComeMore (net : Net) (state : NetState) (t : ℕ) (element : Value) (n : ℕ) : Type 0 where
+  pub task : Task
+  pub of_net : slice_get net.tasks t ≡ Some task
+  pub given : IsSome (given_values task (out-NetState state).vals (Some element))
+  pub number : n < number_end

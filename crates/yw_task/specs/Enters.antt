@@ -1,5 +1,6 @@
 -- What an entry finds first, and what it does.
-use Rattle.std.specs.Prelude.{◌≡◌, ◌+◌, ◌&&◌, ◌++◌, ◌∷◌, ℕ, Bool, true, false, List, Option, Some, Result, Ok, Err, drop, not, slice_get, take}
+use Rattle.std.specs.Prelude.{◌≡◌, ◌+◌, ◌^◌, ◌<◌, ◌≤◌, ◌&&◌, ◌++◌, ◌∷◌, ℕ, Bool, true, false, List, Option, Some, Result, Ok, Err, drop, length, not, slice_get, take}
+use Rattle.yw_base.specs.Identity.{number_end}
 use Rattle.yw_base.specs.declared.gate.Gate.{Gate}
 use Rattle.yw_base.specs.declared.gate.Gate.TheVariants.{And, Xor, Or}
 use Rattle.yw_mark.specs.Taking.{OfTask, taken_places}
@@ -18,13 +19,15 @@ use Rattle.yw_state.specs.Identity.{Ident}
 use Rattle.yw_state.specs.Nets.{is_among}
 use Rattle.yw_state.specs.State.{State}
 use Rattle.yw_state.specs.Texts.{Said}
+use Rattle.yw_state.specs.Values.{Row}
 use Rattle.yw_state.specs.declared.event.Event.TheVariants as events
 use Rattle.yw_state.specs.declared.part.Checks.{Checks}
 use Rattle.yw_state.specs.declared.rule.Refusal.{Refusal}
 use Rattle.yw_state.specs.declared.rule.Rule.{Rule}
 use Rattle.yw_state.specs.declared.rule.Rule.TheVariants as rules
-use Rattle.yw_task.specs.Asked.{AsksEnter}
+use Rattle.yw_task.specs.Asked.{AsksEnter, is_active}
 use Rattle.yw_task.specs.Due.{AreDue}
+use Rattle.yw_task.specs.Giving.{entry_rows}
 use Rattle.yw_task.specs.Items.{NothingFrom}
 use Rattle.yw_task.specs.Standing.{NetStands}
 use Rattle.yw_task.specs.declared.fault.StepFault.{StepFault}
@@ -97,6 +100,23 @@ Enters net old i t taken first due new count =
     (names : ℕ → List ℕ) (f : Forest) (s : State) (said : Said) (task : Task) (places : List Place)
     → MayGet names f s i net old t first due task → place_numbers net places ≡ Some (taken_places (out-NetState old).marks task.before taken)
     → PlacesNet names f s (after s (events.Enter i task.name places first count) said) i new (first + count)
+
+-- ---- what is so of the net where nothing is tested
+
+-- The net has the task with number t, which isn't active. Numbers from first on are left for the items that an entry makes, and so many can
+-- be counted.
+pub record MayCome (net : Net) (state : NetState) (t first : ℕ) : Type 0 where
+  pub task : Task
+  pub of_net : slice_get net.tasks t ≡ Some task
+  pub idle : is_active state t ≡ false
+  pub numbers : first + length (entry_rows task (out-NetState state).vals) ≤ number_end
+  pub few : length (entry_rows task (out-NetState state).vals) < 2 ^ 32
+
+-- an entry gives its items these rows
+abbrev pub AreEntryRows : Net → NetState → ℕ → List Row → Type 0
+AreEntryRows net state t rows = (task : Task) → slice_get net.tasks t ≡ Some task → rows ≡ entry_rows task (out-NetState state).vals
+
+-- ---- after a refusal
 
 -- it holds after a refusal; want of memory says nothing
 abbrev pub OnRefusal : {A : Type 0} → Result A StepFault → Type 0 → Type 0

@@ -1,12 +1,12 @@
 // An item is added to a task.
-ghost use Rattle.std.specs.Prelude.{◌≡◌, ◌<◌, ◌≤◌, [], ◌∷◌, IfOk, None, OnOk, Some, length};
+ghost use Rattle.std.specs.Prelude.{◌≡◌, ◌<◌, ◌≤◌, [], ◌∷◌, IfOk, IsSome, OnOk, Some, length};
 ghost use Rattle.yw_base.specs.Identity.{most_numbers, number_end};
 ghost use Rattle.yw_state.specs.Passing.{given_values};
-ghost use Rattle.yw_task.specs.Adds.{AddBreaks, Adds, GivesRow, is_full, room_rule, value_fault};
+ghost use Rattle.yw_task.specs.Adds.{AddBreaks, Adds, AddsElement, GivesRow, MayComeMore, is_full, room_rule, value_fault};
 ghost use Rattle.yw_task.specs.Completes.{AnswersFirst};
 ghost use Rattle.yw_task.specs.Enters.{OnRefusal};
-ghost use Rattle.yw_task.specs.Giving.{undefined_param};
 ghost use Rattle.yw_task.specs.Items.{AreBefore, row_of};
+ghost use Rattle.yw_task.specs.Room.{GetsListAndItems};
 ghost use Rattle.yw_tree.specs.Boxed.{IsBoxedNet};
 
 use crate::ask::task_at;
@@ -52,9 +52,9 @@ fn room_rule(state: &NetState, task: &Task, t: usize) -> Option<Rule>
     is_full(task, item_count(state, t)).then_some(Rule::MaxReached)
 }
 
-/// What an item is given for an element, where no parameter has an undefined expression.
+/// What an item is given for an element, where each parameter has a value for it.
 fn element_row(alloc: Global, task: &Task, vals: &Row, element: &Value) -> Result<Row, AllocError>
-    requires { undefined_param task.now vals.now ≡ None }
+    requires { IsSome (given_values task.now vals.now (Some element.now)) }
     ensures { IfOk result (λ row. given_values task.now vals.now (Some element.now) ≡ Some row) }
 {
     match given_row(alloc, task, vals, Some(element.lend()))? {
@@ -101,6 +101,50 @@ fn alone(alloc: Global, given: Row) -> Result<Vec<Row>, AllocError>
     Ok(vec![in alloc; given]?)
 }
 
+/// An item of a task comes to the net at `at`, ready and numbered `n`, which is given this row.
+fn come_row(
+    alloc: Global,
+    state: &mut NetState,
+    at: &Ident,
+    t: usize,
+    n: u64,
+    given: Row,
+    due: Checks,
+) -> Result<(), AllocError>
+    requires boxed { IsBoxedNet state.old }
+    requires room { length at.now < most_numbers }
+    requires some { 1 ≤ n }
+    requires number { n < number_end }
+    requires before { AreBefore at.now n (row_of state.old t) }
+    ensures { OnOk result (GetsListAndItems at.now t due n (given ∷ []) state.old state.new) }
+{
+    add_items(alloc, state, at, t, n, alone(alloc, given)?, due)
+}
+
+/// An item more comes of a task, by the task's number in the net at `at`: it is ready and numbered `n`, is given this element, and these checks
+/// are due at it. Each parameter of the task has a value for the element, its items have numbers below `n`, and `n` is below 2^48. Nothing is
+/// tested. An `Err` says that no memory was left, and then the net isn't used again. To add an item is the paper's.
+pub fn come_more(
+    alloc: Global,
+    net: &Net,
+    state: &mut NetState,
+    at: &Ident,
+    t: usize,
+    element: &Value,
+    n: u64,
+    due: Checks,
+) -> Result<(), AllocError>
+    requires may { MayComeMore net.now state.old t element.now n }
+    requires boxed { IsBoxedNet state.old }
+    requires room { length at.now < most_numbers }
+    requires some { 1 ≤ n }
+    requires before { AreBefore at.now n (row_of state.old t) }
+    ensures { OnOk result (AddsElement net.now state.old at.now t element.now n due state.new) }
+{
+    let given = element_row(alloc, task_at(net, t), &state.vals, element)?;
+    come_row(alloc, state, at, t, n, given, due)
+}
+
 /// A person adds an item to a task, by the task's number in the net at `at`; that the task is dynamic is judged before. The item is ready and
 /// numbered `n`, is given the element for which the value stands, and these checks are due at it. The items of the task have numbers below `n`.
 ///
@@ -132,6 +176,6 @@ pub fn add(
         return Err(StepFault::Refused(placeless(alloc, rule)));
     }
     let given = row_to_add(alloc, task, &state.vals, value, n)?;
-    add_items(alloc, state, at, t, n, alone(alloc, given)?, due)?;
+    come_row(alloc, state, at, t, n, given, due)?;
     Ok(())
 }

@@ -4,7 +4,7 @@ ghost use Rattle.yw_base.specs.Identity.{most_numbers};
 ghost use Rattle.yw_path.specs.Upstream.{IsUpstreamOf};
 ghost use Rattle.yw_task.specs.Asked.{is_active};
 ghost use Rattle.yw_task.specs.Completes.{AnswersFirst};
-ghost use Rattle.yw_task.specs.Enters.{Chooses, EnterBreaks, Enters, OnRefusal, by_choice, is_choice};
+ghost use Rattle.yw_task.specs.Enters.{AreEntryRows, Chooses, EnterBreaks, Enters, MayCome, OnRefusal, by_choice, is_choice};
 ghost use Rattle.yw_tree.specs.Boxed.{IsBoxedNet};
 ghost use Rattle.yw_within.specs.Within.{most_tasks};
 
@@ -12,9 +12,9 @@ use crate::ask::{ask_enter, task_at};
 use crate::coming::{add_items, take_tokens};
 use crate::done::placeless;
 use crate::fault::StepFault;
-use crate::giving::rows_to_enter;
-use std::alloc::Global;
-use yw_base::{Gate, Ident};
+use crate::giving::{entry_rows, rows_to_enter};
+use std::alloc::{AllocError, Global};
+use yw_base::{Gate, Ident, Row};
 use yw_mark::{Taken, is_among, is_marked};
 use yw_path::Upstream;
 use yw_spec::{Net, Task};
@@ -57,6 +57,56 @@ fn choice_fault(net: &Net, state: &NetState, up: &Upstream, t: usize, taken: Tak
     by_choice(chosen, ask_enter(net, state, up, t))
 }
 
+/// A token goes from each place that the choice stands for, and for each row an item comes that is given it. Answers how many came.
+fn come_with(
+    alloc: Global,
+    net: &Net,
+    state: &mut NetState,
+    at: &Ident,
+    t: usize,
+    taken: Taken,
+    first: u64,
+    rows: Vec<Row>,
+    due: Checks,
+) -> Result<u32, AllocError>
+    requires may { MayCome net.now state.old t first }
+    requires rows { AreEntryRows net.now state.old t rows.items }
+    requires boxed { IsBoxedNet state.old }
+    requires room { length at.now < most_numbers }
+    requires some { 1 ≤ first }
+    ensures { IfOk result (Enters net.now state.old at.now t taken first due state.new) }
+{
+    let count = rows.len() as u32;
+    take_tokens(net, state, t, taken);
+    add_items(alloc, state, at, t, first, rows, due)?;
+    Ok(count)
+}
+
+/// A task is entered, by its number in the net at `at`: a token goes from each place that the choice of its join stands for, and its items
+/// come, ready, numbered from `first` on, each with what it is given and these checks due. Answers how many came. None of the task's items
+/// stands in the net, the items below the net have numbers below `first`, and numbers are left for those that come. Nothing is tested: neither
+/// this, nor whether the join takes from these places, nor whether it waits. An `Err` says that no memory was left, and then the net isn't used
+/// again. To enter a task is the paper's.
+pub fn come(
+    alloc: Global,
+    net: &Net,
+    state: &mut NetState,
+    at: &Ident,
+    t: usize,
+    taken: Taken,
+    first: u64,
+    due: Checks,
+) -> Result<u32, AllocError>
+    requires may { MayCome net.now state.old t first }
+    requires boxed { IsBoxedNet state.old }
+    requires room { length at.now < most_numbers }
+    requires some { 1 ≤ first }
+    ensures { IfOk result (Enters net.now state.old at.now t taken first due state.new) }
+{
+    let rows = entry_rows(alloc, task_at(net, t), &state.vals)?;
+    come_with(alloc, net, state, at, t, taken, first, rows, due)
+}
+
 /// A task is entered, by its number in the net at `at`: a token goes from each place that the choice of its join stands for, and its items
 /// come, ready, numbered from `first` on, each with what it is given and these checks due. Answers how many came. `up` is the net's own, and
 /// the items below the net have numbers below `first`.
@@ -91,8 +141,6 @@ pub fn enter(
         return Err(StepFault::Refused(placeless(alloc, rule)));
     }
     let rows = rows_to_enter(alloc, task_at(net, t), &state.vals, first)?;
-    let count = rows.len() as u32;
-    take_tokens(net, state, t, taken);
-    add_items(alloc, state, at, t, first, rows, due)?;
+    let count = come_with(alloc, net, state, at, t, taken, first, rows, due)?;
     Ok(count)
 }

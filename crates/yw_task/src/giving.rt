@@ -140,7 +140,7 @@ fn one_row(alloc: Global, task: &Task, vals: &Row) -> Result<Vec<Row>, AllocErro
 }
 
 /// What each item is given that an entry makes.
-fn entry_rows(alloc: Global, task: &Task, vals: &Row) -> Result<Vec<Row>, AllocError>
+pub fn entry_rows(alloc: Global, task: &Task, vals: &Row) -> Result<Vec<Row>, AllocError>
     ensures { IfOk result (λ rows. rows.items ≡ entry_rows task.now vals.now) }
 {
     let Some(many) = &task.many else {

@@ -18,10 +18,10 @@ mod room;
 mod tokens;
 mod waits;
 
-pub use adding::add;
+pub use adding::{add, come_more};
 pub use ask::{ask_complete, ask_enter, ask_start, task_at};
 pub use done::{complete, completion_fault, finish};
-pub use entering::enter;
+pub use entering::{come, enter};
 pub use exits::{exit, exit_places};
 pub use fault::StepFault;
 pub use giving::{count_rule, element_count, first_lacking};

@@ -1,5 +1,4 @@
-use Rattle.std.proofs.Common.{List, None, Option, Some, subst, sym, ◌≡◌}
-use Rattle.yw_state.specs.Values.{Row}
+use Rattle.std.proofs.Common.{None, Option, Some, subst, sym, ◌≡◌}
 use Rattle.yw_state.specs.declared.rule.Refusal.{Refusal}
 use Rattle.yw_state.specs.declared.rule.Rule.{Rule}
 use Rattle.yw_task.proofs.AddLaw.{adds}
@@ -8,7 +7,6 @@ use Rattle.yw_task.proofs.EnterTable.{answers_as, is_fault}
 use Rattle.yw_task.proofs.adding.add.Goals as goal
 use Rattle.yw_task.specs.Adds.{AddBreaks, room_rule, value_fault}
 use Rattle.yw_task.specs.Completes.{AnswersFirst, or_else}
-use Rattle.yw_task.specs.Room.{GetsListAndItems}
 use Rattle.yw_tree.specs.declared.NetState.{out-NetState}
 
 pub returns-in-Some-clause-breaks : goal.returns-in-Some-clause-breaks
@@ -38,9 +36,8 @@ returns-in_err-given-clause-breaks c =
 pub returns-clause-ok : goal.returns-clause-ok
 returns-clause-ok c =
     let s = c.args.state.now in
-    adds c.args.net.now s c.add_items.new.state c.args.at.now c.args.t c.task_at-task.result.now c.task_at-task.ensures c.args.value c.args.n c.args.due c.in_ok-given.given
-    c.requires.boxed c.in_ok-given.ensures.gives
-    (subst (λ (rows : List Row). GetsListAndItems c.args.at.now c.args.t c.args.due c.args.n rows s c.add_items.new.state) c.in_ok-alone.ensures c.in_ok-add_items.ensures)
+    adds c.args.net.now s c.come_row.new.state c.args.at.now c.args.t c.task_at-task.result.now c.task_at-task.ensures c.args.value c.args.n c.args.due c.in_ok-given.given
+    c.requires.boxed c.in_ok-given.ensures.gives c.in_ok-come_row.ensures
 
 pub returns-clause-breaks : goal.returns-clause-breaks
 returns-clause-breaks c =

@@ -1,15 +1,15 @@
-use Rattle.std.proofs.Common.{None, Option, Some, ap, subst, sym, ◌∙◌, ◌≡◌}
+use Rattle.std.proofs.Common.{List, None, Option, Some, ap, length, refl, subst, sym, ◌+◌, ◌<◌, ◌^◌, ◌∙◌, ◌≡◌, ◌≤◌}
+use Rattle.yw_base.specs.Identity.{number_end}
+use Rattle.yw_spec.specs.declared.task.Task.{Task}
+use Rattle.yw_state.proofs.Tests.{some_same}
+use Rattle.yw_state.specs.Values.{Row}
 use Rattle.yw_state.specs.declared.rule.Refusal.{Refusal}
-use Rattle.yw_task.proofs.EnterLaw.{enters}
 use Rattle.yw_task.proofs.EnterTable.{answers_as, choice_breaks, enter_breaks, is_fault}
-use Rattle.yw_task.proofs.OwnPart.{still_boxed}
 use Rattle.yw_task.proofs.entering.enter.Goals as goal
 use Rattle.yw_task.specs.Completes.{AnswersFirst}
 use Rattle.yw_task.specs.Enters.{Chooses, EnterBreaks}
-use Rattle.yw_task.specs.Giving.{entry_fault}
-use Rattle.yw_tree.specs.declared.NetState.{NetState, NetState-F, out-NetState}
-use Rattle.yw_tree.specs.declared.Node.{Node}
-use Rattle.yw_tree.specs.declared.Run.{Run}
+use Rattle.yw_task.specs.Giving.{entry_fault, entry_rows}
+use Rattle.yw_tree.specs.declared.NetState.{out-NetState}
 
 pub returns-in-Some-clause-breaks : goal.returns-in-Some-clause-breaks
 returns-in-Some-clause-breaks c =
@@ -28,14 +28,19 @@ returns-in_err-rows-clause-breaks c =
     subst (λ r. AnswersFirst Q r) (sym (is_fault c.from_residual.result fault c.from_residual.ensures.1))
     (answers_as (λ found. found ≡ later) Q (λ found e. subst Q (sym e) (enter_breaks net s c.args.t c.args.taken c.args.first u c.task_at.ensures None shows)) fault c.in_err-rows.ensures.breaks)
 
-pub add_items-requires-clause-boxed : goal.add_items-requires-clause-boxed
-add_items-requires-clause-boxed c =
-    still_boxed c.args.state.now c.take_tokens.new.state (ap (λ (l : NetState-F NetState Node Run). l.items) c.take_tokens.ensures) c.requires.boxed
+pub come_with-requires-clause-may : goal.come_with-requires-clause-may
+come_with-requires-clause-may c =
+    record {
+      task = c.task_at.result.now;
+      of_net = c.task_at.ensures;
+      idle = c.in_default.ensures.idle refl;
+      numbers = subst (λ (rows : List Row). c.args.first + length rows ≤ number_end) c.in_ok-rows.ensures.rows c.in_ok-rows.ensures.room;
+      few = subst (λ (rows : List Row). length rows < 2 ^ 32) c.in_ok-rows.ensures.rows c.in_ok-rows.ensures.few;
+    }
 
-pub returns-clause-ok : goal.returns-clause-ok
-returns-clause-ok c =
-    enters c.args.net.now c.args.state.now c.take_tokens.new.state c.add_items.new.state c.args.at.now c.args.t c.task_at.result.now c.task_at.ensures c.args.taken c.args.first c.args.due
-    c.in_ok-rows.rows.items c.len-count.result c.requires.boxed c.take_tokens.ensures c.in_ok-rows.ensures.rows (c.len-count.ensures ∙ c.in_ok-rows.rows.ok.0) c.in_ok-add_items.ensures
+pub come_with-requires-clause-rows : goal.come_with-requires-clause-rows
+come_with-requires-clause-rows c = λ task at.
+    c.in_ok-rows.ensures.rows ∙ ap (λ (u : Task). entry_rows u (out-NetState c.args.state.now).vals) (some_same c.task_at.result.now task (sym c.task_at.ensures ∙ at))
 
 pub returns-clause-breaks : goal.returns-clause-breaks
 returns-clause-breaks c =
