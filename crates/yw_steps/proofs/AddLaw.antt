@@ -25,15 +25,23 @@ use Rattle.yw_state.specs.declared.part.Checks.{Checks}
 use Rattle.yw_state.specs.declared.rule.Refusal.{Refusal}
 use Rattle.yw_steps.proofs.EnterLaw.{may_get}
 use Rattle.yw_steps.proofs.NetFound.{stands_so}
-use Rattle.yw_steps.specs.Adds.{AddBreaks, AddIsAllowed, Adds}
+use Rattle.yw_steps.specs.Adds.{AddBreaks, AddIsAllowed, Adds, AddsElement}
 use Rattle.yw_task.proofs.EnterAsk.{net_with, task_stands}
-use Rattle.yw_task.specs.Adds.{AddBreaks as NetAddBreaks, Adds as NetAdds, add_table}
+use Rattle.yw_task.specs.Adds.{AddBreaks as NetAddBreaks, Adds as NetAdds, AddsElement as NetAddsElement, add_table}
 use Rattle.yw_tree.specs.Forest.{IsForest}
 use Rattle.yw_tree.specs.Places.{net_at as net_found, placed_net}
 use Rattle.yw_tree.specs.declared.Forest.{Forest}
 use Rattle.yw_tree.specs.declared.NetState.{NetState, out-NetState}
 
 module _ (f : Forest) (boxed : IsForest f) (i : Ident) (identity : is_identity i ≡ true) (u : NetState) (found : net_found f i ≡ Some u) (net : Net) (t : ℕ) (value : Value) (n : ℕ) where
+  -- nothing is tested
+  pub adds_element : (due : Checks) (w : NetState) → NetAddsElement net u i t value n due w → AddsElement net i t value n due f (placed_net f i w)
+  adds_element due w does = λ task at names s sites needs.
+      record {
+        leads = λ others r said are so. (does others f r said task (may_get f boxed i identity u found net t n due others r task are at so)).map;
+        boxed = (does names f s nothing task (may_get f boxed i identity u found net t n due names s task sites at needs)).kept;
+      }
+
   pub adds : (due : Checks) (w : NetState) → NetAdds net u i t value n due w → Adds net i t value n due f (placed_net f i w)
   adds due w does = λ task element at for_it names s sites needs.
       record {

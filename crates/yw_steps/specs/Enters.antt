@@ -16,7 +16,7 @@ use Rattle.yw_state.specs.declared.event.Event.TheVariants as events
 use Rattle.yw_state.specs.declared.part.Checks.{Checks}
 use Rattle.yw_state.specs.declared.rule.Refusal.{Refusal}
 use Rattle.yw_steps.specs.Stands.{DoesWhere, MayGetItems, NetIs}
-use Rattle.yw_task.specs.Enters.{enter_table, is_choice}
+use Rattle.yw_task.specs.Enters.{MayCome, enter_table, is_choice}
 use Rattle.yw_tree.specs.Forest.{sites_of}
 use Rattle.yw_tree.specs.Places.{net_at}
 use Rattle.yw_tree.specs.declared.Forest.{Forest}
@@ -34,6 +34,10 @@ Enters net i t taken first due old new count =
     (task : Task) (places : List Place) → slice_get net.tasks t ≡ Some task → StandsFor old i net task taken places
     → DoesWhere (λ names. events.Enter i task.name places first count) (λ names. MayGetItems net i first due task) (λ s. with_next s (first + count))
     old new
+
+-- what is so of the net at i where nothing is tested
+abbrev pub MayComeAt : Forest → Net → Ident → ℕ → ℕ → Type 0
+MayComeAt f net i t first = (state : NetState) → net_at f i ≡ Some state → MayCome net state t first
 
 -- Wherever a state has the map of the forest, and there this net, this is the first that the entry breaks, whoever enters the task.
 abbrev pub EnterBreaks : Forest → Net → Ident → ℕ → Taken → ℕ → Option Refusal → Type 0

@@ -1,21 +1,48 @@
 // A task is entered.
 ghost use Rattle.std.specs.Prelude.{◌≡◌, ◌≤◌, IfOk, length};
 ghost use Rattle.yw_path.specs.Upstream.{IsUpstreamOf};
-ghost use Rattle.yw_steps.specs.Enters.{EnterBreaks, EnterIsAllowed, Enters};
+ghost use Rattle.yw_steps.specs.Enters.{EnterBreaks, EnterIsAllowed, Enters, MayComeAt};
 ghost use Rattle.yw_steps.specs.Stands.{TaskMayGrow};
 ghost use Rattle.yw_task.specs.Completes.{AnswersFirst};
 ghost use Rattle.yw_task.specs.Enters.{OnRefusal};
 ghost use Rattle.yw_tree.specs.Forest.{IsForest};
 ghost use Rattle.yw_within.specs.Within.{most_tasks};
 
-use std::alloc::Global;
+use std::alloc::{AllocError, Global};
 use yw_base::Ident;
 use yw_mark::Taken;
 use yw_path::Upstream;
 use yw_spec::Net;
 use yw_state::Checks;
-use yw_task::StepFault;
+use yw_task::{StepFault, come};
 use yw_tree::Forest;
+
+/// A task is entered, by its number in the net at an identity, which is this one: a token goes from each place that the choice of its join
+/// stands for, and its items come, ready, numbered from `first` on, each with what it is given and these checks due. Answers how many came.
+/// None of the task's items stands in the net, and numbers are left for those that come. Nothing is tested: neither this, nor whether the join
+/// takes from these places, nor whether it waits. An `Err` says that no memory was left, and then the forest isn't used again. To enter a task
+/// is the paper's.
+pub fn come_at(
+    alloc: Global,
+    forest: &mut Forest,
+    net: &Net,
+    at: &Ident,
+    t: usize,
+    taken: Taken,
+    first: u64,
+    due: Checks,
+) -> Result<u32, AllocError>
+    requires boxed { IsForest forest.old }
+    requires may { TaskMayGrow forest.old net.now at.now t }
+    requires come { MayComeAt forest.old net.now at.now t first }
+    requires some { 1 ≤ first }
+    ensures { IfOk result (Enters net.now at.now t taken first due forest.old forest.new) }
+{
+    match forest.net_mut(at) {
+        Some(state) => come(alloc, net, state, at, t, taken, first, due),
+        None => unreachable!(),
+    }
+}
 
 /// A task is entered, by its number in the net at an identity, which is this one: a token goes from each place that the choice of its join
 /// stands for, and its items come, ready, numbered from `first` on, each with what it is given and these checks due. Answers how many came.

@@ -1,0 +1,34 @@
+use Rattle.std.proofs.Common.{None, Some, ap, sym, ◌∙◌, ◌≡◌}
+use Rattle.std.proofs.lemmas.Result.{IfOk-weaker}
+use Rattle.std.specs.Option.{option_copied_mut}
+use Rattle.yw_state.proofs.Tests.{nowhere}
+use Rattle.yw_steps.proofs.AddLaw.{adds_element}
+use Rattle.yw_steps.proofs.adding.come_more_at.Goals as goal
+use Rattle.yw_tree.proofs.NetAt.{net_here}
+use Rattle.yw_tree.proofs.Parents.{identity_long}
+use Rattle.yw_tree.specs.Places.{net_at}
+
+pub unreachable-requires : goal.unreachable-requires
+unreachable-requires c = nowhere (sym (ap option_copied_mut c.in-None.is) ∙ c.net_mut.ensures.value ∙ c.requires.may.found)
+
+pub come_more-requires-clause-may : goal.come_more-requires-clause-may
+come_more-requires-clause-may c = c.requires.come c.in-Some.state.now (sym (rw c.in-Some.is at c.net_mut.ensures.value))
+
+pub come_more-requires-clause-boxed : goal.come_more-requires-clause-boxed
+come_more-requires-clause-boxed c =
+    let f = c.args.forest.now in
+    let i = c.args.at.now in
+    let found : net_at f i ≡ Some c.in-Some.state.now = sym (rw c.in-Some.is at c.net_mut.ensures.value) in
+    (net_here f i c.in-Some.state.now c.requires.boxed (identity_long i c.net_mut.ensures.identity) found).boxed
+
+pub come_more-requires-clause-before : goal.come_more-requires-clause-before
+come_more-requires-clause-before c = c.requires.before c.in-Some.state.now (sym (rw c.in-Some.is at c.net_mut.ensures.value))
+
+pub returns : goal.returns
+returns c =
+    let f = c.args.forest.now in
+    let i = c.args.at.now in
+    let old = c.in-Some.state.now in
+    let found : net_at f i ≡ Some old = sym (rw c.in-Some.is at c.net_mut.ensures.value) in
+    IfOk-weaker c.come_more.result _ _
+    (λ _ does. adds_element f c.requires.boxed i c.net_mut.ensures.identity old found c.args.net.now c.args.t c.args.element.now c.args.n c.args.due c.come_more.new.state does) c.come_more.ensures
