@@ -58,6 +58,10 @@ module _ (known : Holdings) (f : Forest) (s : State) (h : IsHeld known f s) (j :
     at_is : item_at s j ≡ option_and_then (with_task (item_part_of n)) (net_at s (parent j))
     at_is = ap (option_and_then (λ (x : ItemPart). option_and_then (with_task x) (net_at s (parent j)))) part
 
+    -- an identity is above it
+    pub above_identity : is_identity (parent j) ≡ true
+    above_identity = parent_identity j identity (no_case f h.boxed j n found)
+
     -- the net in which it stands has its task
     pub task_wanted : (w : NetHere) → IsNetHere known f s (parent j) w → slice_get w.net.now.tasks (out-Node n).task ≡ None → ⊥
     task_wanted w at none =

@@ -1,5 +1,6 @@
 -- What stands at an identity, with what the specification says of it.
 use Rattle.std.specs.Prelude.{◌≡◌, Some, slice_get}
+use Rattle.yw_known.specs.Held.{IsHeld}
 use Rattle.yw_known.specs.Names.{names_of}
 use Rattle.yw_known.specs.declared.here.ItemHere.{ItemHere}
 use Rattle.yw_known.specs.declared.here.NetHere.{NetHere}
@@ -63,3 +64,13 @@ place_of known f s j h is =
       of_net = is.outer.of_spec;
       of_task = is.of_net;
     }
+
+-- ---- whatever the state is that is held
+
+-- In each state that is held this is the net at i.
+abbrev pub SaysNet : Holdings → Forest → Ident → NetHere → Type 0
+SaysNet known f i h = (s : State) → IsHeld known f s → IsNetHere known f s i h
+
+-- In each state that is held this is the item at j.
+abbrev pub SaysItem : Holdings → Forest → Ident → ItemHere → Type 0
+SaysItem known f j h = (s : State) → IsHeld known f s → IsItemHere known f s j h

@@ -3,7 +3,6 @@ ghost use Rattle.std.specs.Prelude.{◌≡◌, None, false, IfOk, MatchOption};
 ghost use Rattle.yw_known.specs.Held.{IsHeld};
 ghost use Rattle.yw_known.specs.Here.{IsItemHere, IsNetHere};
 ghost use Rattle.yw_library.specs.Holdings.{Holdings};
-ghost use Rattle.yw_state.specs.Identity.{parent};
 ghost use Rattle.yw_state.specs.Nets.{task_number};
 ghost use Rattle.yw_state.specs.State.{State, is_case, is_item, net_part};
 
@@ -56,29 +55,32 @@ pub fn net_here<'a>(known: &'a Known, forest: &'a Forest, at: &Ident) -> Option<
     })
 }
 
-/// The item at an identity: `None` exactly where no item stands there. `outer_at` is the identity of the net in which it would stand. It
+/// The item at an identity, with its task and the net in which it stands, by one way down: `None` exactly where no item stands there. It
 /// takes no memory.
-pub fn item_in<'a>(
-    known: &'a Known,
-    forest: &'a Forest,
-    outer_at: &Ident,
-    id: &Ident,
-) -> Option<ItemHere<'a>>
-    requires { outer_at.now ≡ parent id.now }
+pub fn item_at<'a>(known: &'a Known, forest: &'a Forest, id: &Ident) -> Option<ItemHere<'a>>
     ensures { (s : State) → IsHeld known.now forest.now s
         → MatchOption result (is_item s id.now ≡ false) (IsItemHere known.now forest.now s id.now) }
 {
     let _ = id.numbers();
-    let item = forest.item(id)?;
-    let outer = net_here(known, forest, outer_at)?;
-    let task = outer.net.tasks.get(item.task)?;
-    Some(ItemHere { item, task, outer })
+    known.are_named();
+    let (item, outer) = forest.item_with_net(id)?;
+    let found = known.net(outer.spec, outer.net)?;
+    let task = found.net.tasks.get(item.task)?;
+    Some(ItemHere {
+        item,
+        task,
+        outer: NetHere {
+            state: outer,
+            net: found.net,
+            up: found.up,
+            spec: found.spec,
+        },
+    })
 }
 
-/// The item at an identity: `None` exactly where no item stands there. An `Err` says that no memory was left, of which it takes that of one
-/// identity.
+/// The same as `item_at`, for callers that still say where memory comes from. It takes none, and no `Err` comes.
 pub fn item_here<'a>(
-    alloc: Global,
+    _alloc: Global,
     known: &'a Known,
     forest: &'a Forest,
     id: &Ident,
@@ -86,12 +88,7 @@ pub fn item_here<'a>(
     ensures { IfOk result (λ found. (s : State) → IsHeld known.now forest.now s
         → MatchOption found (is_item s id.now ≡ false) (IsItemHere known.now forest.now s id.now)) }
 {
-    let numbers = id.numbers();
-    let above = Vec::from_slice(alloc, &numbers[..numbers.len() - 1])?;
-    match Ident::from_numbers(above) {
-        Some(outer) => Ok(item_in(known, forest, &outer, id)),
-        None => Ok(None),
-    }
+    Ok(item_at(known, forest, id))
 }
 
 /// The number of the task with this name in a net, or `None` where no task has it. It takes no memory.
