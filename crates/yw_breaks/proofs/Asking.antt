@@ -2,11 +2,11 @@
 use Rattle.std.proofs.Common.{List, None, Option, Some, ap, refl, sym, ℕ, ◌∙◌, ◌≡◌}
 use Rattle.std.specs.Prelude.{option_and_then, option_map, slice_get}
 use Rattle.yw_base.specs.declared.value.Value.{Value}
-use Rattle.yw_breaks.proofs.Enters.{no_net, no_task}
+use Rattle.yw_breaks.proofs.Enters.{no_task}
 use Rattle.yw_breaks.specs.Nets.{IsTaskNamed}
 use Rattle.yw_known.proofs.Standing.{kept_called, specs_are}
 use Rattle.yw_known.specs.Held.{IsHeld}
-use Rattle.yw_known.specs.Here.{IsItemHere, IsNetHere}
+use Rattle.yw_known.specs.Here.{IsItemHere, IsNetHere, as_item_at}
 use Rattle.yw_known.specs.Names.{names_of}
 use Rattle.yw_known.specs.declared.here.ItemHere.{ItemHere}
 use Rattle.yw_known.specs.declared.here.NetHere.{NetHere}
@@ -15,13 +15,13 @@ use Rattle.yw_model.specs.Texts.{reader}
 use Rattle.yw_spec.specs.declared.spec.Net.{Net}
 use Rattle.yw_spec.specs.declared.spec.Spec.{Spec}
 use Rattle.yw_spec.specs.declared.task.Task.{Task}
-use Rattle.yw_state.proofs.Tests.{some_same}
-use Rattle.yw_state.specs.Given.{element_value, launch_values, made_values}
+use Rattle.yw_state.proofs.Tests.{nowhere, some_same}
+use Rattle.yw_state.specs.Given.{element_value, launch_values, made_values, misfit}
 use Rattle.yw_state.specs.Identity.{Ident, case_number}
 use Rattle.yw_state.specs.Legal.{IsAsked}
 use Rattle.yw_state.specs.Map.{get}
 use Rattle.yw_state.specs.Nets.{task_number, top_net}
-use Rattle.yw_state.specs.State.{ItemAt, State, TaskAt, net_part, task_at, top_called}
+use Rattle.yw_state.specs.State.{ItemAt, State, TaskAt, item_at, task_at, top_called}
 use Rattle.yw_state.specs.Values.{Row}
 use Rattle.yw_state.specs.declared.command.Command.TheVariants as commands
 use Rattle.yw_state.specs.declared.command.Given.{Given}
@@ -69,9 +69,6 @@ module _ (known : Holdings) (f : Forest) (s : State) (h : IsHeld known f s) (i :
   abbrev element : TaskAt → Option Value
   element x = element_value x.task value
 
-  pub no_net_asked : (name : List ℕ) → net_part s i ≡ None → option_and_then element (task_at s i name) ≡ None
-  no_net_asked name e = ap (option_and_then element) (no_net s i name e)
-
   module _ (x : NetHere) (here : IsNetHere known f s i x) (name : List ℕ) where
     pub no_task_asked : task_number x.net.now name ≡ None → option_and_then element (task_at s i name) ≡ None
     no_task_asked e = ap (option_and_then element) (no_task known f s i x name here e)
@@ -99,3 +96,8 @@ module _ (known : Holdings) (f : Forest) (s : State) (j : Ident) (h : ItemHere) 
   pub complete_asks : (out : Row) → made_values h.task.now.outs gs ≡ Some out → (who : List ℕ) → IsAsked reader s (commands.Complete who j gs) (events.Complete j out)
   unfolding IsAsked
   complete_asks out e who = sym (ap (λ o. option_map (events.Complete j) (option_and_then (makes gs) o)) here.at ∙ ap (option_map (events.Complete j)) e)
+
+  -- nor do values fit it that don't fit its task
+  pub complete_misfits : (at : List ℕ) → misfit h.task.now.outs gs ≡ Some at → (x : ItemAt) → item_at s j ≡ Some x → misfit x.of_task.task.outs gs ≡ None → ⊥
+  complete_misfits at e x is none =
+      nowhere (sym none ∙ ap (λ (y : ItemAt). misfit y.of_task.task.outs gs) (some_same x (as_item_at known h) (sym is ∙ here.at)) ∙ e)

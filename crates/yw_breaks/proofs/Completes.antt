@@ -1,11 +1,10 @@
 -- What a completion breaks first behind the check that the case is quiet.
-use Rattle.std.proofs.Common.{Bool, List, None, Option, Some, [], ap, false, refl, subst, true, ℕ, ◌∙◌, ◌≡◌}
+use Rattle.std.proofs.Common.{Bool, List, None, Option, Some, ap, refl, subst, true, ℕ, ◌∙◌, ◌≡◌}
 use Rattle.std.specs.Prelude.{Box, ◌||◌, drop, is_some, not, option_and_then, option_map}
 use Rattle.std.specs.declared.alloc.Global.{Global}
 use Rattle.yw_base.specs.Identity.{is_identity}
-use Rattle.yw_breaks.proofs.Held.{no_item}
 use Rattle.yw_breaks.proofs.Joining.{then_rest}
-use Rattle.yw_breaks.proofs.Rows.{idle_place, idle_row, last_place, test_row}
+use Rattle.yw_breaks.proofs.Rows.{idle_row, last_place, test_row}
 use Rattle.yw_breaks.specs.Complete.{is_by_itself, most_broken}
 use Rattle.yw_breaks.specs.Tables.{complete_most}
 use Rattle.yw_known.specs.Held.{IsHeld}
@@ -21,12 +20,12 @@ use Rattle.yw_state.specs.Given.{misfit}
 use Rattle.yw_state.specs.Identity.{Ident}
 use Rattle.yw_state.specs.Nets.{is_atomic}
 use Rattle.yw_state.specs.Options.{is_some_and}
-use Rattle.yw_state.specs.State.{ItemAt, Site, State, is_item, item_at, net_part}
+use Rattle.yw_state.specs.State.{ItemAt, Site, State, item_at, net_part}
 use Rattle.yw_state.specs.Words as word
 use Rattle.yw_state.specs.declared.command.Given.{Given}
 use Rattle.yw_state.specs.declared.rule.Rule.TheVariants as rules
 use Rattle.yw_task.proofs.AskLaw.{asks_complete}
-use Rattle.yw_task.specs.Asked.{complete_fault, complete_shown, is_others}
+use Rattle.yw_task.specs.Asked.{complete_fault, complete_shown}
 use Rattle.yw_task.specs.Completes.{or_else}
 use Rattle.yw_tree.specs.Entries.{net_part_of}
 use Rattle.yw_tree.specs.declared.Forest.{Forest}
@@ -60,16 +59,3 @@ completes_first known f s who j gs x h plain here =
     (idle_row (word.held s j) ((words s plain).held j) rules.Held (drop 2 (complete_most s who j gs)) (or_else later rule)
     (then_rest (complete_shown s who j gs) (drop 5 (complete_most s who j gs)) rule later shown
     (λ none. last_place (option_and_then (misfit_at gs) (item_at s j)) (misfit x.task.now.outs gs) (ap (option_and_then (misfit_at gs)) here.at) rules.Output)))
-
--- without an item, nothing
-pub completes_none : (s : State) (who : List ℕ) (j : Ident) (gs : List Given) → IsPlain s → is_item s j ≡ false → First (complete_most s who j gs) None
-completes_none s who j gs plain none =
-    let w = words s plain in
-    let no = no_item s j none in
-    let gone : (p : ItemAt → Bool) → is_some_and (item_at s j) p ≡ false = λ p. ap (λ o. is_some_and o p) no in
-    idle_row (is_some_and (item_at s j) (itself s j)) (gone (itself s j)) rules.ByItself (drop 1 (complete_most s who j gs)) None
-    (idle_row (word.held s j) (w.held j) rules.Held (drop 2 (complete_most s who j gs)) None
-    (idle_row (is_some_and (item_at s j) (λ y. not (word.is_executing y.part.stage))) (gone (λ y. not (word.is_executing y.part.stage))) rules.Stage (drop 3 (complete_most s who j gs)) None
-    (idle_row (is_some_and (item_at s j) (λ y. is_others who y.part.who)) (gone (λ y. is_others who y.part.who)) rules.NotYours (drop 4 (complete_most s who j gs)) None
-    (idle_row (word.busy s j) (w.busy j) rules.Busy (drop 5 (complete_most s who j gs)) None
-    (idle_place (option_and_then (misfit_at gs) (item_at s j)) (ap (option_and_then (misfit_at gs)) no) rules.Output [] None refl)))))

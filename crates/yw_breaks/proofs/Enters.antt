@@ -16,7 +16,6 @@ use Rattle.yw_known.specs.declared.here.NetHere.{NetHere}
 use Rattle.yw_library.specs.Holdings.{Holdings}
 use Rattle.yw_plain.proofs.Words.{words}
 use Rattle.yw_plain.specs.Plain.{IsPlain}
-use Rattle.yw_spec.specs.declared.spec.Net.{Net}
 use Rattle.yw_spec.specs.declared.task.Task.{Task}
 use Rattle.yw_state.proofs.Tests.{some_same}
 use Rattle.yw_state.specs.Broken as table
@@ -27,7 +26,7 @@ use Rattle.yw_state.specs.Map.{get}
 use Rattle.yw_state.specs.Nets.{is_atomic, task_number}
 use Rattle.yw_state.specs.Options.{is_some_and}
 use Rattle.yw_state.specs.Passing.{within_bounds}
-use Rattle.yw_state.specs.State.{NetAt, NetPart, State, TaskAt, net_of, net_part, task_at, task_in}
+use Rattle.yw_state.specs.State.{NetAt, State, TaskAt, task_at, task_in}
 use Rattle.yw_state.specs.Words as word
 use Rattle.yw_state.specs.declared.rule.Refusal.{Refusal}
 use Rattle.yw_state.specs.declared.rule.Rule.{Rule}
@@ -39,11 +38,6 @@ use Rattle.yw_tree.specs.declared.Forest.{Forest}
 use Rattle.yw_tree.specs.declared.NetState.{out-NetState}
 
 -- ---- the net has no such task
-
-pub no_net : (s : State) (i : Ident) (name : List ℕ) → net_part s i ≡ None → task_at s i name ≡ None
-no_net s i name e =
-    ap (λ o. option_and_then (λ (n : NetAt). option_and_then (task_in n) (task_number n.net name))
-    (option_and_then (λ (p : NetPart). option_map (λ (w : Net). let m : NetAt = record { part = p; net = w } in m) (net_of s p)) o)) e
 
 pub no_task : (known : Holdings) (f : Forest) (s : State) (i : Ident) (h : NetHere) (name : List ℕ) → IsNetHere known f s i h → task_number h.net.now name ≡ None → task_at s i name ≡ None
 no_task known f s i h name here e =

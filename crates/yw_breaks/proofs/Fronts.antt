@@ -1,9 +1,9 @@
 -- What is broken first of a person and what is named, and of a case alone.
-use Rattle.std.proofs.Common.{Bool, None, Option, Some, [], refl, subst, sym, ◌∷◌, ◌≡◌}
-use Rattle.std.specs.Prelude.{not, option_map, if◌then◌else◌}
-use Rattle.yw_breaks.proofs.Rows.{rule_row}
-use Rattle.yw_breaks.specs.Persons.{case_rule, front_rule}
-use Rattle.yw_state.specs.Broken.{Breaks, First, checks, placeless, test}
+use Rattle.std.proofs.Common.{Bool, List, None, Option, Some, [], false, refl, subst, sym, true, ◌∷◌, ◌≡◌}
+use Rattle.std.specs.Prelude.{not, option_map}
+use Rattle.yw_breaks.proofs.Rows.{broken_row, idle_row, rule_row}
+use Rattle.yw_breaks.specs.Persons.{case_rule}
+use Rattle.yw_state.specs.Broken.{Breaks, Check, First, checks, placeless, test}
 use Rattle.yw_state.specs.Identity.{Ident}
 use Rattle.yw_state.specs.State.{State, is_case}
 use Rattle.yw_state.specs.Texts.{Reader}
@@ -11,11 +11,18 @@ use Rattle.yw_state.specs.declared.command.Command.TheVariants as commands
 use Rattle.yw_state.specs.declared.rule.Rule.{Rule}
 use Rattle.yw_state.specs.declared.rule.Rule.TheVariants as rules
 
-pub fronts : (a b stranger missing : Bool) (r : Rule) (o : Option Rule) → a ≡ stranger → b ≡ missing → o ≡ front_rule stranger missing r
-    → First (test a rules.UnknownPerson ∷ test b r ∷ []) (option_map placeless o)
-fronts a b stranger missing r o is there e =
-    subst (λ (x : Option Rule). First (test a rules.UnknownPerson ∷ test b r ∷ []) (option_map placeless x)) (sym e)
-    (rule_row a stranger is rules.UnknownPerson (test b r ∷ []) (if missing then Some r else None) (rule_row b missing there r [] None refl))
+module _ (a b : Bool) (r : Rule) where
+  abbrev two : List Check
+  two = test a rules.UnknownPerson ∷ test b r ∷ []
+
+  pub by_stranger : a ≡ true → First two (Some (placeless rules.UnknownPerson))
+  by_stranger is = broken_row a is rules.UnknownPerson (test b r ∷ [])
+
+  pub by_missing : a ≡ false → b ≡ true → First two (Some (placeless r))
+  by_missing is there = idle_row a is rules.UnknownPerson (test b r ∷ []) (Some (placeless r)) (broken_row b there r [])
+
+  pub by_none : a ≡ false → b ≡ false → First two None
+  by_none is there = idle_row a is rules.UnknownPerson (test b r ∷ []) None (idle_row b there r [] None refl)
 
 -- ---- a case
 

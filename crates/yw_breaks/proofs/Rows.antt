@@ -36,7 +36,3 @@ place_row a None e r cs o f = subst (λ (x : Option (List ℕ)). First (test_at 
 pub last_place : (a b : Option (List ℕ)) → a ≡ b → (r : Rule) → First (test_at a r ∷ []) (option_map (placed r) b)
 last_place a (Some at) e r = subst (λ (x : Option (List ℕ)). First (test_at x r ∷ []) (Some (placed r at))) (sym e) refl
 last_place a None e r = subst (λ (x : Option (List ℕ)). First (test_at x r ∷ []) None) (sym e) refl
-
--- a place that there isn't
-pub idle_place : (a : Option (List ℕ)) → a ≡ None → (r : Rule) (cs : List Check) (o : Option Refusal) → First cs o → First (test_at a r ∷ cs) o
-idle_place a e r cs o f = subst (λ (x : Option (List ℕ)). First (test_at x r ∷ cs) o) (sym e) f

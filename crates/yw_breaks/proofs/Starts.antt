@@ -1,7 +1,7 @@
 -- What a start breaks first behind the check that the case is quiet.
-use Rattle.std.proofs.Common.{Bool, List, None, Some, ap, refl, subst, ℕ, ◌∙◌, ◌≡◌, ◌∷◌, [], false}
+use Rattle.std.proofs.Common.{Bool, List, None, Some, ap, refl, subst, ℕ, ◌∙◌, ◌≡◌, ◌∷◌, []}
 use Rattle.std.specs.Prelude.{drop, not, option_map, take, unwrap_or, if◌then◌else◌}
-use Rattle.yw_breaks.proofs.Held.{no_item, role_is}
+use Rattle.yw_breaks.proofs.Held.{role_is}
 use Rattle.yw_breaks.proofs.Joining.{then_or}
 use Rattle.yw_breaks.proofs.Rows.{idle_row, rule_row}
 use Rattle.yw_breaks.specs.Persons.{lacks_role, worker_rule}
@@ -19,7 +19,7 @@ use Rattle.yw_state.specs.Identity.{Ident}
 use Rattle.yw_state.specs.Map.{get}
 use Rattle.yw_state.specs.Nets.{is_atomic}
 use Rattle.yw_state.specs.Options.{is_some_and}
-use Rattle.yw_state.specs.State.{ItemAt, State, is_item, item_at}
+use Rattle.yw_state.specs.State.{ItemAt, State, item_at}
 use Rattle.yw_state.specs.Words as word
 use Rattle.yw_state.specs.declared.rule.Rule.TheVariants as rules
 use Rattle.yw_task.proofs.AskLaw.{asks_start}
@@ -43,14 +43,3 @@ starts_first known f s who j x h plain here =
     (rule_row (is_some_and (item_at s j) by_itself) (not (is_atomic x.task.now)) (ap (λ o. is_some_and o by_itself) here.at) rules.ByItself (test (is_some_and (item_at s j) (lacks s who)) rules.Role ∷ []) (if lacks_role known who x.task.now then Some rules.Role else None)
     (rule_row (is_some_and (item_at s j) (lacks s who)) (lacks_role known who x.task.now) (ap (λ o. is_some_and o (lacks s who)) here.at ∙ role_is known f s h who x.task.now) rules.Role [] None refl))
     (idle_row (word.held s j) ((words s plain).held j) rules.Held (start_shown s who j) (option_map placeless (start_fault n)) shown)
-
--- without an item, nothing
-pub starts_none : (s : State) (who : List ℕ) (j : Ident) → IsPlain s → is_item s j ≡ false → First (start_rest s who j) None
-starts_none s who j plain none =
-    let w = words s plain in
-    let gone : (p : ItemAt → Bool) → is_some_and (item_at s j) p ≡ false = λ p. ap (λ o. is_some_and o p) (no_item s j none) in
-    idle_row _ (gone by_itself) rules.ByItself _ _
-    (idle_row _ (gone (lacks s who)) rules.Role _ _
-    (idle_row (word.held s j) (w.held j) rules.Held _ _
-    (idle_row _ (gone (λ y. not (word.is_ready y.part.stage))) rules.Stage _ _
-    (idle_row (word.busy s j) (w.busy j) rules.Busy [] None refl))))

@@ -27,10 +27,6 @@ lacks_role known who t = not (has_role (unwrap_or (roles_of known who) []) t.rol
 abbrev pub worker_rule : Holdings → List ℕ → Task → Option Rule
 worker_rule known who t = if not (is_atomic t) then Some rules.ByItself else (if lacks_role known who t then Some rules.Role else None)
 
--- `UnknownPerson`, else this rule, if either is broken
-abbrev pub front_rule : Bool → Bool → Rule → Option Rule
-front_rule stranger missing rule = if stranger then Some rules.UnknownPerson else (if missing then Some rule else None)
-
 -- `UnknownCase`, if the case isn't there
 abbrev pub case_rule : Bool → Option Rule
 case_rule there = if not there then Some rules.UnknownCase else None

@@ -1,31 +1,24 @@
 // A person adds an item to a task.
-ghost use Rattle.std.specs.Prelude.{◌≡◌, ◌<◌, IfOk, length, option_map};
+ghost use Rattle.std.specs.Prelude.{◌≡◌, ◌<◌, IfOk, length};
 ghost use Rattle.yw_breaks.specs.Add.{AddBreaks, add_rule, is_dynamic, lacks_element, value_fault};
-ghost use Rattle.yw_breaks.specs.Finds.{Finds, FindsNext};
-ghost use Rattle.yw_breaks.specs.Tables.{add_front, add_rest};
-ghost use Rattle.yw_state.specs.Broken.{placeless};
+ghost use Rattle.yw_breaks.specs.Finds.{FindsNext};
+ghost use Rattle.yw_breaks.specs.Tables.{add_rest};
+ghost use Rattle.yw_known.specs.Here.{SaysNet};
+ghost use Rattle.yw_state.specs.Identity.{Ident};
 ghost use Rattle.yw_task.specs.Adds.{is_full, room_rule};
+ghost use Rattle.yw_tree.specs.declared.Forest.{Forest};
 
-use crate::front::net_front;
-use crate::nets::{net_there, task_named};
+use crate::nets::task_named;
 use crate::persons::lacks_role;
 use crate::refusals::{number_rule, placeless, refusal, undefined};
 use std::alloc::{AllocError, Global};
-use yw_base::{Ident, Name, Row, Text, Value};
+use yw_base::{Name, Row, Text, Value};
 use yw_given::element_value;
 use yw_known::{Known, NetHere};
 use yw_spec::Task;
 use yw_state::{Refusal, Rule};
 use yw_task::{first_lacking, is_active, items_in, task_at};
-use yw_tree::{Forest, NetState};
-
-/// The first rule that an addition breaks, of those that are tried before the case must be quiet: `UnknownPerson` where nobody has this
-/// name, `UnknownCase` where no net stands at the identity; `None` where it breaks neither. It takes no memory.
-pub fn add_front(known: &Known, forest: &Forest, who: &Name, at: &Ident) -> Option<Rule>
-    ensures { Finds known.now forest.now (λ s. add_front s who.now at.now) (option_map placeless result) }
-{
-    net_front(known, forest, who, at)
-}
+use yw_tree::NetState;
 
 /// Items may be added to the task.
 fn is_dynamic(task: &Task) -> bool
@@ -127,29 +120,26 @@ fn add_fault(
     value_fault(alloc, task, &here.state.vals, value, next)
 }
 
-/// The first rule that an addition breaks, of those that are tried behind, in a state without rules, suspensions and runs: `UnknownTask`
-/// where the net has no task of this name; `NotDynamic` where no items may be added to it; `Role` where the person lacks its role; `Stage`
-/// where it isn't active; `MaxReached` where it has as many items as it may have; `BadData`, at `value`, where the value isn't of the sort
-/// of an element, or past the limits of values; `Mapping` where another parameter has an undefined expression, at the name of the first
-/// such one; `Numbers` where no number is left, of which `next` is drawn next; `None` where it breaks none. `Held` never comes yet. An
+/// The first rule that an addition breaks at this net, of those that are tried behind, in a state without rules, suspensions and runs:
+/// `UnknownTask` where the net has no task of this name; `NotDynamic` where no items may be added to it; `Role` where the person lacks its
+/// role; `Stage` where it isn't active; `MaxReached` where it has as many items as it may have; `BadData`, at `value`, where the value isn't
+/// of the sort of an element, or past the limits of values; `Mapping` where another parameter has an undefined expression, at the name of the
+/// first such one; `Numbers` where no number is left, of which `next` is drawn next; `None` where it breaks none. `Held` never comes yet. An
 /// `Err` says that no memory was left.
 pub fn add_rest(
     alloc: Global,
     known: &Known,
-    forest: &Forest,
+    here: &NetHere<'_>,
     next: u64,
     who: &Name,
-    at: &Ident,
     task: &Name,
     value: &Option<Value>,
 ) -> Result<Option<Refusal>, AllocError>
-    ensures { IfOk result (FindsNext known.now forest.now next (λ s. add_rest s who.now at.now task.now value.now)) }
+    ensures { (f : Forest) (i : Ident) → SaysNet known.now f i here.now
+        → IfOk result (FindsNext known.now f next (λ s. add_rest s who.now i task.now value.now)) }
 {
-    let Some(here) = net_there(known, forest, at) else {
-        return Ok(Some(placeless(alloc, Rule::UnknownTask)));
-    };
     match task_named(here.net, task) {
-        Some(t) => add_fault(alloc, known, who, &here, t, value, next),
+        Some(t) => add_fault(alloc, known, who, here, t, value, next),
         None => Ok(Some(placeless(alloc, Rule::UnknownTask))),
     }
 }

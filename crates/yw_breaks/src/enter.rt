@@ -1,38 +1,24 @@
 // A person enters a task.
-ghost use Rattle.std.specs.Prelude.{◌≡◌, ◌<◌, IfOk, length, option_map};
+ghost use Rattle.std.specs.Prelude.{◌≡◌, ◌<◌, IfOk, length};
 ghost use Rattle.yw_breaks.specs.Enter.{EnterBreaks, IsFed, item_count};
-ghost use Rattle.yw_breaks.specs.Finds.{Finds, FindsNext};
+ghost use Rattle.yw_breaks.specs.Finds.{FindsNext};
 ghost use Rattle.yw_breaks.specs.Nets.{IsWithinHere};
-ghost use Rattle.yw_breaks.specs.Tables.{enter_front, enter_rest};
-ghost use Rattle.yw_state.specs.Broken.{placeless};
+ghost use Rattle.yw_breaks.specs.Tables.{enter_rest};
+ghost use Rattle.yw_known.specs.Here.{SaysNet};
+ghost use Rattle.yw_state.specs.Identity.{Ident};
 ghost use Rattle.yw_task.specs.Giving.{entry_fault};
+ghost use Rattle.yw_tree.specs.declared.Forest.{Forest};
 
-use crate::front::net_front;
-use crate::nets::{net_there, task_named};
+use crate::nets::task_named;
 use crate::persons::worker_rule;
 use crate::refusals::{placeless, refusal, undefined};
 use std::alloc::{AllocError, Global};
-use yw_base::{Ident, Name, Row};
+use yw_base::{Name, Row};
 use yw_expr::view;
 use yw_known::{Known, NetHere};
 use yw_spec::Task;
 use yw_state::{Refusal, Rule};
 use yw_task::{ask_enter, count_rule, element_count, first_lacking, task_at};
-use yw_tree::Forest;
-
-/// The first rule that an entry breaks, of those that are tried before the case must be quiet: `UnknownPerson` where nobody has this name,
-/// `UnknownCase` where no net stands at the identity; `None` where it breaks neither. It takes no memory.
-pub fn enter_front(
-    known: &Known,
-    forest: &Forest,
-    who: &Name,
-    at: &Ident,
-    task: &Name,
-) -> Option<Rule>
-    ensures { Finds known.now forest.now (λ s. enter_front s who.now at.now task.now) (option_map placeless result) }
-{
-    net_front(known, forest, who, at)
-}
 
 /// How many items an entry makes: one, or one for each element of the list over which the task runs. `None` where the list is undefined.
 fn item_count(task: &Task, vals: &Row) -> Option<usize>
@@ -85,28 +71,26 @@ fn enter_fault(
     entry_fault(alloc, task, &here.state.vals, next)
 }
 
-/// The first rule that an entry breaks, of those that are tried behind, in a state without rules, suspensions and runs: `UnknownTask` where
-/// the net has no task of this name; `ByItself` where the task isn't atomic; `Role` where the person lacks its role; `Active` where items
-/// of it stand there; `NotEnabled` where its join lacks tokens; `OrWaits` where it is an OR-join that waits; `Mapping` where the list over
-/// which it runs is undefined, at `each`, or what an item is given, at the name of the first such parameter; `Count` where the items would
-/// be too few or too many; `Numbers` where so many numbers aren't left, of which `next` is drawn next; `None` where it breaks none. `Held`
-/// never comes yet. An `Err` says that no memory was left.
+/// The first rule that an entry breaks at this net, of those that are tried behind, in a state without rules, suspensions and runs:
+/// `UnknownTask` where the net has no task of this name; `ByItself` where the task isn't atomic; `Role` where the person lacks its role;
+/// `Active` where items of it stand there; `NotEnabled` where its join lacks tokens; `OrWaits` where it is an OR-join that waits; `Mapping`
+/// where the list over which it runs is undefined, at `each`, or what an item is given, at the name of the first such parameter; `Count`
+/// where the items would be too few or too many; `Numbers` where so many numbers aren't left, of which `next` is drawn next; `None` where it
+/// breaks none. `Held` never comes yet. An `Err` says that no memory was left.
 pub fn enter_rest(
     alloc: Global,
     known: &Known,
-    forest: &Forest,
+    here: &NetHere<'_>,
     next: u64,
     who: &Name,
-    at: &Ident,
     task: &Name,
 ) -> Result<Option<Refusal>, AllocError>
-    ensures { IfOk result (FindsNext known.now forest.now next (λ s. enter_rest s who.now at.now task.now)) }
+    requires { IsWithinHere here.now }
+    ensures { (f : Forest) (i : Ident) → SaysNet known.now f i here.now
+        → IfOk result (FindsNext known.now f next (λ s. enter_rest s who.now i task.now)) }
 {
-    let Some(here) = net_there(known, forest, at) else {
-        return Ok(Some(placeless(alloc, Rule::UnknownTask)));
-    };
     match task_named(here.net, task) {
-        Some(t) => enter_fault(alloc, known, who, &here, t, next),
+        Some(t) => enter_fault(alloc, known, who, here, t, next),
         None => Ok(Some(placeless(alloc, Rule::UnknownTask))),
     }
 }

@@ -1,20 +1,23 @@
 // The event that a command asks for.
 ghost use Rattle.std.specs.Prelude.{◌≡◌, IfOk};
 ghost use Rattle.yw_breaks.specs.Events.{AddAsks, CompleteMakes, LaunchAsks};
+ghost use Rattle.yw_known.specs.Here.{SaysItem, SaysNet};
+ghost use Rattle.yw_library.specs.Holdings.{Holdings};
 ghost use Rattle.yw_model.specs.Texts.{reader};
+ghost use Rattle.yw_state.specs.Identity as ids;
 ghost use Rattle.yw_state.specs.Identity.{case_number};
 ghost use Rattle.yw_state.specs.Legal.{IsAsked};
 ghost use Rattle.yw_state.specs.State.{State};
 ghost use Rattle.yw_state.specs.declared.command.Command.TheVariants as commands;
+ghost use Rattle.yw_tree.specs.declared.Forest.{Forest};
 
-use crate::nets::{net_there, task_named};
+use crate::nets::task_named;
 use std::alloc::{AllocError, Global};
 use yw_base::{Ident, Name, Row, Value};
 use yw_given::{element_value, launch_values, made_values, misfit};
-use yw_known::{Known, item_here};
+use yw_known::{ItemHere, Known, NetHere};
 use yw_state::{Event, GivenList};
 use yw_task::task_at;
-use yw_tree::Forest;
 
 /// The number of the case in which this lies.
 fn case_number(id: &Ident) -> u64
@@ -77,20 +80,18 @@ pub fn launch_event(
     }))
 }
 
-/// The event that an addition asks for, where `next` is drawn next: `None` where the net at the identity has no task of this name, or the
-/// value isn't one that an item can be given as its element. It takes no memory.
+/// The event that an addition to this net asks for, where `next` is drawn next: `None` where the net has no task of this name, or the value
+/// isn't one that an item can be given as its element. It takes no memory.
 pub fn add_event(
     alloc: Global,
-    known: &Known,
-    forest: &Forest,
+    here: &NetHere<'_>,
     next: u64,
     at: Ident,
     task: Name,
     value: Option<Value>,
 ) -> Option<Event>
-    ensures { AddAsks known.now forest.now next at task value result }
+    ensures { (known : Holdings) (f : Forest) → SaysNet known f at here.now → AddAsks known f next at task value result }
 {
-    let here = net_there(known, forest, &at)?;
     let t = task_named(here.net, &task)?;
     let value = element_value(alloc, task_at(here.net, t), value)?;
     Some(Event::Add {
@@ -101,20 +102,15 @@ pub fn add_event(
     })
 }
 
-/// The values of the event that a completion asks for: `None` where no item has this identity, or `Output` is broken. An `Err` says that no
-/// memory was left.
+/// The values of the event that a completion of this item asks for: `None` where `Output` is broken. An `Err` says that no memory was left.
 pub fn complete_values(
     alloc: Global,
-    known: &Known,
-    forest: &Forest,
-    item: &Ident,
+    here: &ItemHere<'_>,
     given: &GivenList,
 ) -> Result<Option<Row>, AllocError>
-    ensures { IfOk result (CompleteMakes known.now forest.now item.now given.now) }
+    ensures { (known : Holdings) (f : Forest) (j : ids.Ident) → SaysItem known f j here.now
+        → IfOk result (CompleteMakes known f j given.now) }
 {
-    let Some(here) = item_here(alloc, known, forest, item)? else {
-        return Ok(None);
-    };
     if misfit(alloc, &here.task.outs, given)?.is_some() {
         return Ok(None);
     }

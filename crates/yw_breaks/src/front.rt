@@ -1,56 +1,29 @@
-// What is tried before the case must be quiet.
-ghost use Rattle.std.specs.Prelude.{◌≡◌, is_none, option_map};
-ghost use Rattle.yw_breaks.specs.Finds.{Finds};
-ghost use Rattle.yw_breaks.specs.Persons.{front_rule};
-ghost use Rattle.yw_breaks.specs.Tables.{item_front, net_front};
-ghost use Rattle.yw_known.specs.Held.{IsHeld};
-ghost use Rattle.yw_library.specs.Holdings.{Holdings};
-ghost use Rattle.yw_state.specs.Broken.{placeless};
-ghost use Rattle.yw_state.specs.State.{State, is_item, net_part};
+// What is tried before the case of an item must be quiet.
+ghost use Rattle.yw_breaks.specs.Finds.{FindsItem};
+ghost use Rattle.yw_breaks.specs.Tables.{item_front};
 
 use crate::persons::is_stranger;
 use yw_base::{Ident, Name};
-use yw_known::{Known, net_here};
+use yw_known::{ItemHere, Known, item_at};
 use yw_state::Rule;
 use yw_tree::Forest;
 
-/// An item has this identity.
-fn is_item(forest: &Forest, id: &Ident) -> bool
-    ensures { (known : Holdings) (s : State) → IsHeld known forest.now s → result ≡ is_item s id.now }
+/// The item that a command of a person names. An `Err` has the first rule that a start or a completion breaks, of those that are tried before
+/// the case must be quiet: `UnknownPerson` where nobody has this name, and else `UnknownItem` where no item has this identity. It takes no
+/// memory.
+pub fn item_front<'a>(
+    known: &'a Known,
+    forest: &'a Forest,
+    who: &Name,
+    item: &Ident,
+) -> Result<ItemHere<'a>, Rule>
+    ensures { FindsItem known.now forest.now (λ s. item_front s who.now item.now) item.now result }
 {
-    let _ = id.numbers();
-    forest.item(id).is_some()
-}
-
-/// `UnknownPerson` where nobody has the name, else this rule where what is named isn't there.
-fn front_rule(is_stranger: bool, is_missing: bool, rule: Rule) -> Option<Rule>
-    ensures { result ≡ front_rule is_stranger is_missing rule }
-{
-    if is_stranger {
-        return Some(Rule::UnknownPerson);
+    if is_stranger(known.library(), who) {
+        return Err(Rule::UnknownPerson);
     }
-    is_missing.then_some(rule)
-}
-
-/// `UnknownPerson` where nobody has this name, `UnknownItem` where no item has this identity.
-pub fn item_front(known: &Known, forest: &Forest, who: &Name, item: &Ident) -> Option<Rule>
-    ensures { Finds known.now forest.now (λ s. item_front s who.now item.now) (option_map placeless result) }
-{
-    let is_stranger = is_stranger(known.library(), who);
-    front_rule(is_stranger, !is_item(forest, item), Rule::UnknownItem)
-}
-
-/// No net stands at this identity.
-fn is_vacant(known: &Known, forest: &Forest, at: &Ident) -> bool
-    ensures { (s : State) → IsHeld known.now forest.now s → result ≡ is_none (net_part s at.now) }
-{
-    net_here(known, forest, at).is_none()
-}
-
-/// `UnknownPerson` where nobody has this name, `UnknownCase` where no net stands at this identity.
-pub fn net_front(known: &Known, forest: &Forest, who: &Name, at: &Ident) -> Option<Rule>
-    ensures { Finds known.now forest.now (λ s. net_front s who.now at.now) (option_map placeless result) }
-{
-    let is_stranger = is_stranger(known.library(), who);
-    front_rule(is_stranger, is_vacant(known, forest, at), Rule::UnknownCase)
+    match item_at(known, forest, item) {
+        Some(here) => Ok(here),
+        None => Err(Rule::UnknownItem),
+    }
 }

@@ -14,12 +14,14 @@ mod persons;
 mod refusals;
 mod start;
 
-pub use add::{add_front, add_rest};
+pub use add::add_rest;
 pub use cases::{advance_breaks, cancel_breaks};
-pub use complete::{complete_front, complete_most};
-pub use enter::{enter_front, enter_rest};
+pub use complete::complete_most;
+pub use enter::enter_rest;
 pub use events::{
     add_event, advance_event, cancel_event, complete_values, launch_event, start_event,
 };
+pub use front::item_front;
 pub use launch::launch_breaks;
-pub use start::{start_front, start_rest};
+pub use nets::net_front;
+pub use start::start_rest;

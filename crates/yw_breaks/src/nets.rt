@@ -1,18 +1,22 @@
-// The net of a case, and its tasks.
-ghost use Rattle.std.specs.Prelude.{◌≡◌, ◌<◌, None, IfSome, MatchOption, length, slice_get};
+// The net of a case, and its tasks; and what is tried before its case must be quiet.
+ghost use Rattle.std.specs.Prelude.{◌≡◌, ◌<◌, None, IfOk, IfSome, MatchOption, length, slice_get};
+ghost use Rattle.yw_breaks.specs.Finds.{FindsNet};
 ghost use Rattle.yw_breaks.specs.Nets.{IsTaskNamed, IsWithinHere};
+ghost use Rattle.yw_breaks.specs.Tables.{net_front};
 ghost use Rattle.yw_known.specs.Held.{IsHeld};
 ghost use Rattle.yw_known.specs.Here.{IsNetHere};
 ghost use Rattle.yw_state.specs.Nets.{task_number};
 ghost use Rattle.yw_state.specs.State.{State, net_part};
 
+use crate::persons::is_stranger;
 use yw_base::{Ident, Name};
 use yw_known::{Known, NetHere, task_called};
 use yw_spec::Net;
+use yw_state::Rule;
 use yw_tree::Forest;
 
 /// The net of the case, item or run at an identity, and that its specification is within, whatever the state.
-pub fn net_there<'a>(known: &'a Known, forest: &'a Forest, at: &Ident) -> Option<NetHere<'a>>
+fn net_there<'a>(known: &'a Known, forest: &'a Forest, at: &Ident) -> Option<NetHere<'a>>
     ensures here { (s : State) → IsHeld known.now forest.now s
         → MatchOption result (net_part s at.now ≡ None) (IsNetHere known.now forest.now s at.now) }
     ensures within { IfSome result IsWithinHere }
@@ -27,6 +31,27 @@ pub fn net_there<'a>(known: &'a Known, forest: &'a Forest, at: &Ident) -> Option
         up: found.up,
         spec: found.spec,
     })
+}
+
+/// The net that a command of a person names; its specification is within, whatever the state. An `Err` has the first rule that an entry or an
+/// addition breaks, of those that are tried before the case must be quiet: `UnknownPerson` where nobody has this name, and else `UnknownCase`
+/// where no net stands at the identity. It takes no memory.
+pub fn net_front<'a>(
+    known: &'a Known,
+    forest: &'a Forest,
+    who: &Name,
+    at: &Ident,
+) -> Result<NetHere<'a>, Rule>
+    ensures finds { FindsNet known.now forest.now (λ s. net_front s who.now at.now) at.now result }
+    ensures within { IfOk result IsWithinHere }
+{
+    if is_stranger(known.library(), who) {
+        return Err(Rule::UnknownPerson);
+    }
+    match net_there(known, forest, at) {
+        Some(here) => Ok(here),
+        None => Err(Rule::UnknownCase),
+    }
 }
 
 /// The number of the task with this name in a net.
