@@ -53,8 +53,8 @@ of_item n names = (item_site names n, below_item names n)
 abbrev pub of_run : Run → Told
 of_run r names = (run_site names r, below_net names (out-Run r).net)
 
--- At i and under it the map of f has what was tells, and that of g what is tells, and elsewhere what f's has. Where what is below is
--- as before, the map changes at i alone. g is well boxed.
+-- At i and under it the map of f has what the part tells that was there, and the map of g what the part tells that is there; elsewhere
+-- the map of g is that of f. Where what is below is as before, the map changes at i alone. And g is well boxed.
 pub record Replaces (f g : Forest) (i : Ident) (was is : Told) : Type 0 where
   pub stood : (names : ℕ → List ℕ) (q : Ident) → under q i ≡ true → get (sites_of names f) q ≡ find lexical q ((i, (was names).0) ∷ (was names).1)
   pub stands : (names : ℕ → List ℕ) → Gains (sites_of names f) i ((i, (is names).0) ∷ (is names).1) (sites_of names g)
@@ -62,7 +62,7 @@ pub record Replaces (f g : Forest) (i : Ident) (was is : Told) : Type 0 where
       → sites_of names g ≡ update (sites_of names f) i h
   pub kept : IsForest g
 
--- ---- what is lent: the case, item or run old stands there and fits, and each other may be placed there that fits too
+-- ---- what is lent: the case, item or run old stands there and fits, and any other that fits there may be placed there
 
 pub record LentCase (f : Forest) (n : ℕ) (old : Case) : Type 0 where
   pub fits : FitsCase n old

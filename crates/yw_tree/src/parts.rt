@@ -169,7 +169,7 @@ impl Forest {
         net_by(self, id.numbers())
     }
 
-    /// The item at an identity, for writing.
+    /// The item at an identity, for writing, or `None` where there is none. It takes no memory.
     pub fn item_mut<'a>(&'a mut self, id: &Ident) -> Option<&'a mut Node>
         ensures* writes_back { sem 𝓛 (LendsItem self.entry id.entry.now result) }
         ensures value { option_copied_mut result ≡ item_of self.old id.now }
