@@ -1,24 +1,23 @@
 -- Whether a task's entry is allowed.
-use Rattle.std.proofs.Common.{ap, length, subst, suc, sym, ◌∙◌}
+use Rattle.std.proofs.Common.{ap, length, refl, subst, suc, sym, ◌∙◌}
 use Rattle.std.proofs.lemmas.Bool.{and_from, and_parts, eq-eqb, eqb-true}
-use Rattle.std.specs.Prelude.{Bool, List, MatchOption, None, Option, Some, [], false, map, nat_le, not, option_map, slice_get, true, ℕ, ◌&&◌, ◌+◌, ◌==◌, ◌∷◌, ◌≡◌}
+use Rattle.std.specs.Prelude.{Bool, List, None, Option, Some, [], false, map, nat_le, not, option_map, slice_get, true, ℕ, ◌&&◌, ◌+◌, ◌==◌, ◌∷◌, ◌≡◌}
 use Rattle.yw_base.specs.Identity.{number_end}
 use Rattle.yw_base.specs.declared.value.Value.{Value}
 use Rattle.yw_cases.proofs.Allows.{only_clear}
 use Rattle.yw_accepted.proofs.Loaded.{accepted_are_within}
 use Rattle.yw_cases.proofs.TaskHere.{its, named, named_so, numbered}
 use Rattle.yw_cases.proofs.Taking.{joined, taken_by}
-use Rattle.yw_cases.proofs.Trying.{fails, next_is, words_of}
-use Rattle.yw_cases.specs.Entering.{IsEntry, candidate, counts, stands_for}
+use Rattle.yw_cases.proofs.Trying.{fails, leads_plainly, next_is, words_of}
+use Rattle.yw_cases.specs.Entering.{candidate, counts, stands_for}
 use Rattle.yw_cases.specs.State.{MayStand, state_of}
-use Rattle.yw_cases.specs.Tried.{LeadsNowhere}
+use Rattle.yw_cases.specs.Tried.{LeadsNowhere, LeadsOn, TellsLeads}
 use Rattle.yw_cases.specs.declared.standing.Standing.{Standing}
 use Rattle.yw_enabled.specs.Entered.{MayEnter, MayNotEnter, item_count}
 use Rattle.yw_enabled.specs.Free.{MayDraw}
 use Rattle.yw_known.specs.Here.{IsNetHere}
 use Rattle.yw_known.specs.Names.{names_of}
 use Rattle.yw_known.specs.declared.here.NetHere.{NetHere}
-use Rattle.yw_mark.specs.Taking.{taken_places}
 use Rattle.yw_mark.specs.declared.join.Taken.{Taken}
 use Rattle.yw_model.specs.Texts.{reader}
 use Rattle.yw_spec.specs.declared.spec.Place.{Place}
@@ -40,7 +39,6 @@ use Rattle.yw_state.specs.declared.event.Event.TheVariants as events
 use Rattle.yw_still.proofs.Joining.{joins_tokens}
 use Rattle.yw_still.specs.Still.{can_be_entered, may_be_made}
 use Rattle.yw_task.proofs.EnterAsk.{has_marks}
-use Rattle.yw_task.specs.Enters.{is_choice}
 use Rattle.yw_tree.specs.declared.NetState.{out-NetState}
 use Rattle.yw_walk.specs.Finds as walks
 use Rattle.yw_walk.specs.Finds.{EntersAs}
@@ -61,18 +59,6 @@ pub rows_counted : (t : Task) (vals : Row) (rows : List Row) → entry_values t 
 rows_counted t vals rows e =
     let es = then_some (λ (os : List (Option Value)). all_of (map (given_values t vals) os)) (elements_for t.many vals) rows e in
     ap (option_map (λ (os : List (Option Value)). length os)) es.1 ∙ ap Some (sym (all_long (given_values t vals) es.0 rows es.2))
-
--- ---- what is said of the task
-
-module _ (old : Standing) (i : Ident) (name : List ℕ) (places : List Place) (first count : ℕ) where
-  abbrev EntryIs : Option (ℕ × Taken) → Type 0
-  EntryIs o = MatchOption o (LeadsNowhere old (events.Enter i name places first count)) (IsEntry old i name places first count)
-
-  pub entry_found : (o : Option (ℕ × Taken)) (p : ℕ × Taken) → o ≡ Some p → EntryIs o → IsEntry old i name places first count p
-  entry_found o p is found = subst EntryIs is found
-
-  pub no_entry : (o : Option (ℕ × Taken)) → o ≡ None → EntryIs o → LeadsNowhere old (events.Enter i name places first count)
-  no_entry o is found = subst EntryIs is found
 
 module _ (old : Standing) (may : MayStand old) (i : Ident) (name : List ℕ) (places : List Place) (first count : ℕ) where
   abbrev s : State
@@ -141,7 +127,7 @@ module _ (old : Standing) (may : MayStand old) (i : Ident) (name : List ℕ) (pl
           room = drawn.1;
         }
 
-    its_entry : (z : State) → Leads reader s (events.Enter i name places first count) z → may_enter s i places first count x ≡ true
+    pub its_entry : (z : State) → Leads reader s (events.Enter i name places first count) z → may_enter s i places first count x ≡ true
     its_entry z leads =
         let found = there_and (task_at s i name) (may_enter s i places first count) (sym (enter_as leads.said) ∙ leads.allowed.0) in
         subst (λ (y : TaskAt). may_enter s i places first count y ≡ true) (some_same found.0 x (sym found.1 ∙ named old i w here name t number task of_net)) found.2
@@ -174,10 +160,9 @@ module _ (old : Standing) (may : MayStand old) (i : Ident) (name : List ℕ) (pl
 
     -- ---- and where it is allowed
 
-    pub is_entry : (own : Taken) → MayEnter w.net.now w.state.now t old.next own → (first == old.next && counts task vals count) ≡ true
-        → stands_for w.net.now marks task.before places (candidate task.join w.net.now places) ≡ true → (taken : Taken) → taken ≡ candidate task.join w.net.now places
-        → IsEntry old i name places first count (t, taken)
-    is_entry own enters drawn stands taken is =
+    pub leads_in : (own : Taken) → MayEnter w.net.now w.state.now t old.next own → (first == old.next && counts task vals count) ≡ true
+        → stands_for w.net.now marks task.before places (candidate task.join w.net.now places) ≡ true → LeadsOn old (events.Enter i name places first count)
+    leads_in own enters drawn stands =
         let from = enters (names_of old.known) old.forest s i x draw_there (numbered old i w here name t number task of_net) in
         let one = and_parts (clear s i && not (active s i t) && has_tokens task.join s i task.before) (is_some_and (entry_values task vals) (may_be_made s x)) from.may in
         let two = and_parts (clear s i && not (active s i t)) (has_tokens task.join s i task.before) one.0 in
@@ -199,19 +184,17 @@ module _ (old : Standing) (may : MayStand old) (i : Ident) (name : List ℕ) (pl
         let all : may_enter s i places first count x ≡ true =
         and_from (not (active s i t) && takes_from s i x places && makes x count) (draws s first count)
         (and_from (not (active s i t) && takes_from s i x places) (makes x count) (and_from (not (active s i t)) (takes_from s i x places) idle takes) made) draw in
-        record {
-          net = w;
-          here = here;
-          task = task;
-          number = number;
-          of_net = of_net;
-          numbers = by.numbers ∙ ap (λ z. Some (taken_places marks task.before z)) (sym is);
-          chosen = ap (λ z. is_choice task.join marks task.before z) is ∙ by.chosen;
-          allowed = (
-            enter_as nothing ∙ ap (λ o. is_some_and o (may_enter s i places first count)) (named old i w here name t number task of_net) ∙ all,
-            λ y is_y. subst (NoWait s i) (some_same x y (sym (named old i w here name t number task of_net) ∙ is_y)) from.no_wait,
-          );
-        }
+        leads_plainly old (events.Enter i name places first count) refl (
+          enter_as nothing ∙ ap (λ o. is_some_and o (may_enter s i places first count)) (named old i w here name t number task of_net) ∙ all,
+          λ y is_y. subst (NoWait s i) (some_same x y (sym (named old i w here name t number task of_net) ∙ is_y)) from.no_wait,
+        )
+
+    -- ---- whichever it is
+
+    pub tells_entry : (own : Taken) → MayEnter w.net.now w.state.now t old.next own → (first == old.next && counts task vals count) ≡ true
+        → (b : Bool) → b ≡ stands_for w.net.now marks task.before places (candidate task.join w.net.now places) → TellsLeads old (events.Enter i name places first count) b
+    tells_entry own enters drawn true e = leads_in own enters drawn (sym e)
+    tells_entry own enters drawn false e = not_taken (sym e)
 
 -- ---- the event by which it may be entered
 

@@ -13,7 +13,6 @@ pub mod TaskHere
 pub mod ExitLaw
 pub mod Taking
 pub mod EntryLaw
-pub mod SomeItems
 pub mod EnterLaw
 pub mod AddLaw
 pub mod Opening

@@ -1,17 +1,20 @@
 -- A task of a net that stands, found by its name.
-use Rattle.std.proofs.Common.{ap, subst, ◌∙◌}
+use Rattle.std.proofs.Common.{ap, subst, sym, ◌∙◌}
 use Rattle.std.proofs.lemmas.List.Quantifiers.{position-Some}
 use Rattle.std.proofs.lemmas.Option.{get_or_from_slice_get}
 use Rattle.std.proofs.lemmas.Slice.Eq.{bytes_eq-Decides}
-use Rattle.std.specs.Prelude.{List, None, Some, option_and_then, option_map, slice_get, true, ℕ, ◌≡◌}
+use Rattle.std.specs.Prelude.{List, MatchOption, None, Option, Some, option_and_then, option_map, slice_get, true, ℕ, ◌≡◌}
 use Rattle.std.specs.Str.{bytes_eq}
 use Rattle.yw_cases.proofs.HereLaw.{no_net}
+use Rattle.yw_cases.specs.Here.{IsNetKnown, with_state}
 use Rattle.yw_cases.specs.State.{state_of}
 use Rattle.yw_cases.specs.declared.standing.Standing.{Standing}
 use Rattle.yw_known.specs.Here.{IsNetHere, as_net_at}
 use Rattle.yw_known.specs.declared.here.NetHere.{NetHere}
+use Rattle.yw_known.specs.declared.known.KnownNet.{KnownNet}
 use Rattle.yw_spec.specs.declared.spec.Net.{Net}
 use Rattle.yw_spec.specs.declared.task.Task.{Task}
+use Rattle.yw_state.proofs.Tests.{by_option, nowhere}
 use Rattle.yw_state.specs.Identity.{Ident}
 use Rattle.yw_state.specs.Nets.{task_number}
 use Rattle.yw_state.specs.State.{NetAt, State, TaskAt, net_part, task_at, task_in}
@@ -52,3 +55,24 @@ pub named_so : (net : Net) (t : ℕ) (task : Task) (name : List ℕ) → slice_g
 named_so net t task name at number =
     let passes = (position-Some (λ (u : Task). bytes_eq u.name name) net.tasks t task number).1 in
     (bytes_eq-Decides task.name name).0 (subst (λ (u : Task). bytes_eq u.name name ≡ true) (get_or_from_slice_get net.tasks t task task at) passes)
+
+-- ---- where a task of this name is there, by what is known of its net
+
+module _ (old : Standing) (i : Ident) (name : List ℕ) (y : TaskAt) (there : task_at (state_of old) i name ≡ Some y) where
+  abbrev KnownIs : Option KnownNet → Type 0
+  KnownIs o = MatchOption o (net_part (state_of old) i ≡ None) (IsNetKnown old.known old.forest (state_of old) i)
+
+  pub net_known : {A : Type 0} (o : Option KnownNet) → o ≡ None → KnownIs o → A
+  net_known o is found =
+      let none : net_part (state_of old) i ≡ None = subst KnownIs is found in
+      nowhere (sym (no_net_no_task (state_of old) i name none) ∙ there)
+
+  module _ (w : KnownNet) (known : IsNetKnown old.known old.forest (state_of old) i w) where
+    pub name_known : {A : Type 0} → task_number w.net.now name ≡ None → A
+    name_known none = nowhere (sym (no_name_no_task old i (with_state w known.state) known.here name none) ∙ there)
+
+    pub task_known : (t : ℕ) → task_number w.net.now name ≡ Some t → (task : Task) × (slice_get w.net.now.tasks t ≡ Some task)
+    task_known t number =
+        by_option (slice_get w.net.now.tasks t)
+        (λ none. nowhere (sym (no_number_no_task old i (with_state w known.state) known.here name t number none) ∙ there))
+        (λ task of_net. (task, of_net))

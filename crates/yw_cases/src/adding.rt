@@ -1,12 +1,11 @@
 // An item is added to a task.
-ghost use Rattle.std.specs.Prelude.{◌≡◌, IfOk, MatchOption};
-ghost use Rattle.yw_cases.specs.Adding.{IsAddition, takes_element};
+ghost use Rattle.std.specs.Prelude.{◌≡◌, IfOk, OnOk};
+ghost use Rattle.yw_cases.specs.Adding.{has_room, may_grow, takes_element};
 ghost use Rattle.yw_cases.specs.State.{MayStand};
-ghost use Rattle.yw_cases.specs.Tried.{LeadsNowhere, Tries};
+ghost use Rattle.yw_cases.specs.Tried.{IsDone, LeadsOn, TellsLeads, Tries};
 ghost use Rattle.yw_state.specs.declared.event.Event.TheVariants as events;
 
 use crate::here::{draws, known_net};
-use crate::refusals::was_done;
 use crate::rows::may_hold;
 use crate::standing::Standing;
 use crate::whole::NO_CHECKS;
@@ -14,42 +13,85 @@ use std::alloc::{AllocError, Global};
 use yw_base::{Ident, Name, Value};
 use yw_known::{net_here, task_called};
 use yw_spec::Task;
+use yw_task::{first_lacking, is_active, items_in};
+use yw_tree::NetState;
 
-/// The task is dynamic, and its items are given such a value as their element.
+/// The task is dynamic, and may have more items than so many.
+fn has_room(task: &Task, count: usize) -> bool
+    ensures { result ≡ has_room task.now count }
+{
+    match &task.many {
+        Some(many) => many.dynamic && count < many.max as usize,
+        None => false,
+    }
+}
+
+/// The task's items are given such a value as their element.
 fn takes_element(task: &Task, value: &Value) -> bool
     ensures { result ≡ takes_element task.now value.now }
 {
     match &task.many {
         Some(many) => match task.ins.get(many.item) {
-            Some(param) => many.dynamic && may_hold(param.sort, value),
+            Some(param) => may_hold(param.sort, value),
             None => false,
         },
         None => false,
     }
 }
 
-/// The number of the task, where an item may be added to it for the value under this number, but for what the net shows.
-fn addition(standing: &Standing, at: &Ident, name: &Name, value: &Value, n: u64) -> Option<usize>
-    requires { MayStand standing.now }
-    ensures { MatchOption result (LeadsNowhere standing.now (events.Add at.now name.now value.now n))
-        (IsAddition standing.now at.now name.now value.now n) }
+/// The task, which has number `t`, may have one item more in the net, for this element: it is active, and each of its parameters has a value.
+fn may_grow(state: &NetState, task: &Task, t: usize, element: &Value) -> bool
+    ensures { result ≡ may_grow state.now task.now t element.now }
 {
+    is_active(state, t)
+        && has_room(task, items_in(state, t).len())
+        && takes_element(task, element)
+        && first_lacking(task.ins.as_slice(), &state.vals).is_none()
+}
+
+/// Whether an item numbered `n` may be added to a task for this element. It takes no memory.
+pub fn may_add(standing: &Standing, at: &Ident, name: &Name, value: &Value, n: u64) -> bool
+    requires { MayStand standing.now }
+    ensures { TellsLeads standing.now (events.Add at.now name.now value.now n) result }
+{
+    if !draws(standing.next, n, 1) {
+        return false;
+    }
     let Some(here) = net_here(&standing.known, &standing.forest, at) else {
-        return None;
+        return false;
     };
     let Some(t) = task_called(here.net, name) else {
-        return None;
+        return false;
     };
     let Some(task) = here.net.tasks.get(t) else {
-        return None;
+        return false;
     };
-    if !draws(standing.next, n, 1) {
-        return None;
-    }
-    if !takes_element(task, value) {
-        return None;
-    }
-    Some(t)
+    may_grow(here.state, task, t, value)
+}
+
+/// An item numbered `n` is added to a task for this element, as is allowed. An `Err` says that no memory was left.
+pub fn act_add(
+    alloc: Global,
+    standing: &mut Standing,
+    at: &Ident,
+    name: &Name,
+    value: &Value,
+    n: u64,
+) -> Result<(), AllocError>
+    requires stands { MayStand standing.old }
+    requires leads { LeadsOn standing.old (events.Add at.now name.now value.now n) }
+    ensures { OnOk result (IsDone standing.old (events.Add at.now name.now value.now n) standing.new) }
+{
+    let Some(found) = known_net(&standing.known, &standing.forest, at) else {
+        unreachable!();
+    };
+    let Some(t) = task_called(found.net, name) else {
+        unreachable!();
+    };
+    let forest = &mut standing.forest;
+    yw_steps::come_more_at(alloc, forest, found.net, at, t, value, n, NO_CHECKS)?;
+    standing.next = n + 1;
+    Ok(())
 }
 
 /// An item is added to a task for this element, numbered `n`, where that is allowed.
@@ -64,28 +106,9 @@ pub fn try_add(
     requires { MayStand standing.old }
     ensures { IfOk result (λ leads. Tries standing.old (events.Add at.now name.now value.now n) leads standing.new) }
 {
-    // No work is done here: this says that a task may get items.
-    yw_steps::laws::task_may_grow();
-    let Some(t) = addition(standing, at, name, value, n) else {
-        return Ok(false);
-    };
-    let Some(found) = known_net(&standing.known, &standing.forest, at) else {
-        return Ok(false);
-    };
-    let element = value.copy(alloc)?;
-    let step = yw_steps::add(
-        alloc,
-        &mut standing.forest,
-        found.net,
-        at,
-        t,
-        element,
-        n,
-        NO_CHECKS,
-    );
-    if !was_done(step)? {
+    if !may_add(standing, at, name, value, n) {
         return Ok(false);
     }
-    standing.next = n + 1;
+    act_add(alloc, standing, at, name, value, n)?;
     Ok(true)
 }

@@ -1,16 +1,14 @@
 // A task is entered.
-ghost use Rattle.std.specs.Prelude.{◌≡◌, ◌==◌, ◌&&◌, IfOk, MatchOption, filter};
-ghost use Rattle.yw_cases.specs.Entering.{IsEntry, candidate, counts, first_number, stands_for};
+ghost use Rattle.std.specs.Prelude.{◌≡◌, ◌==◌, ◌&&◌, IfOk, OnOk, filter};
+ghost use Rattle.yw_cases.specs.Entering.{candidate, counts, first_number, stands_for};
 ghost use Rattle.yw_cases.specs.State.{MayStand};
-ghost use Rattle.yw_cases.specs.Steps.{IsAnswer};
-ghost use Rattle.yw_cases.specs.Tried.{LeadsNowhere, Tries};
+ghost use Rattle.yw_cases.specs.Tried.{IsDone, LeadsOn, TellsLeads, Tries};
 ghost use Rattle.yw_enabled.specs.Entered.{item_count};
 ghost use Rattle.yw_mark.specs.Tokens.{is_marked};
 ghost use Rattle.yw_state.specs.declared.event.Event.TheVariants as events;
 
 use crate::here::known_net;
 use crate::places::{are_numbered, place_number};
-use crate::refusals::was_entered;
 use crate::standing::Standing;
 use crate::whole::NO_CHECKS;
 use std::alloc::{AllocError, Global};
@@ -21,7 +19,7 @@ use yw_known::{net_here, task_called};
 use yw_mark::{Taken, is_among, is_marked};
 use yw_spec::{Net, Place, PlaceList, Task};
 use yw_state::Marks;
-use yw_task::element_count;
+use yw_task::{element_count, task_at};
 
 /// How many items an entry makes: one, or one for each element of the list over which the task runs. `None` where the list is undefined.
 fn item_count(task: &Task, vals: &Row) -> Option<usize>
@@ -95,8 +93,8 @@ fn stands_for(
     }
 }
 
-/// The number of the task and the choice of its join, where its entry is allowed. An `Err` says that no memory was left.
-fn entry(
+/// Whether a task may be entered from these places, and so many items come, numbered from `first` on. An `Err` says that no memory was left.
+pub fn may_enter(
     alloc: Global,
     standing: &Standing,
     at: &Ident,
@@ -104,38 +102,61 @@ fn entry(
     places: &PlaceList,
     first: u64,
     count: u32,
-) -> Result<Option<(usize, Taken)>, AllocError>
+) -> Result<bool, AllocError>
     requires { MayStand standing.now }
-    ensures { IfOk result (λ found. MatchOption found (LeadsNowhere standing.now (events.Enter at.now name.now places.now first count))
-        (IsEntry standing.now at.now name.now places.now first count)) }
+    ensures { IfOk result (TellsLeads standing.now (events.Enter at.now name.now places.now first count)) }
 {
     let Some(here) = net_here(&standing.known, &standing.forest, at) else {
-        return Ok(None);
+        return Ok(false);
     };
     let Some(t) = task_called(here.net, name) else {
-        return Ok(None);
+        return Ok(false);
     };
     let Some(task) = here.net.tasks.get(t) else {
-        return Ok(None);
+        return Ok(false);
     };
     let Some(_) = may_be_entered(here.net, here.state, here.up, t, standing.next) else {
-        return Ok(None);
+        return Ok(false);
     };
     if !draws_items(task, &here.state.vals, standing.next, first, count) {
-        return Ok(None);
+        return Ok(false);
     }
-    let taken = candidate(here.net, task.join, places.as_slice());
-    if !stands_for(
+    stands_for(
         alloc,
         here.net,
         &here.state.marks,
         task.before.as_slice(),
         places.as_slice(),
-        taken,
-    )? {
-        return Ok(None);
-    }
-    Ok(Some((t, taken)))
+        candidate(here.net, task.join, places.as_slice()),
+    )
+}
+
+/// A task is entered, and so many items come, numbered from `first` on, as is allowed. The choice of its join is the one that may stand for the
+/// places. An `Err` says that no memory was left.
+pub fn act_enter(
+    alloc: Global,
+    standing: &mut Standing,
+    at: &Ident,
+    name: &Name,
+    places: &PlaceList,
+    first: u64,
+    count: u32,
+) -> Result<(), AllocError>
+    requires stands { MayStand standing.old }
+    requires leads { LeadsOn standing.old (events.Enter at.now name.now places.now first count) }
+    ensures { OnOk result (IsDone standing.old (events.Enter at.now name.now places.now first count) standing.new) }
+{
+    let Some(found) = known_net(&standing.known, &standing.forest, at) else {
+        unreachable!();
+    };
+    let Some(t) = task_called(found.net, name) else {
+        unreachable!();
+    };
+    let taken = candidate(found.net, task_at(found.net, t).join, places.as_slice());
+    let forest = &mut standing.forest;
+    yw_steps::come_at(alloc, forest, found.net, at, t, taken, first, NO_CHECKS)?;
+    standing.next = first + count as u64;
+    Ok(())
 }
 
 /// A task is entered, and so many items come, numbered from `first` on, where that is allowed.
@@ -151,28 +172,9 @@ pub fn try_enter(
     requires { MayStand standing.old }
     ensures { IfOk result (λ leads. Tries standing.old (events.Enter at.now name.now places.now first count) leads standing.new) }
 {
-    // No work is done here: this says that a task may get items.
-    yw_steps::laws::task_may_grow();
-    let Some((t, taken)) = entry(alloc, standing, at, name, places, first, count)? else {
-        return Ok(false);
-    };
-    let Some(found) = known_net(&standing.known, &standing.forest, at) else {
-        return Ok(false);
-    };
-    let step = yw_steps::enter(
-        alloc,
-        &mut standing.forest,
-        found.net,
-        found.up,
-        at,
-        t,
-        taken,
-        first,
-        NO_CHECKS,
-    );
-    if !was_entered(step)? {
+    if !may_enter(alloc, standing, at, name, places, first, count)? {
         return Ok(false);
     }
-    standing.next = first + count as u64;
+    act_enter(alloc, standing, at, name, places, first, count)?;
     Ok(true)
 }

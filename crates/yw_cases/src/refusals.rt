@@ -15,14 +15,3 @@ pub fn was_done(step: Result<(), StepFault>) -> Result<bool, AllocError>
         Err(StepFault::Memory) => Err(AllocError),
     }
 }
-
-/// Whether an entry was done, or a rule refused it. An `Err` says that no memory was left.
-pub fn was_entered(step: Result<u32, StepFault>) -> Result<bool, AllocError>
-    ensures { IfOk result (IsAnswer step) }
-{
-    match step {
-        Ok(_) => Ok(true),
-        Err(StepFault::Refused(_)) => Ok(false),
-        Err(StepFault::Memory) => Err(AllocError),
-    }
-}

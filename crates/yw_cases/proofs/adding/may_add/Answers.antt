@@ -1,8 +1,11 @@
 use Rattle.std.proofs.Common.{sym, ◌∙◌}
-use Rattle.yw_cases.proofs.AddLaw.{no_task, not_element, not_next}
+use Rattle.yw_cases.proofs.AddLaw.{no_task, not_next, tells_growth}
 use Rattle.yw_cases.proofs.TaskHere.{no_name_no_task, no_net_no_task, no_number_no_task}
-use Rattle.yw_cases.proofs.adding.addition.Goals as goal
+use Rattle.yw_cases.proofs.adding.may_add.Goals as goal
 use Rattle.yw_cases.specs.State.{state_of}
+
+pub returns-then-not-draws : goal.returns-then-not-draws
+returns-then-not-draws c = not_next c.args.standing.now c.requires c.args.at.now c.args.name.now c.args.value.now c.args.n (sym c.draws.ensures ∙ c.if-not-draws.true)
 
 pub returns-in_default : goal.returns-in_default
 returns-in_default c = no_task c.args.standing.now c.requires c.args.at.now c.args.name.now c.args.value.now c.args.n (no_net_no_task (state_of c.args.standing.now) c.args.at.now c.args.name.now (c.in_default.ensures _ c.requires.held))
@@ -18,22 +21,7 @@ returns-in_default-get c =
     (no_number_no_task c.args.standing.now c.args.at.now c.in-Some.here (c.in-Some.ensures _ c.requires.held) c.args.name.now c.in-Some-task_called.t (sym c.in-Some-task_called.ensures)
     (sym c.in_default-get.ensures))
 
-pub returns-then-not-draws : goal.returns-then-not-draws
-returns-then-not-draws c = not_next c.args.standing.now c.requires c.args.at.now c.args.name.now c.args.value.now c.args.n (sym c.draws.ensures ∙ c.if-not-draws.true)
-
-pub returns-then-not-takes_element : goal.returns-then-not-takes_element
-returns-then-not-takes_element c =
-    not_element c.args.standing.now c.requires c.args.at.now c.args.name.now c.args.value.now c.args.n c.in-Some.here (c.in-Some.ensures _ c.requires.held) c.in-Some-task_called.t
-    (sym c.in-Some-task_called.ensures) c.in-Some-get.task.now (sym c.in-Some-get.ensures)
-    (sym c.takes_element.ensures ∙ c.if-not-takes_element.true)
-
 pub returns : goal.returns
-returns c = record {
-  net = c.in-Some.here;
-  here = c.in-Some.ensures _ c.requires.held;
-  task = c.in-Some-get.task.now;
-  number = sym c.in-Some-task_called.ensures;
-  of_net = sym c.in-Some-get.ensures;
-  drawn = sym c.draws.ensures ∙ c.if-not-draws.false;
-  takes = sym c.takes_element.ensures ∙ c.if-not-takes_element.false;
-}
+returns c =
+    tells_growth c.args.standing.now c.requires c.args.at.now c.args.name.now c.args.value.now c.args.n c.in-Some.here (c.in-Some.ensures _ c.requires.held) c.in-Some-task_called.t
+    (sym c.in-Some-task_called.ensures) c.in-Some-get.task.now (sym c.in-Some-get.ensures) (sym c.draws.ensures ∙ c.if-not-draws.false) c.may_grow.result c.may_grow.ensures

@@ -1,7 +1,8 @@
 use Rattle.std.proofs.Common.{sym, ◌∙◌}
-use Rattle.yw_cases.proofs.EntryLaw.{is_entry, no_task, not_drawn, not_entered, not_taken}
+use Rattle.std.proofs.lemmas.Result.{IfOk-weaker}
+use Rattle.yw_cases.proofs.EntryLaw.{no_task, not_drawn, not_entered, tells_entry}
 use Rattle.yw_cases.proofs.TaskHere.{no_name_no_task, no_net_no_task, no_number_no_task}
-use Rattle.yw_cases.proofs.entering.entry.Goals as goal
+use Rattle.yw_cases.proofs.entering.may_enter.Goals as goal
 use Rattle.yw_cases.specs.Entering.{candidate, stands_for}
 use Rattle.yw_cases.specs.State.{state_of}
 use Rattle.yw_tree.proofs.Removed.{within}
@@ -42,21 +43,13 @@ returns-then-not-draws_items c =
     (sym c.in-Some-task_called.ensures) c.in-Some-get.task.now (sym c.in-Some-get.ensures)
     (sym c.draws_items.ensures ∙ c.if-not-draws_items.true)
 
-pub returns-then-not-branch : goal.returns-then-not-branch
-returns-then-not-branch c =
-    let net = c.in-Some.here.net.now in
-    let marks = (out-NetState c.in-Some.here.state.now).marks in
-    let taken = c.candidate-taken.ensures ∙ (λ i. candidate c.in-Some-get.task.now.join net (c.as_slice.ensures i)) in
-    not_taken c.args.standing.now c.requires c.args.at.now c.args.name.now c.args.places.now c.args.first c.args.count c.in-Some.here (c.in-Some.ensures _ c.requires.held) c.in-Some-task_called.t
-    (sym c.in-Some-task_called.ensures) c.in-Some-get.task.now (sym c.in-Some-get.ensures)
-    (sym (λ i. stands_for net marks (c.as_slice-2.ensures i) (c.as_slice-3.ensures i) (taken i)) ∙ sym c.in_ok-stands_for.ensures ∙ c.if-not-branch.true)
-
 pub returns : goal.returns
 returns c =
+    let task = c.in-Some-get.task.now in
     let net = c.in-Some.here.net.now in
     let marks = (out-NetState c.in-Some.here.state.now).marks in
-    let taken = c.candidate-taken.ensures ∙ (λ i. candidate c.in-Some-get.task.now.join net (c.as_slice.ensures i)) in
-    is_entry c.args.standing.now c.requires c.args.at.now c.args.name.now c.args.places.now c.args.first c.args.count c.in-Some.here (c.in-Some.ensures _ c.requires.held) c.in-Some-task_called.t
-    (sym c.in-Some-task_called.ensures) c.in-Some-get.task.now (sym c.in-Some-get.ensures)
-    c.in-Some-may_be_entered.field-0 c.in-Some-may_be_entered.ensures.some (sym c.draws_items.ensures ∙ c.if-not-draws_items.false)
-    (sym (λ i. stands_for net marks (c.as_slice-2.ensures i) (c.as_slice-3.ensures i) (taken i)) ∙ sym c.in_ok-stands_for.ensures ∙ c.if-not-branch.false) c.candidate-taken.result taken
+    let taken = c.candidate.ensures ∙ (λ j. candidate task.join net (c.as_slice-3.ensures j)) in
+    IfOk-weaker c.stands_for.result _ _
+    (λ b is. tells_entry c.args.standing.now c.requires c.args.at.now c.args.name.now c.args.places.now c.args.first c.args.count c.in-Some.here (c.in-Some.ensures _ c.requires.held) c.in-Some-task_called.t
+    (sym c.in-Some-task_called.ensures) task (sym c.in-Some-get.ensures) c.in-Some-may_be_entered.field-0 c.in-Some-may_be_entered.ensures.some (sym c.draws_items.ensures ∙ c.if-not-draws_items.false) b
+    (is ∙ (λ j. stands_for net marks (c.as_slice.ensures j) (c.as_slice-2.ensures j) (taken j)))) c.stands_for.ensures
