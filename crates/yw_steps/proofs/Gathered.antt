@@ -5,9 +5,8 @@ use Rattle.std.specs.FinMap.Entries.{find}
 use Rattle.std.specs.List.{cons_option, enumerate_from, filter_map}
 use Rattle.std.specs.Ordering.{eq_by_cmp}
 use Rattle.std.specs.Prelude.{option_and_then, slice_get, if◌then◌else◌}
-use Rattle.yw_base.specs.Values.{may_hold, zero_of}
+use Rattle.yw_base.specs.Values.{may_hold}
 use Rattle.yw_base.specs.declared.value.Sort.{Sort}
-use Rattle.yw_base.specs.declared.value.Sort.TheVariants as sorts
 use Rattle.yw_base.specs.declared.value.Value.{Value}
 use Rattle.yw_base.specs.declared.value.Value.TheVariants as values
 use Rattle.yw_sites.proofs.Prefix.{same_refl}

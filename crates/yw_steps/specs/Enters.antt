@@ -1,23 +1,17 @@
--- What an entry finds first, and what it does to the forest.
-use Rattle.std.specs.Prelude.{◌≡◌, ◌+◌, ℕ, List, Option, Some, true, slice_get}
+-- What an entry does to the forest.
+use Rattle.std.specs.Prelude.{◌≡◌, ◌+◌, ℕ, List, Some, slice_get}
 use Rattle.yw_mark.specs.Taking.{taken_places}
 use Rattle.yw_mark.specs.declared.join.Taken.{Taken}
 use Rattle.yw_spec.specs.declared.spec.Net.{Net}
 use Rattle.yw_spec.specs.declared.spec.Place.{Place}
 use Rattle.yw_spec.specs.declared.task.Task.{Task}
 use Rattle.yw_state.specs.After.{with_next}
-use Rattle.yw_state.specs.Allowed.{Allowed, place_numbers}
-use Rattle.yw_state.specs.Broken.{First}
+use Rattle.yw_state.specs.Allowed.{place_numbers}
 use Rattle.yw_state.specs.Identity.{Ident}
-use Rattle.yw_state.specs.State.{State}
-use Rattle.yw_state.specs.Texts.{Said}
-use Rattle.yw_state.specs.Words.{clear}
 use Rattle.yw_state.specs.declared.event.Event.TheVariants as events
 use Rattle.yw_state.specs.declared.part.Checks.{Checks}
-use Rattle.yw_state.specs.declared.rule.Refusal.{Refusal}
-use Rattle.yw_steps.specs.Stands.{DoesWhere, MayGetItems, NetIs}
-use Rattle.yw_task.specs.Enters.{MayCome, enter_table, is_choice}
-use Rattle.yw_tree.specs.Forest.{sites_of}
+use Rattle.yw_steps.specs.Stands.{DoesWhere, MayGetItems}
+use Rattle.yw_task.specs.Enters.{MayCome}
 use Rattle.yw_tree.specs.Places.{net_at}
 use Rattle.yw_tree.specs.declared.Forest.{Forest}
 use Rattle.yw_tree.specs.declared.NetState.{NetState, out-NetState}
@@ -38,17 +32,3 @@ Enters net i t taken first due old new count =
 -- what is so of the net at i where nothing is tested
 abbrev pub MayComeAt : Forest → Net → Ident → ℕ → ℕ → Type 0
 MayComeAt f net i t first = (state : NetState) → net_at f i ≡ Some state → MayCome net state t first
-
--- Wherever a state has the map of the forest, and there this net, this is the first that the entry breaks, whoever enters the task.
-abbrev pub EnterBreaks : Forest → Net → Ident → ℕ → Taken → ℕ → Option Refusal → Type 0
-EnterBreaks f net i t taken first found =
-    (names : ℕ → List ℕ) (s : State) (who : List ℕ) (task : Task) (is : NetIs s i net) → s.sites ≡ sites_of names f
-    → slice_get net.tasks t ≡ Some task → s.next ≡ first
-    → First (enter_table s who i task.name (is_choice task.join is.there.part.tokens task.before taken)) found
-
--- Wherever a state has the map of the forest and what the entry needs, it is allowed, where nothing holds it back.
-abbrev pub EnterIsAllowed : Forest → Net → Ident → ℕ → Taken → ℕ → Checks → ℕ → Type 0
-EnterIsAllowed f net i t taken first due count =
-    (names : ℕ → List ℕ) (s : State) (said : Said) (task : Task) (places : List Place) → s.sites ≡ sites_of names f
-    → slice_get net.tasks t ≡ Some task → StandsFor f i net task taken places → MayGetItems net i first due task s → clear s i ≡ true
-    → Allowed s (events.Enter i task.name places first count) said

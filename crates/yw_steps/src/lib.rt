@@ -12,8 +12,8 @@ pub mod laws;
 mod starting;
 mod together;
 
-pub use adding::{add, come_more_at};
+pub use adding::come_more_at;
 pub use completing::{ask_complete, complete, finish_at};
-pub use entering::{come_at, enter};
+pub use entering::come_at;
 pub use exiting::exit;
-pub use starting::{begin, start};
+pub use starting::begin;
