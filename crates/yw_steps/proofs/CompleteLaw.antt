@@ -22,7 +22,7 @@ use Rattle.yw_state.specs.Events.{after}
 use Rattle.yw_state.specs.Given.{made_values, misfit}
 use Rattle.yw_state.specs.Identity.{Ident, parent}
 use Rattle.yw_state.specs.Map.{entries, get}
-use Rattle.yw_state.specs.Passing.{made_rows_with, row_fits, set_row}
+use Rattle.yw_state.specs.Passing.{is_defined, made_rows_with, row_fits, set_row}
 use Rattle.yw_state.specs.State.{ItemAt, ItemPart, NetAt, NetPart, State, TaskAt, if_of_task, item_at, item_of_task, item_part, items_of, net_at, net_part, task_in}
 use Rattle.yw_state.specs.Texts.{nothing}
 use Rattle.yw_state.specs.Values.{Row}
@@ -39,7 +39,7 @@ use Rattle.yw_state.specs.declared.tree.TreeKind.TheVariants.{Post}
 use Rattle.yw_steps.proofs.Gathered.{only_one, speaks_many, speaks_one}
 use Rattle.yw_steps.proofs.ItemFound.{it_stands, its_id}
 use Rattle.yw_steps.proofs.NetFound.{net_stands, part_is}
-use Rattle.yw_steps.specs.Completes.{CompleteBreaks, CompleteIsAllowed, Completes, Finds, IsItemIn, ItemIs, outs_once}
+use Rattle.yw_steps.specs.Completes.{CompleteBreaks, CompleteIsAllowed, Completes, Finds, IsItemIn, ItemIs, defined_once, outs_once, speaks_once}
 use Rattle.yw_task.proofs.CompleteLaw.{completes, completes_first}
 use Rattle.yw_task.proofs.EnterAsk.{its_items}
 use Rattle.yw_task.proofs.ItemLaw.{its_busy, its_site, known_part}
@@ -142,6 +142,16 @@ module _ (f : Forest) (boxed : IsForest f) (j : Ident) (identity : is_identity j
       whole ∙ ap (λ es. set_row task (made_rows_with es j out) vals) (its_items names f s (parent j) the_net.0.net place.outer h k) ∙ speaks_many j out task m some ns vals
       ∙ ap (λ (r : Row). r ++ vals) (sym (gathered (ap is_some some)))
       ∙ sym (ap (λ (o : Option Many). (if is_some o then so_far else out) ++ vals) some))
+
+  -- whether its assignments are defined, by what is at hand
+  pub defined_is : (out : Row) → row_fits is.there.of_task.task.outs out ≡ true
+      → is_defined is.there.of_task.task (made_rows_with (items_of s (parent j) is.there.part.task) j out) is.there.of_task.within.part.vals
+      ≡ defined_once task (items_in place.outer (out-Node place.item).task) (out-NetState place.outer).vals j out
+  defined_is out fits_there =
+      let ns = items_in place.outer (out-Node place.item).task in
+      let fits : row_fits task.outs out ≡ true = subst (λ (t : Task). row_fits t.outs out ≡ true) task_is fits_there in
+      let row : speaks_of s j is.there out ≡ speaks_once task ns (out-NetState place.outer).vals j out = together out (outs_once j out ns 0 task.outs) fits (λ many. refl) in
+      λ i. list_all (λ (a : Assign). is_some (val a.value (row i))) (task_is i).set
 
   pub net_first : (out so_far : Row) → (who : List ℕ) (gs : List Given) → misfit is.there.of_task.task.outs gs ≡ None → made_values is.there.of_task.task.outs gs ≡ Some out
       → (is_some task.many ≡ true → so_far ≡ outs_once j out (items_in place.outer (out-Node place.item).task) 0 task.outs)

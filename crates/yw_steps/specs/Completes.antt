@@ -1,11 +1,13 @@
 -- What the completion of an item finds first, and what it does to the forest.
-use Rattle.std.specs.Prelude.{◌≡◌, ◌<◌, ◌≤◌, ℕ, List, None, Option, Some, is_some, length, map, option_and_then, slice_get, true, if◌then◌else◌}
-use Rattle.std.specs.List.{enumerate_from, filter_map}
+use Rattle.std.specs.Prelude.{◌≡◌, ◌++◌, ◌<◌, ◌≤◌, ℕ, Bool, List, None, Option, Some, is_some, length, map, option_and_then, slice_get, true, if◌then◌else◌}
+use Rattle.std.specs.List.{enumerate_from, filter_map, list_all}
 use Rattle.yw_base.specs.declared.value.Sort.{Sort}
 use Rattle.yw_base.specs.declared.value.Value.{Value}
 use Rattle.yw_base.specs.declared.value.Value.TheVariants as values
+use Rattle.yw_expr.specs.Meaning.{val}
 use Rattle.yw_nest.specs.Does.{all_else}
 use Rattle.yw_spec.specs.declared.spec.Net.{Net}
+use Rattle.yw_spec.specs.declared.task.Assign.{Assign}
 use Rattle.yw_spec.specs.declared.task.Param.{Param}
 use Rattle.yw_spec.specs.declared.task.Task.{Task}
 use Rattle.yw_state.specs.Allowed.{Allowed}
@@ -25,7 +27,7 @@ use Rattle.yw_state.specs.declared.part.Checks.{Checks}
 use Rattle.yw_state.specs.declared.rule.Refusal.{Refusal}
 use Rattle.yw_state.specs.declared.tree.TreeKind.TheVariants.{Post}
 use Rattle.yw_steps.specs.Stands.{DoesWhere}
-use Rattle.yw_task.specs.Completes.{complete_rest, completion_fault}
+use Rattle.yw_task.specs.Completes.{complete_rest, completion_fault, made_of}
 use Rattle.yw_task.specs.Making.{is_text, made_by}
 use Rattle.yw_tree.specs.Forest.{item_of, sites_of}
 use Rattle.yw_tree.specs.Places.{net_at}
@@ -69,6 +71,16 @@ listed_once j out sort k ns =
 -- of the parameters from number k on
 abbrev pub outs_once : Ident → Row → List Node → ℕ → List Param → Row
 outs_once j out ns k ps = map (λ (e : ℕ × Param). listed_once j out e.1.sort e.0 ns) (enumerate_from k ps)
+
+-- ---- what the assignments of its task speak of then
+
+-- what the items make together, and behind it the net's values
+abbrev pub speaks_once : Task → List Node → Row → Ident → Row → Row
+speaks_once task ns vals j out = made_of task (outs_once j out ns 0 task.outs) out ++ vals
+
+-- each assignment is defined over it
+abbrev pub defined_once : Task → List Node → Row → Ident → Row → Bool
+defined_once task ns vals j out = list_all (λ (a : Assign). is_some (val a.value (speaks_once task ns vals j out))) task.set
 
 -- ---- the first broken rule
 

@@ -1,19 +1,67 @@
 // An item is completed.
-ghost use Rattle.std.specs.Prelude.{◌≡◌, IfOk, IsSome, OnErr, OnOk, true};
+ghost use Rattle.std.specs.List.{list_all};
+ghost use Rattle.std.specs.Prelude.{◌≡◌, IfOk, IsSome, OnErr, OnOk, is_some, true};
 ghost use Rattle.yw_base.specs.Identity.{is_identity};
+ghost use Rattle.yw_expr.specs.Meaning.{val};
 ghost use Rattle.yw_spec.specs.declared.spec.Net.{Net};
-ghost use Rattle.yw_steps.specs.Completes.{CompleteBreaks, CompleteIsAllowed, Completes, Finds, IsItemIn};
-ghost use Rattle.yw_task.specs.Completes.{AnswersFirst};
+ghost use Rattle.yw_spec.specs.declared.task.Assign.{Assign};
+ghost use Rattle.yw_steps.specs.Completes.{CompleteBreaks, CompleteIsAllowed, Completes, Finds, IsItemIn, defined_once};
+ghost use Rattle.yw_task.specs.Completes.{AnswersFirst, made_of};
 ghost use Rattle.yw_tree.specs.Forest.{IsForest, item_of};
 
 use crate::found::{item_there, net_there, parent};
 use crate::together::made_so_far;
 use std::alloc::{AllocError, Global};
 use yw_base::{Ident, Name, Row};
-use yw_spec::Net;
+use yw_expr::{Joined, Values, view_of};
+use yw_spec::{Assign, Net, Task};
 use yw_state::{Checks, Refusal};
 use yw_task::{StepFault, completion_fault, finish, items_in, task_at};
-use yw_tree::Forest;
+use yw_tree::{Forest, Node};
+
+/// The assignment is defined over these values.
+fn is_defined<V: Values>(assign: &Assign, row: &V) -> bool
+    ensures { result ≡ is_some (val assign.now.value (V.values row.now)) }
+{
+    view_of(&assign.value, row).is_some()
+}
+
+/// Each assignment is.
+fn all_defined<V: Values>(set: &[Assign], row: &V) -> bool
+    ensures { result ≡ list_all (λ (a : Assign). is_some (val a.value (V.values row.now))) set.now }
+{
+    set.iter().all(|assign| is_defined(assign, row))
+}
+
+/// What the items of a task make together: of several what is listed, of one what it makes.
+fn made_of<'a>(task: &Task, so_far: &'a Row, out: &'a Row) -> &'a Row
+    ensures { result.now ≡ made_of task.now so_far.now out.now }
+{
+    if task.many.is_some() { so_far } else { out }
+}
+
+/// Whether each assignment of a task is defined, once its item at `j` has made these values: over what its items, `nodes`, make together, and
+/// behind it the net's values. An `Err` says that no memory was left.
+pub fn are_defined(
+    alloc: Global,
+    task: &Task,
+    nodes: &[Node],
+    vals: &Row,
+    j: &Ident,
+    out: &Row,
+) -> Result<bool, AllocError>
+    ensures { IfOk result (λ defined. defined ≡ defined_once task.now nodes.now vals.now j.now out.now) }
+{
+    if task.set.is_empty() {
+        return Ok(true);
+    }
+    let so_far = made_so_far(alloc, task, nodes, j, out)?;
+    let row = Joined {
+        first: made_of(task, &so_far, out).as_slice(),
+        then: vals.as_slice(),
+    };
+    Ok(all_defined(task.set.as_slice(), &row))
+}
 
 /// The first rule that a completion breaks.
 fn first_broken(
