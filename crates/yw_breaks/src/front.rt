@@ -4,7 +4,7 @@ ghost use Rattle.yw_breaks.specs.Tables.{item_front};
 
 use crate::persons::is_stranger;
 use yw_base::{Ident, Name};
-use yw_known::{ItemHere, Known, item_at};
+use yw_known::{ItemHere, Known, item_here};
 use yw_state::Rule;
 use yw_tree::Forest;
 
@@ -22,7 +22,7 @@ pub fn item_front<'a>(
     if is_stranger(known.library(), who) {
         return Err(Rule::UnknownPerson);
     }
-    match item_at(known, forest, item) {
+    match item_here(known, forest, item) {
         Some(here) => Ok(here),
         None => Err(Rule::UnknownItem),
     }

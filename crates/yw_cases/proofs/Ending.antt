@@ -6,7 +6,7 @@ use Rattle.yw_cases.proofs.Allows.{finish_as}
 use Rattle.yw_cases.proofs.Trying.{done, fails, leads_plainly, placed_over, words_of}
 use Rattle.yw_library.specs.Ended.{ended_of}
 use Rattle.yw_cases.specs.State.{MayStand, state_of}
-use Rattle.yw_cases.specs.Tried.{IsDone, LeadsNowhere, LeadsOn, Tries}
+use Rattle.yw_cases.specs.Tried.{IsDone, LeadsNowhere, LeadsOn, TellsLeads}
 use Rattle.yw_cases.specs.declared.standing.Standing.{Standing}
 use Rattle.yw_known.proofs.Items.{case_is}
 use Rattle.yw_nest.specs.Cases.{Cancels, Finishes, with_ended}
@@ -39,7 +39,7 @@ module _ (old : Standing) (may : MayStand old) (n : ℕ) where
 
   -- ---- it is finished
 
-  pub not_finished : at_output (state_of old) (case_ident n) ≡ false → LeadsNowhere old (events.Finish n)
+  not_finished : at_output (state_of old) (case_ident n) ≡ false → LeadsNowhere old (events.Finish n)
   not_finished e = fails old (events.Finish n) (λ said. finish_as (state_of old) (words_of old may) n said ∙ e)
 
   module _ (f : Forest) (es : List (ℕ × Way)) where
@@ -54,7 +54,7 @@ module _ (old : Standing) (may : MayStand old) (n : ℕ) where
   pub case_there : is_case (state_of old) (case_ident n) ≡ is_some (case_at n old.forest.cases)
   case_there = case_is old.known old.forest (state_of old) may.held n
 
-  pub not_cancelled : is_case (state_of old) (case_ident n) ≡ false → LeadsNowhere old (events.Cancel n)
+  not_cancelled : is_case (state_of old) (case_ident n) ≡ false → LeadsNowhere old (events.Cancel n)
   unfolding allows
   not_cancelled e = fails old (events.Cancel n) (λ said. e)
 
@@ -65,10 +65,21 @@ module _ (old : Standing) (may : MayStand old) (n : ℕ) where
       done old may (λ names. events.Cancel n) NeedsNothing (with_ended n Cancelled) (events.Cancel n) (record old { forest = f; ended = es }) does tt refl
       (placed_over old f es n Cancelled put) refl (e, tt)
 
-  pub advanced : (b : Bool) → is_case (state_of old) (case_ident n) ≡ b → Tries old (events.Advance n) b old
-  unfolding allows after
-  advanced true e = record { leads = record { said = nothing; says = refl; allowed = (e, tt); then = refl }; boxed = may.held.boxed }
-  advanced false e = (fails old (events.Advance n) (λ said. e), refl)
+  -- ---- whether it may be
+
+  pub tells_finish : (b : Bool) → at_output (state_of old) (case_ident n) ≡ b → TellsLeads old (events.Finish n) b
+  tells_finish true e = leads_plainly old (events.Finish n) refl (finish_as (state_of old) (words_of old may) n nothing ∙ e, tt)
+  tells_finish false e = not_finished e
+
+  pub tells_cancel : (b : Bool) → is_case (state_of old) (case_ident n) ≡ b → TellsLeads old (events.Cancel n) b
+  unfolding allows
+  tells_cancel true e = leads_plainly old (events.Cancel n) refl (e, tt)
+  tells_cancel false e = not_cancelled e
+
+  pub tells_advance : (b : Bool) → is_case (state_of old) (case_ident n) ≡ b → TellsLeads old (events.Advance n) b
+  unfolding allows
+  tells_advance true e = leads_plainly old (events.Advance n) refl (e, tt)
+  tells_advance false e = fails old (events.Advance n) (λ said. e)
 
   -- ---- where it is allowed
 
@@ -78,13 +89,6 @@ module _ (old : Standing) (may : MayStand old) (n : ℕ) where
   pub cancels_so : LeadsOn old (events.Cancel n) → is_case (state_of old) (case_ident n) ≡ true
   unfolding allows
   cancels_so leads = leads.1.allowed.0
-
-  pub finishes_on : at_output (state_of old) (case_ident n) ≡ true → LeadsOn old (events.Finish n)
-  finishes_on e = leads_plainly old (events.Finish n) refl (finish_as (state_of old) (words_of old may) n nothing ∙ e, tt)
-
-  pub cancels_on : is_case (state_of old) (case_ident n) ≡ true → LeadsOn old (events.Cancel n)
-  unfolding allows
-  cancels_on e = leads_plainly old (events.Cancel n) refl (e, tt)
 
   pub advances_so : LeadsOn old (events.Advance n) → IsDone old (events.Advance n) old
   unfolding allows after

@@ -7,11 +7,11 @@ use Rattle.std.specs.Prelude.{Bool, IsSome, List, MatchOption, None, Option, Som
 use Rattle.yw_cases.proofs.Allows.{only_clear}
 use Rattle.yw_cases.proofs.HereLaw.{no_net}
 use Rattle.yw_cases.proofs.TaskHere.{its, named, named_so, no_name_no_task, no_net_no_task, no_number_no_task, numbered}
-use Rattle.yw_cases.proofs.Trying.{done, fails, placed, words_of}
+use Rattle.yw_cases.proofs.Trying.{done, fails, leads_plainly, placed, words_of}
 use Rattle.yw_cases.specs.Exiting.{IsExit, IsSplitTo}
 use Rattle.yw_cases.specs.Here.{IsNetKnown, with_state}
 use Rattle.yw_cases.specs.State.{MayStand, state_of}
-use Rattle.yw_cases.specs.Tried.{IsDone, LeadsNowhere, LeadsOn}
+use Rattle.yw_cases.specs.Tried.{IsDone, LeadsNowhere, LeadsOn, TellsLeads}
 use Rattle.yw_cases.specs.declared.standing.Standing.{Standing}
 use Rattle.yw_enabled.specs.Free.{StandsFree}
 use Rattle.yw_enabled.specs.Left.{IsLeavingAs}
@@ -48,18 +48,6 @@ use Rattle.yw_tree.specs.Places.{net_at as net_found}
 use Rattle.yw_tree.specs.Shows.{items_in}
 use Rattle.yw_tree.specs.declared.Forest.{Forest}
 use Rattle.yw_tree.specs.declared.NetState.{out-NetState}
-
--- ---- what is said of the task
-
-module _ (old : Standing) (i : Ident) (name : List ℕ) (places : List Place) where
-  abbrev ExitIs : Option ℕ → Type 0
-  ExitIs o = MatchOption o (LeadsNowhere old (events.Exit i name places)) (IsExit old i name places)
-
-  pub exit_found : (o : Option ℕ) (t : ℕ) → o ≡ Some t → ExitIs o → IsExit old i name places t
-  exit_found o t is found = subst ExitIs is found
-
-  pub no_exit : (o : Option ℕ) → o ≡ None → ExitIs o → LeadsNowhere old (events.Exit i name places)
-  no_exit o is found = subst ExitIs is found
 
 -- where a net is found, one stands
 pub not_gone : {A : Type 0} (old : Standing) (i : Ident) (w : NetHere) → IsNetHere old.known old.forest (state_of old) i w → net_part (state_of old) i ≡ None → A
@@ -119,11 +107,11 @@ module _ (old : Standing) (may : MayStand old) (i : Ident) (name : List ℕ) (pl
     pub not_leaving : IsLeavingAs w.net.now w.state.now t false → LeadsNowhere old (events.Exit i name places)
     not_leaving is z leads = never (sym (leaving false is) ∙ (exits_so (its_exit z leads)).0)
 
-    pub not_split : IsSplitTo w.net.now w.state.now t task places ≡ false → LeadsNowhere old (events.Exit i name places)
+    not_split : IsSplitTo w.net.now w.state.now t task places ≡ false → LeadsNowhere old (events.Exit i name places)
     not_split is z leads = never (sym is ∙ split_as ∙ (exits_so (its_exit z leads)).1)
 
-    pub is_exit : IsLeavingAs w.net.now w.state.now t true → IsSplitTo w.net.now w.state.now t task places ≡ true → IsExit old i name places t
-    is_exit leaves splits =
+    allowed_here : IsLeavingAs w.net.now w.state.now t true → IsSplitTo w.net.now w.state.now t task places ≡ true → Allowed s (events.Exit i name places) nothing
+    allowed_here leaves splits =
         let parts = and_parts (clear s i && active s i t && may_leave s i x) (list_all (has_room_for s i x) split) (leaving true leaves) in
         let two = and_parts (clear s i && active s i t) (may_leave s i x) parts.0 in
         let put = there_and (place_numbers w.net.now places) (λ cs. pointwise nat_eq cs split) (sym split_as ∙ splits) in
@@ -133,14 +121,12 @@ module _ (old : Standing) (may : MayStand old) (i : Ident) (name : List ℕ) (pl
         let exits : may_exit s i places x ≡ true =
         and_from (active s i t && may_leave s i x) (is_some_and (place_numbers w.net.now places) (puts_on s i x))
         (and_from (active s i t) (may_leave s i x) (and_right (clear s i) (active s i t) two.0) two.1) puts in
-        record {
-          net = w;
-          here = here;
-          task = task;
-          number = number;
-          of_net = of_net;
-          allowed = (exit_as nothing ∙ ap (λ o. is_some_and o (may_exit s i places)) (named old i w here name t number task of_net) ∙ exits, tt);
-        }
+        (exit_as nothing ∙ ap (λ o. is_some_and o (may_exit s i places)) (named old i w here name t number task of_net) ∙ exits, tt)
+
+    -- where the task may be left, the places decide
+    pub tells_exit : IsLeavingAs w.net.now w.state.now t true → (b : Bool) → IsSplitTo w.net.now w.state.now t task places ≡ b → TellsLeads old (events.Exit i name places) b
+    tells_exit leaves true splits = leads_plainly old (events.Exit i name places) refl (allowed_here leaves splits)
+    tells_exit leaves false splits = not_split splits
 
   -- ---- it is done
 

@@ -1,6 +1,6 @@
 -- Items that go on.
 use Rattle.std.proofs.Common.{ap, subst, sym, ◌∙◌}
-use Rattle.std.specs.Prelude.{Bool, IsSome, List, MatchOption, None, Option, Some, [], false, not, refl, true, ℕ, ◌&&◌, ◌∷◌, ◌≡◌}
+use Rattle.std.specs.Prelude.{Bool, IsSome, List, MatchOption, None, Option, Some, false, refl, true, ℕ, ◌&&◌, ◌∷◌, ◌≡◌}
 use Rattle.yw_cases.proofs.Allows.{empty_as, start_as, sub_ends_as, sub_starts_as}
 use Rattle.yw_cases.proofs.Trying.{done, fails, leads_plainly, placed, stands_well, words_of}
 use Rattle.yw_cases.specs.Here.{IsNetKnown}
@@ -17,9 +17,9 @@ use Rattle.yw_known.specs.declared.known.KnownNet.{KnownNet}
 use Rattle.yw_nest.proofs.FromState.{empty_stands, inner_is, item_stands, sub_ends, sub_starts}
 use Rattle.yw_nest.specs.Does.{NeedsNothing, all_else}
 use Rattle.yw_nest.specs.Items.{CompletesEmpty, CompletesSub, EndsAs, IsNetOf, StartsSub, SubMayEnd, SubMayStart}
-use Rattle.yw_state.proofs.Tests.{and_left, never, nowhere, there_and}
+use Rattle.yw_state.proofs.Tests.{never, nowhere, there_and}
 use Rattle.yw_state.specs.Allowed.{Allowed}
-use Rattle.yw_state.specs.Broken.{Check, First, placeless, test}
+use Rattle.yw_state.specs.Broken.{Check, First, test}
 use Rattle.yw_state.specs.Identity.{Ident, parent}
 use Rattle.yw_state.specs.Joins.{at_output}
 use Rattle.yw_state.specs.Judged.{task_place}
@@ -27,11 +27,10 @@ use Rattle.yw_state.specs.Nets.{is_atomic}
 use Rattle.yw_state.specs.Options.{is_some_and}
 use Rattle.yw_state.specs.State.{ItemAt, item_at, no_checks}
 use Rattle.yw_state.specs.Texts.{nothing}
-use Rattle.yw_state.specs.Words.{busy, is_ready}
+use Rattle.yw_state.specs.Words.{is_ready}
 use Rattle.yw_state.specs.declared.event.Event.TheVariants as events
 use Rattle.yw_state.specs.declared.rule.Refusal.{Refusal}
 use Rattle.yw_state.specs.declared.rule.Rule.{Rule}
-use Rattle.yw_state.specs.declared.rule.Rule.TheVariants as rules
 use Rattle.yw_state.specs.declared.tree.TreeKind.TheVariants.{Post}
 use Rattle.yw_steps.specs.Starts.{Starts}
 use Rattle.yw_tree.specs.Forest.{item_of}

@@ -6,7 +6,7 @@ use Rattle.yw_base.specs.Identity.{number_end}
 use Rattle.yw_cases.proofs.Trying.{done, fails, leads_plainly, next_is, placed_next, stands_well, words_of}
 use Rattle.yw_cases.specs.Rows.{may_begin}
 use Rattle.yw_cases.specs.State.{MayStand, state_of}
-use Rattle.yw_cases.specs.Tried.{IsDone, LeadsNowhere, LeadsOn}
+use Rattle.yw_cases.specs.Tried.{IsDone, LeadsNowhere, LeadsOn, TellsLeads}
 use Rattle.yw_cases.specs.declared.standing.Standing.{Standing}
 use Rattle.yw_known.proofs.Standing.{kept_called, kept_named, kept_within, specs_are}
 use Rattle.yw_known.specs.Names.{names_of}
@@ -71,15 +71,12 @@ module _ (old : Standing) (may : MayStand old) (n : ℕ) (name : List ℕ) (vals
         leb-true (n + 1) number_end
         (and_right (n == old.next) (nat_le (n + 1) number_end) (and_left _ (is_some_and (top_net spec) (λ (net : Net). launch_fits net.vars vals)) (launches_so leads)))
 
-    pub not_launched : may_begin spec old.next n vals ≡ false → LeadsNowhere old (events.Launch n name vals)
+    not_launched : may_begin spec old.next n vals ≡ false → LeadsNowhere old (events.Launch n name vals)
     not_launched e = fails old (events.Launch n name vals) (λ said. by_top said spec called ∙ e)
 
     module _ (begins : may_begin spec old.next n vals ≡ true) where
       allowed : Allowed (state_of old) (events.Launch n name vals) nothing
       allowed = (by_top nothing spec called ∙ begins, tt)
-
-      pub launches_on : LeadsOn old (events.Launch n name vals)
-      launches_on = leads_plainly old (events.Launch n name vals) refl allowed
 
       pub case_may_begin : CaseMayBegin old.forest spec n
       case_may_begin = case_begins (names_of old.known) old.forest (state_of old) spec n name vals nothing (stands_well old may) (kept_within old.known name spec number kept) allowed
@@ -94,3 +91,7 @@ module _ (old : Standing) (may : MayStand old) (n : ℕ) (name : List ℕ) (vals
             checks = sym ((words_of old may).case_due (names_of old.known number));
           })
           (λ i. events.Launch n (named i) (same i)) (placed_next old f (n + 1)) refl allowed
+
+    pub tells_launch : (b : Bool) → may_begin spec old.next n vals ≡ b → TellsLeads old (events.Launch n name vals) b
+    tells_launch true e = leads_plainly old (events.Launch n name vals) refl (allowed e)
+    tells_launch false e = not_launched e

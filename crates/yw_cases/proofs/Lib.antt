@@ -6,8 +6,6 @@ pub mod Launching
 pub mod Ending
 pub mod ItemsGo
 pub mod HereLaw
-pub mod OutsApart
-pub mod GivenBack
 pub mod CompleteLaw
 pub mod TaskHere
 pub mod ExitLaw

@@ -4,7 +4,7 @@ use Rattle.std.specs.Prelude.{Bool, List, [], false, refl, true, ℕ, ◌≡◌}
 use Rattle.yw_accepted.proofs.Loaded.{accepted_are_sound}
 use Rattle.yw_library.specs.Ended.{ended_of}
 use Rattle.yw_cases.specs.State.{MayStand, state_of}
-use Rattle.yw_cases.specs.Tried.{IsDone, IsTried, LeadsNowhere, LeadsOn, TellsLeads, Tries}
+use Rattle.yw_cases.specs.Tried.{IsDone, LeadsNowhere, LeadsOn}
 use Rattle.yw_cases.specs.declared.standing.Standing.{Standing}
 use Rattle.yw_invariant.proofs.EventsWell.{event_keeps_well}
 use Rattle.yw_invariant.proofs.FromOpening.{opening_is_well}
@@ -108,22 +108,7 @@ fails old e test t leads = never (sym (test leads.said) ∙ leads.allowed.0)
 pub leads_plainly : (old : Standing) (e : Event) → Says reader (state_of old) e nothing → Allowed (state_of old) e nothing → LeadsOn old e
 leads_plainly old e says allowed = (after (state_of old) e nothing, record { said = nothing; says = says; allowed = allowed; then = refl })
 
--- it isn't refused
-pub leads_not : {A : Type 0} (old : Standing) (e : Event) (leads : Bool) (new : Standing) → leads ≡ false → Tries old e leads new → LeadsOn old e → A
-leads_not old e leads new is tried (t, on) = absurd ((subst (λ (b : Bool). Tries old e b new) is tried).0 t on)
-
-pub leads_so : (old : Standing) (e : Event) (leads : Bool) (new : Standing) → leads ≡ true → Tries old e leads new → IsDone old e new
-leads_so old e leads new is tried = subst (λ (b : Bool). Tries old e b new) is tried
-
 -- ---- all that is kept
-
-pub as_tried : (old : Standing) (e : Event) (leads : Bool) (new : Standing) → Tries old e leads new → IsTried old e leads new
-as_tried old e true new tried = tried.leads
-as_tried old e false new tried = tried
-
-pub tried_stands : (old : Standing) (may : MayStand old) (e : Event) (leads : Bool) (new : Standing) → is_plain_event e ≡ true → Tries old e leads new → MayStand new
-tried_stands old may e true new plain tried = done_stands old may e new plain tried
-tried_stands old may e false new plain tried = subst MayStand (sym tried.1) may
 
 opening_plain : IsPlain opening
 opening_plain = record { rules = refl; run = λ j x at. nowhere at; suspended = λ j x at. nowhere at; due = λ j x at. nowhere at }

@@ -5,7 +5,7 @@ pub mod State
 pub mod Tried
 pub mod Rested
 pub mod Completing
-pub mod Steps
+pub mod Said
 pub mod Exiting
 pub mod Entering
 pub mod Adding

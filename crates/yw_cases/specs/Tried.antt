@@ -27,11 +27,6 @@ abbrev pub TellsLeads : Standing → Event → Bool → Type 0
 TellsLeads old e true = LeadsOn old e
 TellsLeads old e false = LeadsNowhere old e
 
--- the event is allowed and leads to the state that new stands for; or it leads nowhere, and nothing has changed
-abbrev pub IsTried : Standing → Event → Bool → Standing → Type 0
-IsTried old e true new = Leads reader (state_of old) e (state_of new)
-IsTried old e false new = LeadsNowhere old e × (new ≡ old)
-
 -- no event enters the task of this name in the net at i
 abbrev pub IsEnteredNowhere : Standing → Ident → List ℕ → Type 0
 IsEnteredNowhere old i name = (places : List Place) (first count : ℕ) → LeadsNowhere old (events.Enter i name places first count)
@@ -44,8 +39,3 @@ IsUnfit old text refusal = Breaks reader (state_of old) (commands.Load text) (So
 pub record IsDone (old : Standing) (e : Event) (new : Standing) : Type 0 where
   pub leads : Leads reader (state_of old) e (state_of new)
   pub boxed : IsForest new.forest
-
--- the same, of what is kept as an event is done
-abbrev pub Tries : Standing → Event → Bool → Standing → Type 0
-Tries old e true new = IsDone old e new
-Tries old e false new = LeadsNowhere old e × (new ≡ old)

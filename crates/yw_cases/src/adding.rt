@@ -2,7 +2,7 @@
 ghost use Rattle.std.specs.Prelude.{◌≡◌, IfOk, OnOk};
 ghost use Rattle.yw_cases.specs.Adding.{has_room, may_grow, takes_element};
 ghost use Rattle.yw_cases.specs.State.{MayStand};
-ghost use Rattle.yw_cases.specs.Tried.{IsDone, LeadsOn, TellsLeads, Tries};
+ghost use Rattle.yw_cases.specs.Tried.{IsDone, LeadsOn, TellsLeads};
 ghost use Rattle.yw_state.specs.declared.event.Event.TheVariants as events;
 
 use crate::here::{draws, known_net};
@@ -92,23 +92,4 @@ pub fn act_add(
     yw_steps::come_more_at(alloc, forest, found.net, at, t, value, n, NO_CHECKS)?;
     standing.next = n + 1;
     Ok(())
-}
-
-/// An item is added to a task for this element, numbered `n`, where that is allowed.
-pub fn try_add(
-    alloc: Global,
-    standing: &mut Standing,
-    at: &Ident,
-    name: &Name,
-    value: &Value,
-    n: u64,
-) -> Result<bool, AllocError>
-    requires { MayStand standing.old }
-    ensures { IfOk result (λ leads. Tries standing.old (events.Add at.now name.now value.now n) leads standing.new) }
-{
-    if !may_add(standing, at, name, value, n) {
-        return Ok(false);
-    }
-    act_add(alloc, standing, at, name, value, n)?;
-    Ok(true)
 }

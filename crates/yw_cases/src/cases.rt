@@ -2,7 +2,7 @@
 ghost use Rattle.std.specs.Prelude.{◌≡◌, IfOk, MatchOption, OnErr, OnOk, true};
 ghost use Rattle.yw_library.specs.Ended.{ended_of};
 ghost use Rattle.yw_cases.specs.State.{MayStand, standing_of, state_of};
-ghost use Rattle.yw_cases.specs.Tried.{IsEnteredNowhere, IsTried, IsUnfit, LeadsOn};
+ghost use Rattle.yw_cases.specs.Tried.{IsEnteredNowhere, IsUnfit, LeadsOn, TellsLeads};
 ghost use Rattle.yw_library.specs.Accepts.{IfRefused};
 ghost use Rattle.yw_model.specs.Texts.{reader};
 ghost use Rattle.yw_plain.specs.Plain.{is_plain_event};
@@ -14,7 +14,7 @@ ghost use Rattle.yw_state.specs.declared.event.Event.TheVariants as events;
 ghost use Rattle.yw_walk.specs.Finds.{ComesPlainly, EntersAs};
 
 use crate::entered::entry_event;
-use crate::event::{act, try_event};
+use crate::event::{act, may};
 use crate::library::load;
 use crate::standing::Standing;
 use std::alloc::{AllocError, Global};
@@ -110,25 +110,15 @@ impl Cases {
         })
     }
 
-    /// Does an event, where it is allowed: `true`, and the state is that after it; else `false`, and nothing has changed. An `Err` says that no
-    /// memory was left; then nothing is kept any more. That an event is done exactly where the definitions allow it is our own.
-    pub fn try_event(&mut self, event: &Event) -> Result<bool, AllocError>
+    /// Whether an event is allowed, so that it leads on. An `Err` says that no memory was left. Nothing changes.
+    ///
+    /// What a command's rules have shown, and what comes of itself, is allowed; so only who does an event that something else tells needs to ask.
+    /// That an event is done exactly where the definitions allow it is our own.
+    pub fn may(&self, event: &Event) -> Result<bool, AllocError>
         requires { is_plain_event event.now ≡ true }
-        ensures tried { IfOk result (λ leads. IsTried self.old event.now leads self.new) }
-        ensures err { OnErr result (state_of self.new ≡ opening) }
+        ensures { IfOk result (TellsLeads self.now event.now) }
     {
-        match try_event(self.alloc, &mut self.standing, event) {
-            Ok(true) => {
-                self.loose.after(self.alloc, &self.standing.forest, event);
-                Ok(true)
-            }
-            Ok(false) => Ok(false),
-            Err(AllocError) => {
-                forget(self.alloc, &mut self.standing);
-                self.loose.forget();
-                Err(AllocError)
-            }
-        }
+        may(self.alloc, &self.standing, event)
     }
 
     /// Does an event that is allowed: the state is then that after it. Nothing is tested. An `Err` says that no memory was left; then nothing is

@@ -1,69 +1,59 @@
 // A person completes an item.
-ghost use Rattle.std.specs.Prelude.{◌≡◌, IfOk, MatchOption, OnOk};
-ghost use Rattle.yw_cases.specs.Completing.{IsStartedBy, MayNotComplete};
+ghost use Rattle.std.specs.Prelude.{◌≡◌, IfOk, OnOk};
+ghost use Rattle.yw_cases.specs.Completing.{can_make};
 ghost use Rattle.yw_cases.specs.State.{MayStand};
-ghost use Rattle.yw_cases.specs.Tried.{IsDone, LeadsOn, Tries};
+ghost use Rattle.yw_cases.specs.Tried.{IsDone, LeadsOn, TellsLeads};
+ghost use Rattle.yw_state.specs.Words.{is_executing};
 ghost use Rattle.yw_state.specs.declared.event.Event.TheVariants as events;
 
-use crate::items::outer_net;
-use crate::refusals::was_done;
 use crate::rows::{copy_row, row_fits};
 use crate::standing::Standing;
 use crate::whole::NO_CHECKS;
 use std::alloc::{AllocError, Global};
-use yw_base::{Ident, Name, Row};
+use yw_base::{Ident, Row};
 use yw_known::item_here;
+use yw_spec::Task;
+use yw_state::Stage;
+use yw_task::items_in;
+use yw_tree::Node;
 
-/// Who started the item at an identity, where these values are of the sorts that its task makes. An `Err` says that no memory was left.
-fn starter(
+/// Somebody is at work on it.
+fn is_executing(stage: Stage) -> bool
+    ensures { result ≡ is_executing stage }
+{
+    match stage {
+        Stage::Executing => true,
+        Stage::Ready | Stage::Completed => false,
+    }
+}
+
+/// A person is at work on the item, and these values are of the sorts that its task makes.
+fn can_make(item: &Node, task: &Task, out: &Row) -> bool
+    ensures { result ≡ can_make item.now task.now out.now }
+{
+    is_executing(item.stage) && item.who.is_some() && row_fits(task.outs.as_slice(), out.as_slice())
+}
+
+/// Whether an item may be completed with these values: a person is at work on it, they are of the sorts that its task makes, and each of the
+/// task's assignments is defined then. An `Err` says that no memory was left.
+pub fn may_complete(
     alloc: Global,
     standing: &Standing,
     j: &Ident,
     out: &Row,
-) -> Result<Option<Name>, AllocError>
-    requires { MayStand standing.now }
-    ensures { IfOk result (λ who. MatchOption who (MayNotComplete standing.now j.now out.now) (IsStartedBy standing.now j.now out.now)) }
-{
-    let Some(here) = item_here(alloc, &standing.known, &standing.forest, j)? else {
-        return Ok(None);
-    };
-    let Some(who) = &here.item.who else {
-        return Ok(None);
-    };
-    if !row_fits(here.task.outs.as_slice(), out.as_slice()) {
-        return Ok(None);
-    }
-    Ok(Some(who.copy()?))
-}
-
-/// The person who started an item completes it with these values, where that is allowed.
-pub fn try_complete(
-    alloc: Global,
-    standing: &mut Standing,
-    j: &Ident,
-    out: &Row,
 ) -> Result<bool, AllocError>
-    requires { MayStand standing.old }
-    ensures { IfOk result (λ leads. Tries standing.old (events.Complete j.now out.now) leads standing.new) }
+    requires { MayStand standing.now }
+    ensures { IfOk result (TellsLeads standing.now (events.Complete j.now out.now)) }
 {
-    let Some(who) = starter(alloc, standing, j, out)? else {
+    let Some(here) = item_here(&standing.known, &standing.forest, j) else {
         return Ok(false);
     };
-    let Some(outer) = outer_net(alloc, &standing.known, &standing.forest, j)? else {
+    if !can_make(here.item, here.task, out) {
         return Ok(false);
-    };
-    let made = copy_row(alloc, out)?;
-    let done = yw_steps::complete(
-        alloc,
-        &mut standing.forest,
-        outer.net,
-        j,
-        &who,
-        made,
-        NO_CHECKS,
-    );
-    let leads = was_done(done)?;
-    Ok(leads)
+    }
+    let net = here.outer.state;
+    let items = items_in(net, here.item.task);
+    yw_steps::are_defined(alloc, here.task, items, &net.vals, j, out)
 }
 
 /// The person who started an item completes it with these values, as is allowed. An `Err` says that no memory was left.

@@ -2,7 +2,7 @@
 ghost use Rattle.std.specs.Prelude.{◌≡◌, ◌==◌, ◌&&◌, IfOk, OnOk, filter};
 ghost use Rattle.yw_cases.specs.Entering.{candidate, counts, first_number, stands_for};
 ghost use Rattle.yw_cases.specs.State.{MayStand};
-ghost use Rattle.yw_cases.specs.Tried.{IsDone, LeadsOn, TellsLeads, Tries};
+ghost use Rattle.yw_cases.specs.Tried.{IsDone, LeadsOn, TellsLeads};
 ghost use Rattle.yw_enabled.specs.Entered.{item_count};
 ghost use Rattle.yw_mark.specs.Tokens.{is_marked};
 ghost use Rattle.yw_state.specs.declared.event.Event.TheVariants as events;
@@ -157,24 +157,4 @@ pub fn act_enter(
     yw_steps::come_at(alloc, forest, found.net, at, t, taken, first, NO_CHECKS)?;
     standing.next = first + count as u64;
     Ok(())
-}
-
-/// A task is entered, and so many items come, numbered from `first` on, where that is allowed.
-pub fn try_enter(
-    alloc: Global,
-    standing: &mut Standing,
-    at: &Ident,
-    name: &Name,
-    places: &PlaceList,
-    first: u64,
-    count: u32,
-) -> Result<bool, AllocError>
-    requires { MayStand standing.old }
-    ensures { IfOk result (λ leads. Tries standing.old (events.Enter at.now name.now places.now first count) leads standing.new) }
-{
-    if !may_enter(alloc, standing, at, name, places, first, count)? {
-        return Ok(false);
-    }
-    act_enter(alloc, standing, at, name, places, first, count)?;
-    Ok(true)
 }

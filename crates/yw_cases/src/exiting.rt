@@ -1,8 +1,8 @@
 // A task exits.
-ghost use Rattle.std.specs.Prelude.{◌≡◌, IfOk, MatchOption, OnOk};
-ghost use Rattle.yw_cases.specs.Exiting.{IsExit, IsSplitTo};
+ghost use Rattle.std.specs.Prelude.{◌≡◌, IfOk, OnOk};
+ghost use Rattle.yw_cases.specs.Exiting.{IsSplitTo};
 ghost use Rattle.yw_cases.specs.State.{MayStand};
-ghost use Rattle.yw_cases.specs.Tried.{IsDone, LeadsNowhere, LeadsOn, Tries};
+ghost use Rattle.yw_cases.specs.Tried.{IsDone, LeadsOn, TellsLeads};
 ghost use Rattle.yw_state.specs.declared.event.Event.TheVariants as events;
 
 use crate::here::known_net;
@@ -31,55 +31,30 @@ fn splits_to(
     Ok(are_numbered(net, places.as_slice(), numbers.as_slice()))
 }
 
-/// The number of the task, where its exit to these places is allowed. An `Err` says that no memory was left.
-fn exiting_task(
+/// Whether a task may exit so that a token comes to each of these places. An `Err` says that no memory was left.
+pub fn may_exit(
     alloc: Global,
     standing: &Standing,
     at: &Ident,
     name: &Name,
     places: &PlaceList,
-) -> Result<Option<usize>, AllocError>
+) -> Result<bool, AllocError>
     requires { MayStand standing.now }
-    ensures { IfOk result (λ task. MatchOption task (LeadsNowhere standing.now (events.Exit at.now name.now places.now))
-        (IsExit standing.now at.now name.now places.now)) }
+    ensures { IfOk result (TellsLeads standing.now (events.Exit at.now name.now places.now)) }
 {
     let Some(here) = net_here(&standing.known, &standing.forest, at) else {
-        return Ok(None);
+        return Ok(false);
     };
     let Some(t) = task_called(here.net, name) else {
-        return Ok(None);
+        return Ok(false);
     };
     let Some(task) = here.net.tasks.get(t) else {
-        return Ok(None);
+        return Ok(false);
     };
     if !may_be_left(alloc, here.net, here.state, t, None)? {
-        return Ok(None);
-    }
-    if !splits_to(alloc, here.net, here.state, t, task, places)? {
-        return Ok(None);
-    }
-    Ok(Some(t))
-}
-
-/// A task exits, and a token comes to each of these places, where that is allowed.
-pub fn try_exit(
-    alloc: Global,
-    standing: &mut Standing,
-    at: &Ident,
-    name: &Name,
-    places: &PlaceList,
-) -> Result<bool, AllocError>
-    requires { MayStand standing.old }
-    ensures { IfOk result (λ leads. Tries standing.old (events.Exit at.now name.now places.now) leads standing.new) }
-{
-    let Some(t) = exiting_task(alloc, standing, at, name, places)? else {
         return Ok(false);
-    };
-    let Some(found) = known_net(&standing.known, &standing.forest, at) else {
-        return Ok(false);
-    };
-    let _numbers = yw_steps::exit(alloc, &mut standing.forest, found.net, at, t, false)?;
-    Ok(true)
+    }
+    splits_to(alloc, here.net, here.state, t, task, places)
 }
 
 /// A task exits, and a token comes to each of these places, as is allowed. An `Err` says that no memory was left.

@@ -48,19 +48,14 @@ fn suits(event: ItemEvent, stage: Stage, task: &Task) -> bool
     }
 }
 
-/// The item at an identity is one for the event. An `Err` says that no memory was left.
-fn item_suits(
-    alloc: Global,
-    standing: &Standing,
-    event: ItemEvent,
-    j: &Ident,
-) -> Result<bool, AllocError>
+/// The item at an identity is one for the event.
+fn item_suits(standing: &Standing, event: ItemEvent, j: &Ident) -> bool
     requires { MayStand standing.now }
-    ensures { IfOk result (λ is. is ≡ item_suits (state_of standing.now) event j.now) }
+    ensures { result ≡ item_suits (state_of standing.now) event j.now }
 {
-    match item_here(alloc, &standing.known, &standing.forest, j)? {
-        Some(here) => Ok(suits(event, here.item.stage, here.task)),
-        None => Ok(false),
+    match item_here(&standing.known, &standing.forest, j) {
+        Some(here) => suits(event, here.item.stage, here.task),
+        None => false,
     }
 }
 
@@ -80,28 +75,21 @@ pub fn outer_net<'a>(
     }
 }
 
-/// The item at an identity is one whose child net is at its end. An `Err` says that no memory was left.
-fn sub_ends(alloc: Global, standing: &Standing, j: &Ident) -> Result<bool, AllocError>
+/// The item at an identity is one whose child net is at its end.
+fn sub_ends(standing: &Standing, j: &Ident) -> bool
     requires { MayStand standing.now }
-    ensures { IfOk result (λ is. is ≡ (item_suits (state_of standing.now) CompleteSub j.now && at_output (state_of standing.now) j.now)) }
+    ensures { result ≡ (item_suits (state_of standing.now) CompleteSub j.now && at_output (state_of standing.now) j.now) }
 {
-    Ok(
-        item_suits(alloc, standing, ItemEvent::CompleteSub, j)?
-            && net_at_output(&standing.known, &standing.forest, j),
-    )
+    item_suits(standing, ItemEvent::CompleteSub, j)
+        && net_at_output(&standing.known, &standing.forest, j)
 }
 
-/// Whether a person may start an item. An `Err` says that no memory was left.
-pub fn may_start(
-    alloc: Global,
-    standing: &Standing,
-    j: &Ident,
-    who: &Name,
-) -> Result<bool, AllocError>
+/// Whether a person may start an item. It takes no memory.
+pub fn may_start(standing: &Standing, j: &Ident, _who: &Name) -> bool
     requires { MayStand standing.now }
-    ensures { IfOk result (TellsLeads standing.now (events.Start j.now who.now)) }
+    ensures { TellsLeads standing.now (events.Start j.now _who.now) result }
 {
-    item_suits(alloc, standing, ItemEvent::Start, j)
+    item_suits(standing, ItemEvent::Start, j)
 }
 
 /// A person starts an item, as is allowed. An `Err` says that no memory was left.
@@ -115,12 +103,12 @@ pub fn act_start(standing: &mut Standing, j: &Ident, who: &Name) -> Result<(), A
     Ok(())
 }
 
-/// Whether an item may be completed as one of an empty task. An `Err` says that no memory was left.
-pub fn may_complete_empty(alloc: Global, standing: &Standing, j: &Ident) -> Result<bool, AllocError>
+/// Whether an item may be completed as one of an empty task. It takes no memory.
+pub fn may_complete_empty(standing: &Standing, j: &Ident) -> bool
     requires { MayStand standing.now }
-    ensures { IfOk result (TellsLeads standing.now (events.CompleteEmpty j.now)) }
+    ensures { TellsLeads standing.now (events.CompleteEmpty j.now) result }
 {
-    item_suits(alloc, standing, ItemEvent::CompleteEmpty, j)
+    item_suits(standing, ItemEvent::CompleteEmpty, j)
 }
 
 /// An item of an empty task is completed, as is allowed. It takes no memory.
@@ -132,12 +120,12 @@ pub fn act_complete_empty(alloc: Global, standing: &mut Standing, j: &Ident)
     yw_nest::complete_empty(alloc, &mut standing.forest, j);
 }
 
-/// Whether the child net of an item may begin. An `Err` says that no memory was left.
-pub fn may_start_sub(alloc: Global, standing: &Standing, j: &Ident) -> Result<bool, AllocError>
+/// Whether the child net of an item may begin. It takes no memory.
+pub fn may_start_sub(standing: &Standing, j: &Ident) -> bool
     requires { MayStand standing.now }
-    ensures { IfOk result (TellsLeads standing.now (events.StartSub j.now)) }
+    ensures { TellsLeads standing.now (events.StartSub j.now) result }
 {
-    item_suits(alloc, standing, ItemEvent::StartSub, j)
+    item_suits(standing, ItemEvent::StartSub, j)
 }
 
 /// The child net of an item begins, as is allowed. An `Err` says that no memory was left.
@@ -152,12 +140,12 @@ pub fn act_start_sub(alloc: Global, standing: &mut Standing, j: &Ident) -> Resul
     yw_nest::start_sub(alloc, &mut standing.forest, outer.spec, j)
 }
 
-/// Whether the child net of an item may end: it is at its end. An `Err` says that no memory was left.
-pub fn may_complete_sub(alloc: Global, standing: &Standing, j: &Ident) -> Result<bool, AllocError>
+/// Whether the child net of an item may end: it is at its end. It takes no memory.
+pub fn may_complete_sub(standing: &Standing, j: &Ident) -> bool
     requires { MayStand standing.now }
-    ensures { IfOk result (TellsLeads standing.now (events.CompleteSub j.now)) }
+    ensures { TellsLeads standing.now (events.CompleteSub j.now) result }
 {
-    sub_ends(alloc, standing, j)
+    sub_ends(standing, j)
 }
 
 /// The child net of an item ends, as is allowed. An `Err` says that no memory was left.

@@ -14,7 +14,6 @@ mod items;
 pub mod laws;
 mod library;
 mod places;
-mod refusals;
 mod rows;
 mod standing;
 mod whole;

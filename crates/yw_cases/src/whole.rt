@@ -2,7 +2,7 @@
 ghost use Rattle.std.specs.Prelude.{◌≡◌, IfOk, OnOk};
 ghost use Rattle.yw_cases.specs.Rows.{may_begin};
 ghost use Rattle.yw_cases.specs.State.{MayStand, state_of};
-ghost use Rattle.yw_cases.specs.Tried.{IsDone, LeadsOn, Tries};
+ghost use Rattle.yw_cases.specs.Tried.{IsDone, LeadsOn, TellsLeads};
 ghost use Rattle.yw_spec.specs.declared.spec.Net.{Net};
 ghost use Rattle.yw_state.specs.Allowed.{launch_fits};
 ghost use Rattle.yw_state.specs.Identity.{case_ident};
@@ -44,25 +44,15 @@ fn may_begin(spec: &Spec, next: u64, n: u64, values: &Row) -> bool
     draws(next, n, 1) && begins_with(spec, values)
 }
 
-/// Begins a case, where that is allowed.
-pub fn try_launch(
-    alloc: Global,
-    standing: &mut Standing,
-    n: u64,
-    name: &Name,
-    values: &Row,
-) -> Result<bool, AllocError>
-    requires { MayStand standing.old }
-    ensures { IfOk result (λ leads. Tries standing.old (events.Launch n name.now values.now) leads standing.new) }
+/// Whether a case of the specification of this name may begin under this number, with these values. It takes no memory.
+pub fn may_launch(standing: &Standing, n: u64, name: &Name, values: &Row) -> bool
+    requires { MayStand standing.now }
+    ensures { TellsLeads standing.now (events.Launch n name.now values.now) result }
 {
     let Some((spec, _number)) = standing.known.spec_named(name) else {
-        return Ok(false);
+        return false;
     };
-    if !may_begin(spec, standing.next, n, values) {
-        return Ok(false);
-    }
-    act_launch(alloc, standing, n, name, values)?;
-    Ok(true)
+    may_begin(spec, standing.next, n, values)
 }
 
 /// The net of the case with this number is at its end. An `Err` says that no memory was left.
@@ -76,16 +66,12 @@ fn case_at_output(alloc: Global, standing: &Standing, n: u64) -> Result<bool, Al
     }
 }
 
-/// Finishes a case, where that is allowed.
-pub fn try_finish(alloc: Global, standing: &mut Standing, n: u64) -> Result<bool, AllocError>
-    requires { MayStand standing.old }
-    ensures { IfOk result (λ leads. Tries standing.old (events.Finish n) leads standing.new) }
+/// Whether a case may finish: its net is at its end. An `Err` says that no memory was left.
+pub fn may_finish(alloc: Global, standing: &Standing, n: u64) -> Result<bool, AllocError>
+    requires { MayStand standing.now }
+    ensures { IfOk result (TellsLeads standing.now (events.Finish n)) }
 {
-    if !case_at_output(alloc, standing, n)? {
-        return Ok(false);
-    }
-    act_finish(standing, n)?;
-    Ok(true)
+    case_at_output(alloc, standing, n)
 }
 
 /// A case of this number stands.
@@ -96,22 +82,18 @@ fn case_stands(standing: &Standing, n: u64) -> bool
     standing.forest.case(n).is_some()
 }
 
-/// Cancels a case, where one of this number stands.
-pub fn try_cancel(standing: &mut Standing, n: u64) -> Result<bool, AllocError>
-    requires { MayStand standing.old }
-    ensures { IfOk result (λ leads. Tries standing.old (events.Cancel n) leads standing.new) }
+/// Whether a case may be cancelled: one of this number stands. It takes no memory.
+pub fn may_cancel(standing: &Standing, n: u64) -> bool
+    requires { MayStand standing.now }
+    ensures { TellsLeads standing.now (events.Cancel n) result }
 {
-    if !case_stands(standing, n) {
-        return Ok(false);
-    }
-    act_cancel(standing, n)?;
-    Ok(true)
+    case_stands(standing, n)
 }
 
-/// A case of this number stands, so that what follows of itself may come. Nothing changes.
+/// Whether what follows of itself may come in a case: one of this number stands. It takes no memory.
 pub fn may_advance(standing: &Standing, n: u64) -> bool
     requires { MayStand standing.now }
-    ensures { Tries standing.now (events.Advance n) result standing.now }
+    ensures { TellsLeads standing.now (events.Advance n) result }
 {
     case_stands(standing, n)
 }

@@ -7,7 +7,6 @@ ghost use Rattle.yw_state.specs.Nets.{task_number};
 ghost use Rattle.yw_state.specs.State.{State, is_case, is_item, net_part};
 
 use crate::Known;
-use std::alloc::{AllocError, Global};
 use yw_base::{Ident, Name};
 use yw_path::Upstream;
 use yw_spec::{Net, Spec, Task};
@@ -57,7 +56,7 @@ pub fn net_here<'a>(known: &'a Known, forest: &'a Forest, at: &Ident) -> Option<
 
 /// The item at an identity, with its task and the net in which it stands, by one way down: `None` exactly where no item stands there. It
 /// takes no memory.
-pub fn item_at<'a>(known: &'a Known, forest: &'a Forest, id: &Ident) -> Option<ItemHere<'a>>
+pub fn item_here<'a>(known: &'a Known, forest: &'a Forest, id: &Ident) -> Option<ItemHere<'a>>
     ensures { (s : State) → IsHeld known.now forest.now s
         → MatchOption result (is_item s id.now ≡ false) (IsItemHere known.now forest.now s id.now) }
 {
@@ -76,19 +75,6 @@ pub fn item_at<'a>(known: &'a Known, forest: &'a Forest, id: &Ident) -> Option<I
             spec: found.spec,
         },
     })
-}
-
-/// The same as `item_at`, for callers that still say where memory comes from. It takes none, and no `Err` comes.
-pub fn item_here<'a>(
-    _alloc: Global,
-    known: &'a Known,
-    forest: &'a Forest,
-    id: &Ident,
-) -> Result<Option<ItemHere<'a>>, AllocError>
-    ensures { IfOk result (λ found. (s : State) → IsHeld known.now forest.now s
-        → MatchOption found (is_item s id.now ≡ false) (IsItemHere known.now forest.now s id.now)) }
-{
-    Ok(item_at(known, forest, id))
 }
 
 /// The number of the task with this name in a net, or `None` where no task has it. It takes no memory.

@@ -7,5 +7,5 @@ mod known;
 pub mod laws;
 mod upstreams;
 
-pub use here::{ItemHere, NetHere, is_case, item_at, item_here, net_here, task_called};
+pub use here::{ItemHere, NetHere, is_case, item_here, net_here, task_called};
 pub use known::{Known, KnownNet};

@@ -7,5 +7,5 @@ mod AddLaw
 mod PostLaw
 mod ExitLaw
 mod Gathered
-mod CompleteLaw
+pub mod CompleteLaw
 pub mod FromState

@@ -6,7 +6,7 @@ ghost use Rattle.yw_walk.specs.Finds.{FindsFinish, FindsStep};
 use std::alloc::{AllocError, Global};
 use yw_base::Ident;
 use yw_enabled::{ItemStep, item_step};
-use yw_known::{Known, item_at};
+use yw_known::{Known, item_here};
 use yw_state::Event;
 use yw_tree::Forest;
 
@@ -43,7 +43,7 @@ pub fn step_at(
 ) -> Result<Option<Event>, AllocError>
     ensures { IfOk result (FindsStep known.now forest.now id.now ends) }
 {
-    let Some(here) = item_at(known, forest, id) else {
+    let Some(here) = item_here(known, forest, id) else {
         return Ok(None);
     };
     let Some(step) = item_step(here.item, here.task, ends) else {

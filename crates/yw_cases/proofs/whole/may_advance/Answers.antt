@@ -1,6 +1,6 @@
 use Rattle.std.proofs.Common.{sym}
-use Rattle.yw_cases.proofs.Ending.{advanced}
+use Rattle.yw_cases.proofs.Ending.{tells_advance}
 use Rattle.yw_cases.proofs.whole.may_advance.Goals as goal
 
 pub returns : goal.returns
-returns c = advanced c.args.standing.now c.requires c.args.n c.case_stands.result (sym c.case_stands.ensures)
+returns c = tells_advance c.args.standing.now c.requires c.args.n c.case_stands.result (sym c.case_stands.ensures)

@@ -1,7 +1,8 @@
-use Rattle.std.proofs.Common.{subst, sym, ◌∙◌}
-use Rattle.yw_cases.proofs.ExitLaw.{is_exit, no_task, not_leaving, not_split}
+use Rattle.std.proofs.Common.{subst, sym}
+use Rattle.std.proofs.lemmas.Result.{IfOk-weaker}
+use Rattle.yw_cases.proofs.ExitLaw.{no_task, not_leaving, tells_exit}
 use Rattle.yw_cases.proofs.TaskHere.{no_name_no_task, no_net_no_task, no_number_no_task}
-use Rattle.yw_cases.proofs.exiting.exiting_task.Goals as goal
+use Rattle.yw_cases.proofs.exiting.may_exit.Goals as goal
 use Rattle.yw_cases.specs.State.{state_of}
 use Rattle.yw_enabled.specs.Left.{IsLeavingAs}
 use Rattle.yw_tree.proofs.Removed.{within}
@@ -29,14 +30,10 @@ returns-then-not-branch c =
     (sym c.in-Some-task_called.ensures) c.in-Some-get.task.now (sym c.in-Some-get.ensures)
     (subst (IsLeavingAs c.in-Some.here.net.now c.in-Some.here.state.now c.in-Some-task_called.t) c.if-not-branch.true (c.in_ok-may_be_left.ensures tt))
 
-pub returns-then-not-branch-2 : goal.returns-then-not-branch-2
-returns-then-not-branch-2 c =
-    not_split c.args.standing.now c.requires c.args.at.now c.args.name.now c.args.places.now c.in-Some.here (c.in-Some.ensures _ c.requires.held) c.in-Some-task_called.t
-    (sym c.in-Some-task_called.ensures) c.in-Some-get.task.now (sym c.in-Some-get.ensures) (sym c.in_ok-splits_to.ensures ∙ c.if-not-branch-2.true)
-
 pub returns : goal.returns
 returns c =
-    is_exit c.args.standing.now c.requires c.args.at.now c.args.name.now c.args.places.now c.in-Some.here (c.in-Some.ensures _ c.requires.held) c.in-Some-task_called.t
+    IfOk-weaker c.splits_to.result _ _
+    (λ b e. tells_exit c.args.standing.now c.requires c.args.at.now c.args.name.now c.args.places.now c.in-Some.here (c.in-Some.ensures _ c.requires.held) c.in-Some-task_called.t
     (sym c.in-Some-task_called.ensures) c.in-Some-get.task.now (sym c.in-Some-get.ensures)
-    (subst (IsLeavingAs c.in-Some.here.net.now c.in-Some.here.state.now c.in-Some-task_called.t) c.if-not-branch.false (c.in_ok-may_be_left.ensures tt))
-    (sym c.in_ok-splits_to.ensures ∙ c.if-not-branch-2.false)
+    (subst (IsLeavingAs c.in-Some.here.net.now c.in-Some.here.state.now c.in-Some-task_called.t) c.if-not-branch.false (c.in_ok-may_be_left.ensures tt)) b (sym e))
+    c.splits_to.ensures
