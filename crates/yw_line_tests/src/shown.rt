@@ -173,7 +173,7 @@ fn put_query(alloc: Global, out: &mut String, query: &Query) -> Result<(), Alloc
 }
 
 /// What is asked, as a text.
-pub(super) fn shown(alloc: Global, asked: &Asked) -> Result<String, AllocError> {
+pub(crate) fn shown(alloc: Global, asked: &Asked) -> Result<String, AllocError> {
     let mut out = String::new(alloc);
     match asked {
         Asked::Command(command) => put_command(alloc, &mut out, command)?,
