@@ -1,7 +1,7 @@
 use Rattle.std.proofs.Common.{sym}
 use Rattle.yw_known.proofs.Items.{above_identity, item_is_here, no_item_here, task_wanted}
 use Rattle.yw_known.proofs.Standing.{net_is_here, numbered}
-use Rattle.yw_known.proofs.here.item_at.Goals as goal
+use Rattle.yw_known.proofs.here.item_here.Goals as goal
 use Rattle.yw_known.specs.declared.here.NetHere.{NetHere}
 use Rattle.yw_state.specs.Identity.{parent}
 
