@@ -1,4 +1,7 @@
 // Cases to which commands are done by the calls below the engine.
+ghost use Rattle.std.specs.Prelude.{◌≡◌, true};
+ghost use Rattle.yw_plain.specs.Plain.{is_plain_event};
+
 use crate::asks::{Ask, command_of};
 use crate::breaks::{asked, broken};
 use crate::documents::text_of;
@@ -59,6 +62,17 @@ fn look(alloc: Global, cases: &Cases, n: u64) -> Result<Option<Event>, AllocErro
     Ok(None)
 }
 
+/// Does an event where it is allowed, and says whether it is.
+fn acts(cases: &mut Cases, event: &Event) -> Result<bool, AllocError>
+    requires { is_plain_event event.now ≡ true }
+{
+    if !cases.may(event)? {
+        return Ok(false);
+    }
+    cases.act(event)?;
+    Ok(true)
+}
+
 impl Desk {
     /// No case, nobody and no specification.
     pub fn new(alloc: Global, by: By) -> Desk {
@@ -103,7 +117,7 @@ impl Desk {
 
     /// Does an event, which is allowed.
     fn moves(&mut self, event: &Event) -> bool {
-        if !is_plain(event) || !matches!(self.cases.try_event(event), Ok(true)) {
+        if !is_plain(event) || !matches!(acts(&mut self.cases, event), Ok(true)) {
             return false;
         }
         self.loose.after(self.alloc, self.cases.forest(), event);

@@ -11,8 +11,9 @@ use Rattle.yw_breaks.specs.Events.{AddAsks, LaunchAsks}
 use Rattle.yw_breaks.specs.Finds.{BreaksNext}
 use Rattle.yw_built.specs.Built.{is_built}
 use Rattle.yw_cases.specs.State.{MayStand, state_of}
+use Rattle.yw_cases.specs.Tried.{LeadsOn}
 use Rattle.yw_cases.specs.declared.standing.Standing.{Standing}
-use Rattle.yw_engine.specs.Decides.{BreaksNow, LeadsOn}
+use Rattle.yw_engine.specs.Decides.{BreaksNow}
 use Rattle.yw_engine.proofs.Parts.{held_by, next_of}
 use Rattle.yw_known.specs.Held.{IsHeld}
 use Rattle.yw_library.specs.Holdings.{Holdings}

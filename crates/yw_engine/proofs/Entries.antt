@@ -5,9 +5,9 @@ use Rattle.yw_accepted.proofs.Loaded.{accepted_are_within}
 use Rattle.yw_asked.proofs.TasksAsked.{enter_has_event, enter_is_asked}
 use Rattle.yw_built.specs.Built.{is_built}
 use Rattle.yw_cases.specs.State.{MayStand, state_of}
-use Rattle.yw_cases.specs.Tried.{IsEnteredNowhere}
+use Rattle.yw_cases.specs.Tried.{IsEnteredNowhere, LeadsOn}
 use Rattle.yw_cases.specs.declared.standing.Standing.{Standing}
-use Rattle.yw_engine.specs.Decides.{BreaksNow, LeadsOn}
+use Rattle.yw_engine.specs.Decides.{BreaksNow}
 use Rattle.yw_model.specs.Texts.{reader}
 use Rattle.yw_state.proofs.Tests.{map_some}
 use Rattle.yw_state.specs.Allowed.{Allowed}

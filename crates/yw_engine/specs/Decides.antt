@@ -1,8 +1,9 @@
 -- What a command does to what is held. Our own.
-use Rattle.std.specs.Prelude.{◌≡◌, ℕ, Option, Some, None, true, MatchOption, Result, Ok, Err}
+use Rattle.std.specs.Prelude.{◌≡◌, ℕ, Bool, Option, Some, None, false, true, MatchOption, Result, Ok, Err}
 use Rattle.std.specs.List.{list_all}
 use Rattle.yw_built.specs.Built.{is_built}
 use Rattle.yw_cases.specs.State.{MayStand, state_of}
+use Rattle.yw_cases.specs.Tried.{LeadsNowhere}
 use Rattle.yw_cases.specs.declared.standing.Standing.{Standing}
 use Rattle.yw_engine.specs.declared.fault.Decided.{Decided}
 use Rattle.yw_engine.specs.declared.fault.EngineFault.{EngineFault}
@@ -12,7 +13,6 @@ use Rattle.yw_state.specs.Automatic.{Comes, IsQuiet}
 use Rattle.yw_state.specs.Broken.{Breaks, placeless}
 use Rattle.yw_state.specs.Events.{Leads}
 use Rattle.yw_state.specs.Legal.{IsAsked, IsLegal}
-use Rattle.yw_state.specs.State.{State}
 use Rattle.yw_state.specs.declared.command.Command.{Command}
 use Rattle.yw_state.specs.declared.event.Event.{Event}
 use Rattle.yw_state.specs.declared.rule.Refusal.{Refusal}
@@ -22,14 +22,15 @@ use Rattle.yw_still.specs.Still.{SomethingComes}
 
 -- ---- an event
 
--- the event is allowed, and leads to a state
-abbrev pub LeadsOn : Standing → Event → Type 0
-LeadsOn old e = (t : State) × Leads reader (state_of old) e t
-
 -- The event is allowed, and led to what is held now, which is well.
 pub record IsDone (old : Standing) (e : Event) (new : Standing) : Type 0 where
   pub leads : Leads reader (state_of old) e (state_of new)
   pub stands : MayStand new
+
+-- the event is allowed, and led to what is held now; or it leads nowhere, and nothing has changed
+abbrev pub IsApplied : Standing → Event → Bool → Standing → Type 0
+IsApplied old e true new = Leads reader (state_of old) e (state_of new)
+IsApplied old e false new = LeadsNowhere old e × (new ≡ old)
 
 -- this event comes of itself in the case, and is built; or the case is quiet
 abbrev pub IsNext : Standing → ℕ → Option Event → Type 0

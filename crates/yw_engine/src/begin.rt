@@ -2,8 +2,9 @@
 ghost use Rattle.std.specs.Prelude.{◌≡◌, IfOk, true};
 ghost use Rattle.yw_built.specs.Built.{is_built};
 ghost use Rattle.yw_cases.specs.State.{MayStand};
+ghost use Rattle.yw_cases.specs.Tried.{LeadsOn};
 ghost use Rattle.yw_cases.specs.declared.standing.Standing.{Standing};
-ghost use Rattle.yw_engine.specs.Decides.{Answers, IsDone, LeadsOn};
+ghost use Rattle.yw_engine.specs.Decides.{Answers, IsDone};
 ghost use Rattle.yw_state.specs.Automatic.{case_of};
 
 use crate::Decided;

@@ -19,7 +19,7 @@ ghost use Rattle.yw_state.specs.declared.rule.Rule.TheVariants.{NotEnabled};
 
 use crate::decide::decide_on;
 use crate::front::placeless;
-use crate::work::{Work, try_owned};
+use crate::work::{Work, apply_owned};
 use crate::{Decided, EngineFault};
 use std::alloc::{AllocError, Global};
 use std::marker::Model;
@@ -125,7 +125,7 @@ impl Engine {
         if self.spent {
             return Err(EngineFault::Spent);
         }
-        match try_owned(&mut self.work, event) {
+        match apply_owned(&mut self.work, event) {
             Ok(true) => Ok(()),
             Ok(false) => Err(EngineFault::Refused(placeless(self.work.alloc, Rule::NotEnabled))),
             Err(AllocError) => {

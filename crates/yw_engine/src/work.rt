@@ -2,7 +2,7 @@
 ghost use Rattle.std.specs.Prelude.{◌≡◌, IfOk, OnOk, true};
 ghost use Rattle.yw_built.specs.Built.{is_built};
 ghost use Rattle.yw_cases.specs.State.{MayStand};
-ghost use Rattle.yw_cases.specs.Tried.{IsTried};
+ghost use Rattle.yw_engine.specs.Decides.{IsApplied};
 
 use std::alloc::{AllocError, Global};
 use yw_cases::Cases;
@@ -21,8 +21,8 @@ impl Work {
     ghost use Rattle.std.specs.Prelude.{◌≡◌, ◌↔◌, IfOk, IsTrue, OnOk, true};
     ghost use Rattle.yw_built.specs.Built.{is_built};
     ghost use Rattle.yw_cases.specs.State.{MayStand, state_of};
-    ghost use Rattle.yw_cases.specs.Tried.{IsTried};
-    ghost use Rattle.yw_engine.specs.Decides.{IsDone, IsNext, LeadsOn};
+    ghost use Rattle.yw_cases.specs.Tried.{LeadsOn};
+    ghost use Rattle.yw_engine.specs.Decides.{IsApplied, IsDone, IsNext};
     ghost use Rattle.yw_state.specs.Automatic.{IsQuiet};
 
     /// The next event that comes of itself in a case, or `None` where the case is quiet. An `Err` says that no memory was left.
@@ -71,16 +71,20 @@ impl Work {
         is_quiet(self.alloc, known, forest, case, standing.next())
     }
 
-    /// Does an event, where it is allowed: `true`, and what is held is then that after it; else `false`, and nothing has changed.
-    /// An `Err` says that no memory was left; what is held then is told nowhere.
-    fn try_event(&mut self, event: &Event) -> Result<bool, AllocError>
+    /// Asks whether an event is allowed, and does it where it is: `true`, and what is held is then that after it; else `false`, and nothing has
+    /// changed. An `Err` says that no memory was left; what is held then is told nowhere.
+    fn apply(&mut self, event: &Event) -> Result<bool, AllocError>
         requires { is_built event.now ≡ true }
-        ensures tried { IfOk result (λ leads. IsTried self.old.standing event.now leads self.new.standing) }
+        ensures applied { IfOk result (λ leads. IsApplied self.old.standing event.now leads self.new.standing) }
         ensures stands { OnOk result (MayStand self.new.standing) }
     {
-        let leads = self.standing.try_event(event)?;
-        self.standing.may_stand();
-        Ok(leads)
+        if !self.standing.may(event)? {
+            // No work is done here: this says that what is held may stand.
+            self.standing.may_stand();
+            return Ok(false);
+        }
+        self.take(event)?;
+        Ok(true)
     }
 
     /// Does an event that is allowed. An `Err` says that no memory was left; what is held then is told nowhere.
@@ -95,13 +99,13 @@ impl Work {
     }
 }
 
-/// Does an event, as `Work::try_event` says.
-pub fn try_owned(work: &mut Work, event: Event) -> Result<bool, AllocError>
+/// Does an event where it is allowed, as `Work::apply` says.
+pub fn apply_owned(work: &mut Work, event: Event) -> Result<bool, AllocError>
     requires { is_built event ≡ true }
-    ensures tried { IfOk result (λ leads. IsTried work.old.standing event leads work.new.standing) }
+    ensures applied { IfOk result (λ leads. IsApplied work.old.standing event leads work.new.standing) }
     ensures stands { OnOk result (MayStand work.new.standing) }
 {
-    work.try_event(&event)
+    work.apply(&event)
 }
 
 impl Machine for Work {

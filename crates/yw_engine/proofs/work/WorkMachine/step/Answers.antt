@@ -1,8 +1,8 @@
 use Rattle.std.proofs.Common.{subst, sym}
+use Rattle.yw_cases.specs.Tried.{LeadsOn}
 use Rattle.yw_cases.specs.declared.standing.Standing.{Standing}
 use Rattle.yw_engine.proofs.Coming.{next_on, stepped}
 use Rattle.yw_engine.proofs.work.WorkMachine.step.Goals as goal
-use Rattle.yw_engine.specs.Decides.{LeadsOn}
 
 pub take-requires-clause-leads : goal.take-requires-clause-leads
 take-requires-clause-leads c =
