@@ -1,5 +1,5 @@
 -- Where a command breaks no rule, the event that is made of it is the one that it asks for, and leads on.
-use Rattle.std.proofs.Common.{◌≡◌, ◌∙◌, List, Option, Some, None, ap, refl, subst, sym, true, ℕ}
+use Rattle.std.proofs.Common.{◌≡◌, ◌∙◌, List, Ok, Option, Some, None, ap, refl, subst, sym, true, ℕ}
 use Rattle.std.specs.Prelude.{option_and_then, option_map}
 use Rattle.yw_accepted.proofs.Loaded.{accepted_are_within}
 use Rattle.yw_asked.proofs.CasesAsked as cases
@@ -13,7 +13,7 @@ use Rattle.yw_built.specs.Built.{is_built}
 use Rattle.yw_cases.specs.State.{MayStand, state_of}
 use Rattle.yw_cases.specs.Tried.{LeadsOn}
 use Rattle.yw_cases.specs.declared.standing.Standing.{Standing}
-use Rattle.yw_engine.specs.Decides.{BreaksNow}
+use Rattle.yw_engine.specs.Decides.{BreaksNow, Makes}
 use Rattle.yw_engine.proofs.Parts.{held_by, next_of}
 use Rattle.yw_known.specs.Held.{IsHeld}
 use Rattle.yw_library.specs.Holdings.{Holdings}
@@ -34,7 +34,6 @@ use Rattle.yw_state.specs.declared.command.Given.{Given}
 use Rattle.yw_state.specs.declared.event.Event.{Event}
 use Rattle.yw_state.specs.declared.event.Event.TheVariants as events
 use Rattle.yw_state.specs.declared.rule.Refusal.{Refusal}
-use Rattle.yw_tree.specs.declared.Forest.{Forest}
 use Rattle.yw_within.proofs.Finding.{well_holds_within}
 use Rattle.yw_within.specs.Within.{HoldsWithin}
 
@@ -55,7 +54,7 @@ holds_within h may = well_holds_within reader (state_of h) accepted_are_within m
 -- ---- events that are made of something
 
 -- what is so of each of these is so of the one that is asked for
-of_kind : {A : Type 0} (g : A → Event) (m : Option ℕ) → ((x : A) → (is_built (g x) ≡ true) × (case_of (g x) ≡ m))
+pub of_kind : {A : Type 0} (g : A → Event) (m : Option ℕ) → ((x : A) → (is_built (g x) ≡ true) × (case_of (g x) ≡ m))
     → (o : Option A) (e : Event) → Some e ≡ option_map g o
     → (is_built e ≡ true) × (case_of e ≡ m)
 of_kind g m kind o e is =
@@ -113,46 +112,38 @@ module _ (h : Standing) (may : MayStand h) (known : Holdings) (next : ℕ) (same
 
 -- ---- an addition
 
-module _ (h : Standing) (may : MayStand h) (known : Holdings) (f : Forest) (next : ℕ) (same : known ≡ h.known)
-    (same_forest : f ≡ h.forest) (same_next : next ≡ h.next)
-    (who : List ℕ) (i : Ident) (t : List ℕ) (value : Option Value) where
-  abbrev AddFound : Option Event → Type 0
-  AddFound found = AddAsks known f next i t value found
-
-  parts_held : IsHeld known f (state_of h)
-  parts_held = held_by h known f same same_forest may
-
-  module _ (found : Option Event) (asks : AddFound found) where
+module _ (h : Standing) (may : MayStand h) (who : List ℕ) (i : Ident) (t : List ℕ) (value : Option Value) where
+  module _ (next : ℕ) (same_next : next ≡ h.next) (found : Option Event) (asks : AddAsks h.known h.forest next i t value found) where
     pub add_there : BreaksNow h (commands.Add who i t value) None → found ≡ None → ⊥
     unfolding IsAsked
     add_there unbroken none =
         let (d, s, asked, leads) = tasks.add_has_event reader (state_of h) may.held.well (holds_within h may) who i t value unbroken in
         of_nothing (λ (v : Value). events.Add i t v (state_of h).next)
         (option_and_then (λ (x : TaskAt). element_value x.task value) (task_at (state_of h) i t)) d
-        (subst AddFound none asks (state_of h) parts_held) asked
+        (subst (AddAsks h.known h.forest next i t value) none asks (state_of h) may.held) asked
 
-    module _ (e : Event) (is : found ≡ Some e) where
-      add_asked : IsAsked reader (state_of h) (commands.Add who i t value) e
-      add_asked = subst AddFound is asks (state_of h) parts_held (next_of h next same_next) who
+    pub add_asked : (e : Event) → found ≡ Some e → IsAsked reader (state_of h) (commands.Add who i t value) e
+    add_asked e is = subst (AddAsks h.known h.forest next i t value) is asks (state_of h) may.held (next_of h next same_next) who
 
-      pub add_asks : BreaksNow h (commands.Add who i t value) None → Asks h (commands.Add who i t value) e
-      unfolding IsAsked
-      add_asks unbroken =
-          as_asked h (commands.Add who i t value) e
-          (tasks.add_has_event reader (state_of h) may.held.well (holds_within h may) who i t value unbroken)
-          (λ d asked. some_same d e (asked ∙ sym add_asked))
+  module _ (e : Event) (makes : Makes h (commands.Add who i t value) (Ok e)) where
+    pub add_leads : LeadsOn h e
+    unfolding IsAsked
+    add_leads =
+        (as_asked h (commands.Add who i t value) e
+        (tasks.add_has_event reader (state_of h) may.held.well (holds_within h may) who i t value makes.0)
+        (λ d asked. some_same d e (asked ∙ sym makes.1))).1
 
-      add_kind : (is_built e ≡ true) × (case_of e ≡ Some (case_number i))
-      unfolding IsAsked
-      add_kind =
-          of_kind (λ (v : Value). events.Add i t v (state_of h).next) (Some (case_number i)) (λ v. (refl, refl))
-          (option_and_then (λ (x : TaskAt). element_value x.task value) (task_at (state_of h) i t)) e add_asked
+    add_kind : (is_built e ≡ true) × (case_of e ≡ Some (case_number i))
+    unfolding IsAsked
+    add_kind =
+        of_kind (λ (v : Value). events.Add i t v (state_of h).next) (Some (case_number i)) (λ v. (refl, refl))
+        (option_and_then (λ (x : TaskAt). element_value x.task value) (task_at (state_of h) i t)) e makes.1
 
-      pub add_built : is_built e ≡ true
-      add_built = add_kind.0
+    pub add_built : is_built e ≡ true
+    add_built = add_kind.0
 
-      pub add_case : (n : ℕ) → n ≡ case_number i → case_of e ≡ Some n
-      add_case n same = add_kind.1 ∙ ap (λ k. Some k) (sym same)
+    pub add_case : (n : ℕ) → n ≡ case_number i → case_of e ≡ Some n
+    add_case n same = add_kind.1 ∙ ap (λ k. Some k) (sym same)
 
 -- ---- events whose fields the command has
 

@@ -6,8 +6,12 @@ use Rattle.yw_cases.specs.State.{MayStand, state_of}
 use Rattle.yw_cases.specs.declared.standing.Standing.{Standing}
 use Rattle.yw_engine.specs.Decides.{IsNext}
 use Rattle.yw_known.specs.Held.{IsHeld}
+use Rattle.yw_known.specs.Here.{SaysItem, SaysNet}
+use Rattle.yw_known.specs.declared.here.ItemHere.{ItemHere}
+use Rattle.yw_known.specs.declared.here.NetHere.{NetHere}
 use Rattle.yw_library.specs.Holdings.{Holdings, with_library}
 use Rattle.yw_state.specs.Automatic.{Comes, IsQuiet}
+use Rattle.yw_state.specs.Identity.{Ident}
 use Rattle.yw_state.specs.Map.{get}
 use Rattle.yw_state.specs.declared.event.Event.{Event}
 use Rattle.yw_state.specs.declared.part.Way.{Way}
@@ -21,6 +25,16 @@ pub held_by : (h : Standing) (known : Holdings) (f : Forest) → known ≡ h.kno
 held_by h known f same same_forest may =
     subst (λ (k : Holdings). IsHeld k f (state_of h)) (sym same)
     (subst (λ (g : Forest). IsHeld h.known g (state_of h)) (sym same_forest) may.held)
+
+-- what is found of the parts
+module _ (h : Standing) (known : Holdings) (f : Forest) (same : known ≡ h.known) (same_forest : f ≡ h.forest) where
+  pub says_item : (j : Ident) (w : ItemHere) → SaysItem known f j w → SaysItem h.known h.forest j w
+  says_item j w says =
+      subst (λ (k : Holdings). SaysItem k h.forest j w) same (subst (λ (g : Forest). SaysItem known g j w) same_forest says)
+
+  pub says_net : (i : Ident) (w : NetHere) → SaysNet known f i w → SaysNet h.known h.forest i w
+  says_net i w says =
+      subst (λ (k : Holdings). SaysNet k h.forest i w) same (subst (λ (g : Forest). SaysNet known g i w) same_forest says)
 
 pub ended_by : (h : Standing) (n : ℕ) (way : Option Way) → way ≡ get (ended_of h.ended) n → way ≡ get (state_of h).ended n
 unfolding with_library

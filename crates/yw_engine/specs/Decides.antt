@@ -16,7 +16,6 @@ use Rattle.yw_state.specs.Legal.{IsAsked, IsLegal}
 use Rattle.yw_state.specs.declared.command.Command.{Command}
 use Rattle.yw_state.specs.declared.event.Event.{Event}
 use Rattle.yw_state.specs.declared.rule.Refusal.{Refusal}
-use Rattle.yw_state.specs.declared.rule.Rule.{Rule}
 use Rattle.yw_state.specs.declared.rule.Rule.TheVariants.{NotQuiet}
 use Rattle.yw_still.specs.Still.{SomethingComes}
 
@@ -62,13 +61,19 @@ Answers old e d new = (c : Command) → Breaks reader (state_of old) c None → 
 
 -- ---- a command of a case
 
--- What is broken before the case must be quiet, and that it is so: this rule, or NotQuiet where something comes of itself; nothing where
--- neither is broken.
-abbrev pub IsInFront : Standing → Option Rule → ℕ → Option Refusal → Type 0
-IsInFront h (Some rule) n found = found ≡ Some (placeless rule)
-IsInFront h None n (Some refusal) = SomethingComes (state_of h) n × (refusal ≡ placeless NotQuiet)
-IsInFront h None n None = IsQuiet (state_of h) n
+-- what the check finds that the case is quiet: NotQuiet where something comes of itself there, else nothing
+abbrev pub BreaksQuiet : Standing → ℕ → Option Refusal → Type 0
+BreaksQuiet h n (Some refusal) = SomethingComes (state_of h) n × (refusal ≡ placeless NotQuiet)
+BreaksQuiet h n None = IsQuiet (state_of h) n
 
 -- in what is held the command breaks this rule first, or none
 abbrev pub BreaksNow : Standing → Command → Option Refusal → Type 0
 BreaksNow h c found = Breaks reader (state_of h) c found
+
+-- In what is held the command breaks no rule, and this is the event that it asks for; or this is the rule that it breaks first; or no memory
+-- was left.
+abbrev pub Makes : Standing → Command → Result Event EngineFault → Type 0
+Makes h c (Ok e) = BreaksNow h c None × IsAsked reader (state_of h) c e
+Makes h c (Err (faults.Refused refusal)) = BreaksNow h c (Some refusal)
+Makes h c (Err faults.Memory) = Unit {0}
+Makes h c (Err faults.Spent) = ⊥

@@ -1,4 +1,3 @@
 pub mod Held
 pub mod Answers
 pub mod Decides
-pub mod Completes

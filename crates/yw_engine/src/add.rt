@@ -1,45 +1,65 @@
 // A person adds an item to a task.
-ghost use Rattle.std.specs.Prelude.{IfOk};
-ghost use Rattle.yw_cases.specs.State.{MayStand};
-ghost use Rattle.yw_engine.specs.Decides.{BreaksNow, Decides};
+ghost use Rattle.std.specs.Prelude.{◌≡◌, None};
+ghost use Rattle.yw_breaks.specs.Tables.{add_front};
+ghost use Rattle.yw_cases.specs.State.{MayStand, state_of};
+ghost use Rattle.yw_engine.specs.Decides.{Decides, Makes};
+ghost use Rattle.yw_known.specs.Here.{SaysNet};
+ghost use Rattle.yw_state.specs.Broken.{First};
 ghost use Rattle.yw_state.specs.declared.command.Command.TheVariants as commands;
 
 use crate::begin::begin;
-use crate::front::in_front;
+use crate::front::{breaks_quiet, placeless};
 use crate::work::Work;
 use crate::{Decided, EngineFault};
-use std::alloc::AllocError;
 use yw_base::{Ident, Name, Value};
-use yw_breaks::{add_event, add_front, add_rest};
+use yw_breaks::{add_event, add_rest, net_front};
 use yw_idents::case_number;
-use yw_state::Refusal;
+use yw_known::NetHere;
+use yw_state::Event;
 
-/// The first rule that an addition breaks.
-fn add_breaks(
+/// The event of an addition to this net, where it breaks no rule from the check on that its case is quiet; else the first that it breaks.
+fn add_here(
+    work: &Work,
+    here: &NetHere<'_>,
+    who: &Name,
+    net: Ident,
+    task: Name,
+    value: Option<Value>,
+) -> Result<Event, EngineFault>
+    requires stands { MayStand work.now.standing }
+    requires says { SaysNet work.now.standing.known work.now.standing.forest net here.now }
+    requires front { First (add_front (state_of work.now.standing) who.now net) None }
+    ensures { Makes work.now.standing (commands.Add who.now net task value) result }
+{
+    if let Some(refusal) = breaks_quiet(work, case_number(&net))? {
+        return Err(EngineFault::Refused(refusal));
+    }
+    let standing = &work.standing;
+    let (known, next) = (standing.known(), standing.next());
+    if let Some(refusal) = add_rest(work.alloc, known, here, next, who, &task, &value)? {
+        return Err(EngineFault::Refused(refusal));
+    }
+    match add_event(work.alloc, here, next, net, task, value) {
+        Some(event) => Ok(event),
+        None => unreachable!(),
+    }
+}
+
+/// The event of an addition, where it breaks no rule; else the first that it breaks.
+fn add_made(
     work: &Work,
     who: &Name,
-    at: &Ident,
-    task: &Name,
-    value: &Option<Value>,
-) -> Result<Option<Refusal>, AllocError>
+    net: Ident,
+    task: Name,
+    value: Option<Value>,
+) -> Result<Event, EngineFault>
     requires { MayStand work.now.standing }
-    ensures { IfOk result (BreaksNow work.now.standing (commands.Add who.now at.now task.now value.now)) }
+    ensures { Makes work.now.standing (commands.Add who.now net task value) result }
 {
     let standing = &work.standing;
-    let (known, forest) = (standing.known(), standing.forest());
-    let front = add_front(known, forest, who, at);
-    match in_front(work, front, case_number(at))? {
-        Some(refusal) => Ok(Some(refusal)),
-        None => add_rest(
-            work.alloc,
-            known,
-            forest,
-            standing.next(),
-            who,
-            at,
-            task,
-            value,
-        ),
+    match net_front(standing.known(), standing.forest(), who, &net) {
+        Ok(here) => add_here(work, &here, who, net, task, value),
+        Err(rule) => Err(EngineFault::Refused(placeless(work.alloc, rule))),
     }
 }
 
@@ -54,14 +74,7 @@ pub fn decide_add(
     requires { MayStand work.old.standing }
     ensures { Decides work.old.standing (commands.Add who.now net task value) result work.new.standing }
 {
-    if let Some(refusal) = add_breaks(work, who, &net, &task, &value)? {
-        return Err(EngineFault::Refused(refusal));
-    }
     let case = case_number(&net);
-    let standing = &work.standing;
-    let (known, forest) = (standing.known(), standing.forest());
-    let Some(event) = add_event(work.alloc, known, forest, standing.next(), net, task, value) else {
-        unreachable!();
-    };
+    let event = add_made(work, who, net, task, value)?;
     Ok(begin(work, event, Some(case))?)
 }

@@ -1,76 +1,66 @@
 // A person completes an item.
-ghost use Rattle.std.specs.Prelude.{IfOk};
-ghost use Rattle.yw_cases.specs.State.{MayStand};
-ghost use Rattle.yw_engine.specs.Completes.{BreaksBehind, BreaksLast};
-ghost use Rattle.yw_engine.specs.Decides.{BreaksNow, Decides};
+ghost use Rattle.std.specs.Prelude.{◌≡◌, None};
+ghost use Rattle.yw_breaks.specs.Tables.{complete_front};
+ghost use Rattle.yw_cases.specs.State.{MayStand, state_of};
+ghost use Rattle.yw_engine.specs.Decides.{Decides, Makes};
+ghost use Rattle.yw_known.specs.Here.{SaysItem};
+ghost use Rattle.yw_state.specs.Broken.{First};
 ghost use Rattle.yw_state.specs.declared.command.Command.TheVariants as commands;
 
 use crate::begin::begin;
-use crate::front::in_front;
+use crate::front::{breaks_quiet, placeless};
 use crate::work::Work;
 use crate::{Decided, EngineFault};
-use std::alloc::AllocError;
 use yw_base::{Ident, Name};
-use yw_breaks::{complete_front, complete_most, complete_values};
+use yw_breaks::{complete_most, complete_values, item_front};
 use yw_idents::case_number;
-use yw_known::item_here;
-use yw_state::{Event, GivenList, Refusal};
+use yw_known::ItemHere;
+use yw_state::{Event, GivenList};
 use yw_steps::ask_complete;
 
-/// What a completion breaks, where it breaks none of the rules but perhaps the last, `Mapping`.
-fn breaks_last(
+/// The event of a completion of this item, where it breaks no rule from the check on that its case is quiet; else the first that it breaks.
+fn complete_here(
     work: &Work,
+    here: &ItemHere<'_>,
     who: &Name,
-    item: &Ident,
+    item: Ident,
     given: &GivenList,
-) -> Result<Option<Refusal>, AllocError>
-    requires { MayStand work.now.standing }
-    ensures { IfOk result (BreaksLast work.now.standing who.now item.now given.now) }
+) -> Result<Event, EngineFault>
+    requires stands { MayStand work.now.standing }
+    requires says { SaysItem work.now.standing.known work.now.standing.forest item here.now }
+    requires front { First (complete_front (state_of work.now.standing) who.now item given.now) None }
+    ensures { Makes work.now.standing (commands.Complete who.now item given.now) result }
 {
-    let standing = &work.standing;
-    let (known, forest) = (standing.known(), standing.forest());
-    let Some(here) = item_here(work.alloc, known, forest, item)? else {
-        return Ok(None);
+    if let Some(refusal) = breaks_quiet(work, case_number(&item))? {
+        return Err(EngineFault::Refused(refusal));
+    }
+    if let Some(refusal) = complete_most(work.alloc, here, who, given)? {
+        return Err(EngineFault::Refused(refusal));
+    }
+    let Some(out) = complete_values(work.alloc, here, given)? else {
+        unreachable!();
     };
-    let Some(out) = complete_values(work.alloc, known, forest, item, given)? else {
-        return Ok(None);
-    };
-    ask_complete(work.alloc, forest, here.outer.net, item, who, &out)
-}
-
-/// What the completion of an item that is there breaks first behind the check that its case is quiet.
-fn breaks_behind(
-    work: &Work,
-    who: &Name,
-    item: &Ident,
-    given: &GivenList,
-) -> Result<Option<Refusal>, AllocError>
-    requires { MayStand work.now.standing }
-    ensures { IfOk result (BreaksBehind work.now.standing who.now item.now given.now) }
-{
-    let standing = &work.standing;
-    let (known, forest) = (standing.known(), standing.forest());
-    match complete_most(work.alloc, known, forest, who, item, given)? {
-        Some(refusal) => Ok(Some(refusal)),
-        None => breaks_last(work, who, item, given),
+    let forest = work.standing.forest();
+    match ask_complete(work.alloc, forest, here.outer.net, &item, who, &out)? {
+        Some(refusal) => Err(EngineFault::Refused(refusal)),
+        None => Ok(Event::Complete { item, out }),
     }
 }
 
-/// The first rule that a completion breaks.
-fn complete_breaks(
+/// The event of a completion, where it breaks no rule; else the first that it breaks.
+fn complete_made(
     work: &Work,
     who: &Name,
-    item: &Ident,
+    item: Ident,
     given: &GivenList,
-) -> Result<Option<Refusal>, AllocError>
+) -> Result<Event, EngineFault>
     requires { MayStand work.now.standing }
-    ensures { IfOk result (BreaksNow work.now.standing (commands.Complete who.now item.now given.now)) }
+    ensures { Makes work.now.standing (commands.Complete who.now item given.now) result }
 {
     let standing = &work.standing;
-    let front = complete_front(standing.known(), standing.forest(), who, item);
-    match in_front(work, front, case_number(item))? {
-        Some(refusal) => Ok(Some(refusal)),
-        None => breaks_behind(work, who, item, given),
+    match item_front(standing.known(), standing.forest(), who, &item) {
+        Ok(here) => complete_here(work, &here, who, item, given),
+        Err(rule) => Err(EngineFault::Refused(placeless(work.alloc, rule))),
     }
 }
 
@@ -84,14 +74,7 @@ pub fn decide_complete(
     requires { MayStand work.old.standing }
     ensures { Decides work.old.standing (commands.Complete who item out.now) result work.new.standing }
 {
-    if let Some(refusal) = complete_breaks(work, &who, &item, out)? {
-        return Err(EngineFault::Refused(refusal));
-    }
     let case = case_number(&item);
-    let standing = &work.standing;
-    let (known, forest) = (standing.known(), standing.forest());
-    let Some(out) = complete_values(work.alloc, known, forest, &item, out)? else {
-        unreachable!();
-    };
-    Ok(begin(work, Event::Complete { item, out }, Some(case))?)
+    let event = complete_made(work, &who, item, out)?;
+    Ok(begin(work, event, Some(case))?)
 }

@@ -5,12 +5,12 @@ ghost use Rattle.yw_engine.specs.Decides.{BreaksNow, Decides};
 ghost use Rattle.yw_state.specs.declared.command.Command.TheVariants as commands;
 
 use crate::begin::begin;
-use crate::front::in_front;
+use crate::front::{breaks_quiet, placeless};
 use crate::work::Work;
 use crate::{Decided, EngineFault};
 use std::alloc::AllocError;
 use yw_base::{Ident, Name};
-use yw_breaks::{enter_front, enter_rest};
+use yw_breaks::{enter_rest, net_front};
 use yw_idents::case_number;
 use yw_state::Refusal;
 
@@ -25,11 +25,13 @@ fn enter_breaks(
     ensures { IfOk result (BreaksNow work.now.standing (commands.Enter who.now at.now task.now)) }
 {
     let standing = &work.standing;
-    let (known, forest) = (standing.known(), standing.forest());
-    let front = enter_front(known, forest, who, at, task);
-    match in_front(work, front, case_number(at))? {
-        Some(refusal) => Ok(Some(refusal)),
-        None => enter_rest(work.alloc, known, forest, standing.next(), who, at, task),
+    let known = standing.known();
+    match net_front(known, standing.forest(), who, at) {
+        Err(rule) => Ok(Some(placeless(work.alloc, rule))),
+        Ok(here) => match breaks_quiet(work, case_number(at))? {
+            Some(refusal) => Ok(Some(refusal)),
+            None => enter_rest(work.alloc, known, &here, standing.next(), who, task),
+        },
     }
 }
 

@@ -1,7 +1,7 @@
-// What is tried before a command of a case: that what it names is there, and that the case is quiet.
+// The check between the rules of a command of a case that its case is quiet.
 ghost use Rattle.std.specs.Prelude.{◌≡◌, IfOk};
 ghost use Rattle.yw_cases.specs.State.{MayStand};
-ghost use Rattle.yw_engine.specs.Decides.{IsInFront};
+ghost use Rattle.yw_engine.specs.Decides.{BreaksQuiet};
 ghost use Rattle.yw_state.specs.Broken.{placeless};
 
 use crate::work::Work;
@@ -19,15 +19,11 @@ pub fn placeless(alloc: Global, rule: Rule) -> Refusal
     }
 }
 
-/// This rule, if one is broken; else `NotQuiet` where something is still to come of itself in the case. An `Err` says that no memory
-/// was left.
-pub fn in_front(work: &Work, front: Option<Rule>, case: u64) -> Result<Option<Refusal>, AllocError>
+/// `NotQuiet` where something is still to come of itself in the case. An `Err` says that no memory was left.
+pub fn breaks_quiet(work: &Work, case: u64) -> Result<Option<Refusal>, AllocError>
     requires { MayStand work.now.standing }
-    ensures { IfOk result (IsInFront work.now.standing front case) }
+    ensures { IfOk result (BreaksQuiet work.now.standing case) }
 {
-    if let Some(rule) = front {
-        return Ok(Some(placeless(work.alloc, rule)));
-    }
     match work.next_event(case)? {
         Some(_event) => Ok(Some(placeless(work.alloc, Rule::NotQuiet))),
         None => Ok(None),

@@ -5,12 +5,12 @@ ghost use Rattle.yw_engine.specs.Decides.{BreaksNow, Decides};
 ghost use Rattle.yw_state.specs.declared.command.Command.TheVariants as commands;
 
 use crate::begin::begin;
-use crate::front::in_front;
+use crate::front::{breaks_quiet, placeless};
 use crate::work::Work;
 use crate::{Decided, EngineFault};
 use std::alloc::AllocError;
 use yw_base::{Ident, Name};
-use yw_breaks::{start_front, start_rest};
+use yw_breaks::{item_front, start_rest};
 use yw_idents::case_number;
 use yw_state::{Event, Refusal};
 
@@ -20,11 +20,13 @@ fn start_breaks(work: &Work, who: &Name, item: &Ident) -> Result<Option<Refusal>
     ensures { IfOk result (BreaksNow work.now.standing (commands.Start who.now item.now)) }
 {
     let standing = &work.standing;
-    let (known, forest) = (standing.known(), standing.forest());
-    let front = start_front(known, forest, who, item);
-    match in_front(work, front, case_number(item))? {
-        Some(refusal) => Ok(Some(refusal)),
-        None => start_rest(work.alloc, known, forest, who, item),
+    let known = standing.known();
+    match item_front(known, standing.forest(), who, item) {
+        Err(rule) => Ok(Some(placeless(work.alloc, rule))),
+        Ok(here) => match breaks_quiet(work, case_number(item))? {
+            Some(refusal) => Ok(Some(refusal)),
+            None => Ok(start_rest(work.alloc, known, &here, who)),
+        },
     }
 }
 

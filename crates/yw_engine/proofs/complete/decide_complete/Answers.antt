@@ -1,31 +1,25 @@
-use Rattle.std.proofs.Common.{Option, subst}
-use Rattle.yw_engine.proofs.Completes.{complete_asks, values_there}
+use Rattle.yw_engine.proofs.Completes.{complete_built, complete_case, complete_leads}
+use Rattle.yw_engine.proofs.Fronts.{refuses}
 use Rattle.yw_engine.proofs.complete.decide_complete.Goals as goal
-use Rattle.yw_engine.specs.Decides.{BreaksNow}
 use Rattle.yw_state.specs.declared.command.Command.TheVariants as commands
-use Rattle.yw_state.specs.declared.rule.Refusal.{Refusal}
 
-pub unreachable-requires : goal.unreachable-requires
-unreachable-requires c =
-    let h = c.args.work.now.standing in
-    let command = commands.Complete c.args.who c.args.item c.args.out.now in
-    let unbroken = subst (λ (found : Option Refusal). BreaksNow h command found) c.in_default.is c.in_ok-refusal.ensures in
-    values_there h c.requires c.args.who c.args.item c.args.out.now c.known-known.result.now c.forest-forest.result.now c.known-known.ensures c.forest-forest.ensures
-    c.in_ok-out.field-0 c.in_ok-out.ensures unbroken c.in_default-2.is
+pub begin-requires-clause-built : goal.begin-requires-clause-built
+begin-requires-clause-built c =
+    complete_built c.args.work.now.standing c.requires c.args.who c.args.item c.args.out.now c.in_ok-event.event c.in_ok-event.ensures
+
+pub begin-requires-clause-case : goal.begin-requires-clause-case
+begin-requires-clause-case c =
+    complete_case c.args.work.now.standing c.requires c.args.who c.args.item c.args.out.now c.in_ok-event.event c.in_ok-event.ensures
+    c.case_number-case.result c.case_number-case.ensures
 
 pub begin-requires-clause-leads : goal.begin-requires-clause-leads
 begin-requires-clause-leads c =
-    let h = c.args.work.now.standing in
-    let command = commands.Complete c.args.who c.args.item c.args.out.now in
-    let unbroken = subst (λ (found : Option Refusal). BreaksNow h command found) c.in_default.is c.in_ok-refusal.ensures in
-    (complete_asks h c.requires c.args.who c.args.item c.args.out.now c.known-known.result.now c.forest-forest.result.now c.known-known.ensures c.forest-forest.ensures
-    c.in_ok-out.field-0 c.in_ok-out.ensures unbroken c.in-Some-2.out c.in-Some-2.is).1
+    complete_leads c.args.work.now.standing c.requires c.args.who c.args.item c.args.out.now c.in_ok-event.event c.in_ok-event.ensures
+
+pub returns-in_err-event : goal.returns-in_err-event
+returns-in_err-event c = refuses c.args.work.now.standing (commands.Complete c.args.who c.args.item c.args.out.now) c.in_err-event.field-0.0 c.in_err-event.ensures c.from_residual.result c.from_residual.ensures.1
 
 pub returns : goal.returns
 returns c =
-    let h = c.args.work.now.standing in
-    let command = commands.Complete c.args.who c.args.item c.args.out.now in
-    let unbroken = subst (λ (found : Option Refusal). BreaksNow h command found) c.in_default.is c.in_ok-refusal.ensures in
-    c.in_ok-begin.ensures command unbroken
-    (complete_asks h c.requires c.args.who c.args.item c.args.out.now c.known-known.result.now c.forest-forest.result.now c.known-known.ensures c.forest-forest.ensures
-    c.in_ok-out.field-0 c.in_ok-out.ensures unbroken c.in-Some-2.out c.in-Some-2.is).0
+    let made = c.in_ok-event.ensures in
+    c.in_ok-begin.ensures (commands.Complete c.args.who c.args.item c.args.out.now) made.0 made.1

@@ -1,12 +1,24 @@
+use Rattle.std.proofs.Common.{Some, subst, sym}
 use Rattle.yw_breaks.proofs.Whole.{start_joins}
 use Rattle.yw_breaks.specs.Tables.{start_front, start_rest}
 use Rattle.yw_cases.specs.State.{state_of}
-use Rattle.yw_engine.proofs.Fronts.{behind, plainly, refused}
+use Rattle.yw_engine.proofs.Fronts.{behind, in_front, moving}
 use Rattle.yw_engine.proofs.Parts.{held_by}
 use Rattle.yw_engine.proofs.start.start_breaks.Goals as goal
+use Rattle.yw_engine.specs.Decides.{BreaksNow}
 use Rattle.yw_model.specs.Texts.{reader}
-use Rattle.yw_state.specs.State.{State}
 use Rattle.yw_state.specs.declared.command.Command.TheVariants as commands
+use Rattle.yw_state.specs.declared.rule.Refusal.{Refusal}
+
+pub returns-in-Err : goal.returns-in-Err
+returns-in-Err c =
+    let h = c.args.work.now.standing in
+    let s = state_of h in
+    let who = c.args.who.now in
+    let j = c.args.item.now in
+    let held = held_by h c.known-known.result.now c.forest.result.now c.known-known.ensures c.forest.ensures c.requires in
+    subst (λ (x : Refusal). BreaksNow h (commands.Start who j) (Some x)) (sym c.placeless.ensures)
+    (in_front h (commands.Start who j) j (start_front s who j) (start_rest s who j) (start_joins reader s who j) c.in-Err.rule (c.in-Err.ensures s held))
 
 pub returns-in-Some : goal.returns-in-Some
 returns-in-Some c =
@@ -14,11 +26,9 @@ returns-in-Some c =
     let s = state_of h in
     let who = c.args.who.now in
     let j = c.args.item.now in
-    refused h (commands.Start who j) j (start_front s who j) (start_rest s who j) (start_joins reader s who j) c.case_number.result
-    c.case_number.ensures
-    c.start_front-front.result (c.start_front-front.ensures s
-    (held_by h c.known-known.result.now c.forest-forest.result.now c.known-known.ensures c.forest-forest.ensures c.requires))
-    c.in_ok-refusal.field-0 c.in-Some.refusal c.in-Some.is c.in_ok-refusal.ensures
+    let held = held_by h c.known-known.result.now c.forest.result.now c.known-known.ensures c.forest.ensures c.requires in
+    moving h (commands.Start who j) j (start_front s who j) (start_rest s who j) (start_joins reader s who j) (c.in-Ok.ensures.0 s held)
+    c.case_number.result c.case_number.ensures c.in_ok-refusal-in-Ok.field-0 c.in_ok-refusal-in-Ok.ensures c.in-Some.refusal c.in-Some.is
 
 pub returns-in-None : goal.returns-in-None
 returns-in-None c =
@@ -26,10 +36,8 @@ returns-in-None c =
     let s = state_of h in
     let who = c.args.who.now in
     let j = c.args.item.now in
-    behind h (commands.Start who j) j (start_front s who j) (start_rest s who j) (start_joins reader s who j) c.case_number.result
-    c.case_number.ensures
-    c.start_front-front.result (c.start_front-front.ensures s
-    (held_by h c.known-known.result.now c.forest-forest.result.now c.known-known.ensures c.forest-forest.ensures c.requires))
-    c.in_ok-refusal.field-0 c.in-None.is c.in_ok-refusal.ensures
-    c.start_rest.result (plainly h c.requires c.known-known.result.now c.forest-forest.result.now c.known-known.ensures
-    c.forest-forest.ensures (λ (z : State). start_rest z who j) c.start_rest.result c.start_rest.ensures)
+    let f = c.forest.result.now in
+    let held = held_by h c.known-known.result.now f c.known-known.ensures c.forest.ensures c.requires in
+    behind h (commands.Start who j) j (start_front s who j) (start_rest s who j) (start_joins reader s who j) (c.in-Ok.ensures.0 s held)
+    c.case_number.result c.case_number.ensures c.in_ok-refusal-in-Ok.field-0 c.in_ok-refusal-in-Ok.ensures c.in-None.is
+    c.start_rest.result (c.start_rest.ensures f j c.in-Ok.ensures.1 s held c.requires.plain)
