@@ -19,7 +19,7 @@ use Rattle.yw_plain.specs.Plain.{IsPlain}
 use Rattle.yw_spec.specs.declared.task.Task.{Task}
 use Rattle.yw_state.proofs.Tests.{some_same}
 use Rattle.yw_state.specs.Broken as table
-use Rattle.yw_state.specs.Broken.{First, enter_checks, has_role, is_spent, misses_bounds, placed, placeless, test, test_at}
+use Rattle.yw_state.specs.Broken.{First, enter_checks, has_role, is_spent, misses_bounds, placeless, test}
 use Rattle.yw_state.specs.Identity.{Ident}
 use Rattle.yw_state.specs.Judged.{is_manual}
 use Rattle.yw_state.specs.Map.{get}

@@ -1,5 +1,5 @@
 -- What a start breaks first behind the check that the case is quiet.
-use Rattle.std.proofs.Common.{Bool, List, None, Some, ap, refl, subst, ℕ, ◌∙◌, ◌≡◌, ◌∷◌, []}
+use Rattle.std.proofs.Common.{Bool, List, None, Some, ap, refl, subst, ℕ, ◌∙◌, ◌∷◌, []}
 use Rattle.std.specs.Prelude.{drop, not, option_map, take, unwrap_or, if◌then◌else◌}
 use Rattle.yw_breaks.proofs.Held.{role_is}
 use Rattle.yw_breaks.proofs.Joining.{then_or}

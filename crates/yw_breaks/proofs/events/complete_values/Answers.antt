@@ -1,4 +1,3 @@
-use Rattle.std.proofs.Common.{ap, sym, ◌∙◌}
 use Rattle.yw_breaks.proofs.Asking.{complete_asks}
 use Rattle.yw_breaks.proofs.events.complete_values.Goals as goal
 

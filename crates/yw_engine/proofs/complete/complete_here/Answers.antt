@@ -1,4 +1,4 @@
-use Rattle.std.proofs.Common.{None, Option, Some, subst, sym}
+use Rattle.std.proofs.Common.{None, Option, Some, subst}
 use Rattle.yw_breaks.proofs.Whole.{complete_joins}
 use Rattle.yw_breaks.specs.Tables.{complete_front, complete_most, complete_rest}
 use Rattle.yw_cases.specs.State.{state_of}
