@@ -1,79 +1,48 @@
-// What no clause says: that an engine answers where memory is there, and that one which has only been given events goes on from there.
-use crate::asks::command_of;
-use crate::events::is_plain;
-use crate::scripts::{End, Script, Step};
-use crate::wants::{Want, are_wanted, is_refusal};
+// What no clause says: that an engine which is made of parts answers where memory is there, and tells what comes of itself.
+ghost use Rattle.std.specs.Prelude.{IfSome};
+ghost use Rattle.yw_model.specs.Run.{CanBeAsked};
+
+use crate::events::is_built;
 use std::alloc::{AllocError, Global};
+use yw_base::{Items, Name, Text};
 use yw_cases::laws::opening_may_stand;
-use yw_engine::{Decided, Engine, EngineFault};
+use yw_engine::Engine;
 use yw_library::Parts;
-use yw_state::{Event, EventList};
+use yw_state::{Command, Event, EventList, Way};
 
-/// The events of an entry, where they are wanted.
-fn wanted(alloc: Global, decided: Decided, want: Want) -> Option<EventList> {
-    let Decided { events, quiet } = decided;
-    if are_wanted(alloc, &events, quiet, want) {
-        Some(events)
-    } else {
-        None
-    }
+// A case that goes from its launch to its end by itself.
+const ALONE: &str = r#"name = "alone"
+top = "main"
+[[net]]
+name = "main"
+input = "i"
+output = "o"
+flows = [["i","a"],["a","o"]]
+[[net.task]]
+name = "a"
+kind = "empty"
+"#;
+
+/// Its text. The call promises nothing, so that no proof of a test holds its letters.
+fn text() -> &'static str {
+    ALONE
 }
 
-/// The engine decides on the command of a step, and this comes of it: its events, or none where it is refused. `None` where something else comes.
-fn decides(alloc: Global, engine: &mut Engine, step: &Step) -> Option<EventList> {
-    match engine.decide(command_of(alloc, step.0)?) {
-        Ok(decided) => wanted(alloc, decided, step.1),
-        Err(EngineFault::Refused(refusal)) => {
-            if is_refusal(&refusal, step.1) {
-                Some(EventList::new(alloc))
-            } else {
-                None
-            }
-        }
-        Err(_) => None,
-    }
+fn load(alloc: Global) -> Option<Command>
+    ensures { IfSome result CanBeAsked }
+{
+    Some(Command::Load {
+        toml: Text::copy_of(alloc, text()).ok()?,
+    })
 }
 
-fn applies(engine: &mut Engine, event: Event) -> bool {
-    is_plain(&event) && engine.apply(event).is_ok()
-}
-
-fn applies_all(engine: &mut Engine, events: EventList) -> bool {
-    for event in events.into_vec() {
-        if !applies(engine, event) {
-            return false;
-        }
-    }
-    true
-}
-
-/// The first engine decides on a step. The second is given its events, or decides too.
-fn both_do(
-    alloc: Global,
-    first: &mut Engine,
-    second: &mut Engine,
-    step: &Step,
-    given: bool,
-) -> bool {
-    let Some(events) = decides(alloc, first, step) else {
-        return false;
-    };
-    if given {
-        applies_all(second, events)
-    } else {
-        decides(alloc, second, step).is_some()
-    }
-}
-
-/// The engine ends so, with a specification and somebody, and nothing is still to come.
-fn ends(engine: &Engine, end: End) -> bool {
-    let library = engine.library();
-    engine.next() == end.0
-        && engine.ended(1) == end.1
-        && engine.forest().case(1).is_some() == end.1.is_none()
-        && matches!(engine.next_auto(1), Ok(None))
-        && !library.persons().is_empty()
-        && library.specs().len() == 1
+fn launch(alloc: Global) -> Option<Command>
+    ensures { IfSome result CanBeAsked }
+{
+    Some(Command::Launch {
+        spec: Name::read(alloc, "alone").ok()?,
+        values: Items::new(alloc),
+    })
 }
 
 /// An engine of the parts of the opening state.
@@ -82,43 +51,78 @@ fn of_parts(alloc: Global) -> Result<Engine, AllocError> {
     Engine::new(alloc, Parts::opening(alloc))
 }
 
-/// A second engine is given the events of the first steps, and decides on the others.
-fn goes_on(alloc: Global, script: Script, cut: usize) -> bool {
+/// Something comes of itself in case 1.
+fn goes_on(engine: &Engine) -> bool {
+    matches!(engine.next_auto(1), Ok(Some(_)))
+}
+
+/// Nothing does.
+fn is_quiet(engine: &Engine) -> bool {
+    matches!(engine.next_auto(1), Ok(None))
+}
+
+fn applies(engine: &mut Engine, event: Event) -> bool {
+    is_built(&event) && engine.apply(event).is_ok()
+}
+
+/// Applies the events, and counts behind how many of them something comes of itself.
+fn applies_all(engine: &mut Engine, events: EventList) -> Option<u64> {
+    let mut count: u64 = 0;
+    for event in events.into_vec() {
+        if !applies(engine, event) {
+            return None;
+        }
+        if goes_on(engine) {
+            count = count.saturating_add(1);
+        }
+    }
+    Some(count)
+}
+
+fn loads(alloc: Global, first: &mut Engine, second: &mut Engine) -> bool {
+    match load(alloc) {
+        Some(command) => match first.decide(command) {
+            Ok(decided) => applies_all(second, decided.events) == Some(0),
+            Err(_) => false,
+        },
+        None => false,
+    }
+}
+
+/// The case is launched, entered, completed and left, and is over: something comes behind each but the last.
+fn launches(alloc: Global, first: &mut Engine, second: &mut Engine) -> bool {
+    match launch(alloc) {
+        Some(command) => match first.decide(command) {
+            Ok(decided) => decided.quiet && applies_all(second, decided.events) == Some(4),
+            Err(_) => false,
+        },
+        None => false,
+    }
+}
+
+/// Case 1 is over, and a specification stands.
+fn is_over(engine: &Engine) -> bool {
+    is_quiet(engine)
+        && engine.next() == 3
+        && engine.ended(1) == Some(Way::Finished)
+        && engine.forest().case(1).is_none()
+        && engine.library().persons().is_empty()
+        && engine.library().specs().len() == 1
+}
+
+/// One engine decides, and the other, which is made of parts, is given the events.
+fn both_end(alloc: Global) -> bool {
     let mut first = Engine::opening(alloc);
     let Ok(mut second) = of_parts(alloc) else {
         return false;
     };
-    for (k, step) in script.steps().iter().enumerate() {
-        if !both_do(alloc, &mut first, &mut second, step, k < cut) {
-            return false;
-        }
-    }
-    ends(&first, script.end()) && ends(&second, script.end())
-}
-
-/// So it is wherever it goes on by itself.
-fn plays(alloc: Global, script: Script) -> bool {
-    for cut in 0..=script.steps().len() {
-        if !goes_on(alloc, script, cut) {
-            return false;
-        }
-    }
-    true
+    loads(alloc, &mut first, &mut second)
+        && launches(alloc, &mut first, &mut second)
+        && is_over(&first)
+        && is_over(&second)
 }
 
 #[test]
-fn an_engine_goes_on_from_events(rt: HostRuntime) {
-    for script in &Script::RESTING {
-        assert!(rt; plays(rt.alloc(), *script), "{script:?}");
-    }
-}
-
-/// Scripts in which more is to come at times, or an expression is undefined; and how many steps the second engine is given.
-const OTHERS: [(Script, usize); 2] = [(Script::Endless, 3), (Script::Divisor, 5)];
-
-#[test]
-fn an_engine_breaks_off_and_refuses(rt: HostRuntime) {
-    for (script, cut) in &OTHERS {
-        assert!(rt; goes_on(rt.alloc(), *script, *cut), "{script:?}");
-    }
+fn an_engine_of_parts_goes_on_from_events(rt: HostRuntime) {
+    assert!(rt; both_end(rt.alloc()));
 }
