@@ -7,18 +7,18 @@ use Rattle.yw_tree.specs.declared.NetState.{out-NetState}
 
 pub returns-in_default : goal.returns-in_default
 returns-in_default c =
-    not_there c.args.standing.now c.requires c.args.j.now c.args.out.now c.in_ok-here.field-0 c.in_default.is (c.in_ok-here.ensures _ c.requires.held)
+    not_there c.args.standing.now c.requires c.args.j.now c.args.out.now c.item_here.result c.in_default.is (c.item_here.ensures _ c.requires.held)
 
 pub returns-then-not-can_make : goal.returns-then-not-can_make
 returns-then-not-can_make c =
     not_made c.args.standing.now c.requires c.args.j.now c.args.out.now c.in-Some.here
-    (item_found c.args.standing.now c.args.j.now c.in_ok-here.field-0 c.in-Some.here c.in-Some.is (c.in_ok-here.ensures _ c.requires.held))
+    (item_found c.args.standing.now c.args.j.now c.item_here.result c.in-Some.here c.in-Some.is (c.item_here.ensures _ c.requires.held))
     (sym c.can_make.ensures ∙ c.if-not-can_make.true)
 
 pub returns : goal.returns
 returns c =
     let w = c.in-Some.here in
-    let here = item_found c.args.standing.now c.args.j.now c.in_ok-here.field-0 w c.in-Some.is (c.in_ok-here.ensures _ c.requires.held) in
+    let here = item_found c.args.standing.now c.args.j.now c.item_here.result w c.in-Some.is (c.item_here.ensures _ c.requires.held) in
     let vals = (out-NetState w.outer.state.now).vals in
     IfOk-weaker c.are_defined.result _ _
     (λ b e. tells_completed c.args.standing.now c.requires c.args.j.now c.args.out.now w here (sym c.can_make.ensures ∙ c.if-not-can_make.false) b
