@@ -1,8 +1,11 @@
 // What no clause says: that a call can succeed, what the lines look like, and that the definitions mean what is wanted.
 use std::alloc::{AllocError, Global};
 use yw_documents::{loan, seq};
-use yw_outside::{Fill, Image, MemDesk, MemSource, NeverDesk, NeverSource, PIECE_BYTES};
-use yw_verdict::{Verdict, judge_input};
+use yw_judge::{Verdict, judge_input};
+use yw_outside::{
+    Desk, Fill, Image, MemDesk, MemSource, NeverDesk, NeverSource, PIECE_BYTES, Source,
+};
+use yw_verdict::Finding;
 
 /// The same with a condition on no path.
 fn seq_with_condition() -> &'static str {
@@ -69,11 +72,16 @@ fn desk_has_said(desk: &MemDesk, calls: usize, said: &str) -> bool {
     }
 }
 
+/// The verdict on what a source gives, as a specification.
+fn judged<S: Source, D: Desk>(alloc: Global, source: &mut S, desk: &mut D) -> Verdict {
+    judge_input::<Finding, S, D>(alloc, source, desk)
+}
+
 /// What a source gives has this verdict, at a desk whose calls with these numbers fail, and this is said.
 fn has_verdict(alloc: Global, mut source: MemSource, verdict: Verdict, said: &str) -> bool {
     match desk_of(alloc, &[]) {
         Ok(mut desk) => {
-            judge_input(alloc, &mut source, &mut desk) == verdict
+            judged(alloc, &mut source, &mut desk) == verdict
                 && desk_has_said(&desk, usize::from(!said.is_empty()), said)
         }
         Err(AllocError) => false,
@@ -172,7 +180,7 @@ fn never_failing(alloc: Global, text: &str) -> Result<NeverSource, AllocError> {
 fn fails_to_say(alloc: Global, text: &str) -> Result<bool, AllocError> {
     let mut source = never_failing(alloc, text)?;
     let mut desk = desk_of(alloc, &[1])?;
-    let verdict = judge_input(alloc, &mut source, &mut desk);
+    let verdict = judged(alloc, &mut source, &mut desk);
     Ok(verdict == Verdict::Write && desk_has_said(&desk, 1, ""))
 }
 
@@ -185,7 +193,7 @@ fn a_failed_say_is_no_verdict(rt: HostRuntime) {
 fn is_accepted_in_memory(alloc: Global) -> Result<bool, AllocError> {
     let mut source = never_failing(alloc, seq())?;
     let mut desk = NeverDesk::new(alloc);
-    Ok(judge_input(alloc, &mut source, &mut desk) == Verdict::Accepted)
+    Ok(judged(alloc, &mut source, &mut desk) == Verdict::Accepted)
 }
 
 #[test]

@@ -4,10 +4,10 @@ use Rattle.std.specs.Prelude.{IfErr, IsErrAnd}
 use Rattle.yw_outside.specs.Causes.{Rose}
 use Rattle.yw_outside.specs.Since.{NoneFailed}
 use Rattle.yw_outside.specs.declared.desk.Desk.{Ghosts}
-use Rattle.yw_verdict.specs.Counts.{CountsRead, CountsWrite}
-use Rattle.yw_verdict.specs.declared.verdict.Verdict.{Verdict}
-use Rattle.yw_verdict.specs.declared.verdict.Verdict.TheVariants as verdicts
-use Rattle.yw_serve.specs.Checked.{status_of}
+use Rattle.yw_judge.specs.Counts.{CountsRead, CountsWrite}
+use Rattle.yw_judge.specs.declared.verdict.Verdict.{Verdict}
+use Rattle.yw_judge.specs.declared.verdict.Verdict.TheVariants as verdicts
+use Rattle.yw_serve.specs.Judging.{status_of}
 use Rattle.yw_serve.specs.Faults.{FilesFailed, SayFailed, StopFaults, CallFaults, EndingFaults, NoticeFaults, StatusFaults}
 use Rattle.yw_serve.specs.declared.run.Ending.{Ending}
 use Rattle.yw_serve.specs.declared.run.Ending.TheVariants as endings

@@ -2,13 +2,13 @@
 use Rattle.std.proofs.Common.{◌≡◌, ◌≢◌, ◌⊎◌, Result, Err, inl, inr, ⊎_elim}
 use Rattle.yw_serve.specs.Opening.{IsUnsynced, OpensBy}
 use Rattle.yw_serve.specs.Served.{OpensInPart}
-use Rattle.yw_serve.specs.declared.opening.OpenFault.{OpenFault}
-use Rattle.yw_serve.specs.declared.opening.OpenFault.TheVariants.{Disk}
+use Rattle.yw_serve.specs.declared.opening.StartFault.{StartFault}
+use Rattle.yw_serve.specs.declared.opening.StartFault.TheVariants.{Disk}
 use Rattle.yw_serve.specs.declared.server.Server.{Server}
 use Rattle.yw_outside.specs.declared.desk.Desk.{Ghosts}
 
 module _ {D : Type 0} (g : Ghosts D) where
-  module _ (result : Result Server OpenFault) (old new : D)
+  module _ (result : Result Server StartFault) (old new : D)
       (opening : OpensBy g old new ⊎ ((result ≡ Err Disk) × IsUnsynced g old new)) where
     pub opens_in_part : (g.state new).said ≡ (g.state old).said → OpensInPart g old new
     opens_in_part said = record {

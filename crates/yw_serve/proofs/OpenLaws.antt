@@ -1,7 +1,6 @@
 -- A state that is held and a damage exclude each other, and both are the only ones.
 use Rattle.std.proofs.Common.{◌≡◌, ◌≢◌, ◌⊎◌, ◌&&◌, ◌==◌, ℕ, ◌+◌, List, [], ◌∷◌, ◌++◌, length, take, drop, not, if◌then◌else◌, Bool, true, false, Option, None, Some, Result, Ok, Err, IfOk, inl, inr, ⊎_elim, refl, sym, ap, ◌∙◌, subst, arith, append_assoc, length-append, length-take}
-use Rattle.std.proofs.lemmas.List.{take_at, drop_at}
-use Rattle.std.specs.Int.{w32, from_be_bytes}
+use Rattle.std.proofs.lemmas.List.{drop_at}
 use Rattle.yw_outside.specs.declared.desk.File.{File}
 use Rattle.yw_outside.specs.declared.desk.File.TheVariants.{A, B}
 use Rattle.yw_outside.specs.declared.image.Image.{Image}
@@ -13,8 +12,8 @@ use Rattle.yw_journal.proofs.Contents.{same_frame}
 use Rattle.yw_state.specs.State.{State, opening}
 use Rattle.yw_serve.specs.Damage.{EntryLeads, HoldNow, IsDamagedNow, IsDamagedWithin, damage_or, heads_damage, later_damage, meaning}
 use Rattle.yw_serve.specs.Opening.{AnswersDamage, AnswersState, IsClosedHere, IsCutHere, IsOpened}
-use Rattle.yw_serve.specs.declared.opening.OpenFault.{OpenFault}
-use Rattle.yw_serve.specs.declared.opening.OpenFault.TheVariants.{Damaged}
+use Rattle.yw_serve.specs.declared.opening.StartFault.{StartFault}
+use Rattle.yw_serve.specs.declared.opening.StartFault.TheVariants.{Damaged}
 use Rattle.yw_serve.specs.Session.{server_state}
 use Rattle.yw_serve.specs.declared.server.Server.{Server}
 use Rattle.yw_serve.proofs.OpenEntries.{leads_once}
@@ -289,21 +288,21 @@ damaged_once i f g p q (inr a) (inr b) =
     sizes r t e = omega (arith, ap length r.split, ap length t.split, length-append r.opened r.tail, length-append t.opened t.tail, ap length e)
 
 -- what an answer says of the state held and of the damage
-module _ (i j : Image) (result : Result Server OpenFault) (P : Type 0) (known : P) (ok : IfOk result (λ server. P → IsOpened server i j))
+module _ (i j : Image) (result : Result Server StartFault) (P : Type 0) (known : P) (ok : IfOk result (λ server. P → IsOpened server i j))
     (bad : (f : File) (place : ℕ) → result ≡ Err (Damaged f place) → IsDamagedNow i f place) where
-  opened_then : (r : Result Server OpenFault) (server : Server) → result ≡ r → r ≡ Ok server → IsOpened server i j
-  opened_then r server e is = let F : Result Server OpenFault → Type 0 = λ r. IfOk r (λ server. P → IsOpened server i j) in subst F (e ∙ is) ok known
+  opened_then : (r : Result Server StartFault) (server : Server) → result ≡ r → r ≡ Ok server → IsOpened server i j
+  opened_then r server e is = let F : Result Server StartFault → Type 0 = λ r. IfOk r (λ server. P → IsOpened server i j) in subst F (e ∙ is) ok known
 
   pub answers_state : (c : Content) (s : State) → HoldNow c s i → AnswersState s result
   answers_state c s h = by result refl
     where
-      by : (r : Result Server OpenFault) → result ≡ r → AnswersState s r
+      by : (r : Result Server StartFault) → result ≡ r → AnswersState s r
       by (Ok server) e = let o = opened_then (Ok server) server e refl in held_once i o.before c (server_state server) s o.held h
       by (Err fault) e = λ f place is. held_or_damaged i c s f place h (bad f place (e ∙ ap Err is))
 
   pub answers_damage : (f : File) (place : ℕ) → IsDamagedNow i f place → AnswersDamage f place result
   answers_damage f place d = by result refl
     where
-      by : (r : Result Server OpenFault) → result ≡ r → AnswersDamage f place r
+      by : (r : Result Server StartFault) → result ≡ r → AnswersDamage f place r
       by (Ok server) e = let o = opened_then (Ok server) server e refl in held_or_damaged i o.before (server_state server) f place o.held d
       by (Err fault) e = λ g other is. damaged_once i g f other place (bad g other (e ∙ ap Err is)) d

@@ -7,21 +7,21 @@ use Rattle.yw_outside.specs.Moments.{IsSettled}
 use Rattle.yw_outside.specs.Since.{LeavesOnly}
 use Rattle.yw_journal.proofs.Passing.{and_then, weakened}
 use Rattle.yw_serve.specs.Opening.{HasFaultCause, IsUnsynced, LeftAfterSyncs, OnlyLooked, OpenFaults, OpensBy}
-use Rattle.yw_serve.specs.declared.opening.OpenFault.{OpenFault}
-use Rattle.yw_serve.specs.declared.opening.OpenFault.TheVariants.{Disk, Damaged, Memory}
+use Rattle.yw_serve.specs.declared.opening.StartFault.{StartFault}
+use Rattle.yw_serve.specs.declared.opening.StartFault.TheVariants.{Disk, Damaged, Memory}
 use Rattle.yw_serve.specs.Window.{IsAtHand, Shows}
 use Rattle.yw_serve.specs.declared.window.Window.{Window}
 use Rattle.yw_outside.specs.declared.desk.Desk.{Ghosts}
 
 -- a fault of a later part is one of the whole
-pub fault_further : {X : Type 0} (found : X → File → ℕ → Type 0) (whole : File → ℕ → Type 0) (before mid now : ℕ) (fault : OpenFault) → ((x : X) → HasFaultCause (found x) mid now fault) → X
+pub fault_further : {X : Type 0} (found : X → File → ℕ → Type 0) (whole : File → ℕ → Type 0) (before mid now : ℕ) (fault : StartFault) → ((x : X) → HasFaultCause (found x) mid now fault) → X
     → ((f : File) (place : ℕ) → ((x : X) → found x f place) → whole f place) → mid ≡ before → HasFaultCause whole before now fault
 fault_further found whole before mid now Disk cause x here same = subst (λ (n : ℕ). Rose n now) same (cause x)
 fault_further found whole before mid now (Damaged f place) cause x here same = (here f place (λ y. (cause y).0), (cause x).1 ∙ same)
 fault_further found whole before mid now Memory cause x here same = cause x ∙ same
 
 -- the count of an opening after calls that didn't fail
-pub open_faults : {D T : Type 0} (g : Ghosts D) (found : File → ℕ → Type 0) (old new : D) (before : ℕ) (result : Result T OpenFault) → before ≡ g.disk_faults old
+pub open_faults : {D T : Type 0} (g : Ghosts D) (found : File → ℕ → Type 0) (old new : D) (before : ℕ) (result : Result T StartFault) → before ≡ g.disk_faults old
     → MatchResult result (λ v. g.disk_faults new ≡ before) (HasFaultCause found before (g.disk_faults new)) → OpenFaults g result old new
 open_faults g found old new before (Ok v) same cause = cause ∙ same
 open_faults g found old new before (Err Disk) same cause = subst (λ (n : ℕ). Rose n (g.disk_faults new)) same cause

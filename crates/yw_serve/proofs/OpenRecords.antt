@@ -4,7 +4,7 @@ use Rattle.std.proofs.lemmas.List.{append-nil, drop-drop}
 use Rattle.yw_journal.proofs.Appending.{AreOpen-push}
 use Rattle.yw_outside.specs.declared.desk.File.TheVariants.{A}
 use Rattle.yw_journal.specs.Files.{Meaning, LeadsTo, Reaches, head_of, snapshot_of, snapshot_size_of}
-use Rattle.yw_journal.specs.Records.{IsFrame, AreOpen, IsAt}
+use Rattle.yw_journal.specs.Records.{IsFrame, IsAt}
 use Rattle.yw_state.specs.State.{State, opening}
 use Rattle.yw_serve.specs.Damage.{EntryLeads, IsSnapshot, meaning}
 use Rattle.yw_serve.specs.Opening.{IsClosedHere, IsCutHere, IsDamagedAt, IsOpenHere, IsReached}

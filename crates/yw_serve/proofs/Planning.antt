@@ -1,15 +1,14 @@
 -- Plans that answer a command, a line.
-use Rattle.std.proofs.Common.{◌≡◌, ℕ, List, [], ◌∷◌, Option, None, Some, Result, Ok, Err, refl, sym, subst}
+use Rattle.std.proofs.Common.{◌≡◌, ℕ, List, [], ◌∷◌, Option, None, Some, Ok, Err, refl, sym, subst}
 use Rattle.yw_journal.specs.Records.{IsFramed}
 use Rattle.yw_lines.specs.Meaning.{meaning}
 use Rattle.yw_lines.specs.Replies.{done_line, refused_line}
 use Rattle.yw_model.proofs.Answering.{answers_by}
-use Rattle.yw_model.specs.Run.{Answers, Entry, Step, built_words, MeaningAnswers}
+use Rattle.yw_model.specs.Run.{Entry, Step, built_words}
 use Rattle.yw_model.specs.Texts.{reader}
 use Rattle.yw_state.specs.Broken.{Breaks, placeless}
 use Rattle.yw_state.specs.Legal.{IsLegal}
 use Rattle.yw_state.specs.State.{State}
-use Rattle.yw_state.specs.declared.command.Asked.{Asked}
 use Rattle.yw_state.specs.declared.command.Asked.TheVariants as asked
 use Rattle.yw_state.specs.declared.command.Command.{Command}
 use Rattle.yw_state.specs.declared.command.Query.{Query}

@@ -11,5 +11,5 @@ pub mod Opening
 pub mod Notices
 pub mod Served
 pub mod Headline
-pub mod Checked
+pub mod Judging
 pub mod Faults

@@ -18,8 +18,8 @@ use Rattle.yw_state.specs.State.{State, opening}
 use Rattle.yw_state.specs.declared.event.Event.{Event}
 use Rattle.yw_serve.specs.Damage.{EntryLeads, HoldNow, IsDamagedNow, heads_damage, meaning}
 use Rattle.yw_serve.specs.declared.header.Head.{Head}
-use Rattle.yw_serve.specs.declared.opening.OpenFault.{OpenFault}
-use Rattle.yw_serve.specs.declared.opening.OpenFault.TheVariants.{Disk, Damaged, Memory}
+use Rattle.yw_serve.specs.declared.opening.StartFault.{StartFault}
+use Rattle.yw_serve.specs.declared.opening.StartFault.TheVariants.{Disk, Damaged, Memory}
 use Rattle.yw_serve.specs.declared.opening_entries.GateByte.{GateByte}
 use Rattle.yw_serve.specs.declared.opening_entries.GateByte.TheVariants.{Closed, Open, Cut}
 use Rattle.yw_serve.specs.declared.opening_entries.Tail.{Tail}
@@ -37,21 +37,21 @@ pub record OnlyLooked {D : Type 0} (g : Ghosts D) (old new : D) : Type 0 where
   pub say : g.say_faults new ≡ g.say_faults old
 
 -- Why the opening fails: a call of the files failed, or this damage was found, or no memory was left, and no call had failed.
-abbrev pub HasFaultCause : (File → ℕ → Type 0) → ℕ → ℕ → OpenFault → Type 0
+abbrev pub HasFaultCause : (File → ℕ → Type 0) → ℕ → ℕ → StartFault → Type 0
 HasFaultCause found before now Disk = Rose before now
 HasFaultCause found before now (Damaged f place) = found f place × (now ≡ before)
 HasFaultCause found before now Memory = now ≡ before
 
 -- under Ok no call of the files failed, and an Err has its cause, by the counts of these desks' faults
-abbrev pub HasOpenCause : {D T : Type 0} → Ghosts D → Result T OpenFault → (File → ℕ → Type 0) → D → D → Type 0
+abbrev pub HasOpenCause : {D T : Type 0} → Ghosts D → Result T StartFault → (File → ℕ → Type 0) → D → D → Type 0
 HasOpenCause g result found old new = MatchResult result (λ v. g.disk_faults new ≡ g.disk_faults old) (HasFaultCause found (g.disk_faults old) (g.disk_faults new))
 
 -- this holds of each damage that is answered
-abbrev pub OnDamage : {T : Type 0} → Result T OpenFault → (File → ℕ → Type 0) → Type 0
+abbrev pub OnDamage : {T : Type 0} → Result T StartFault → (File → ℕ → Type 0) → Type 0
 OnDamage result P = (f : File) (place : ℕ) → result ≡ Err (Damaged f place) → P f place
 
 -- how the count of the files' faults stands after an opening: it rose under Disk, and is what it was else
-abbrev pub OpenFaults : {D T : Type 0} → Ghosts D → Result T OpenFault → D → D → Type 0
+abbrev pub OpenFaults : {D T : Type 0} → Ghosts D → Result T StartFault → D → D → Type 0
 OpenFaults g (Ok server) old new = g.disk_faults new ≡ g.disk_faults old
 OpenFaults g (Err Disk) old new = Rose (g.disk_faults old) (g.disk_faults new)
 OpenFaults g (Err (Damaged f place)) old new = g.disk_faults new ≡ g.disk_faults old
@@ -191,11 +191,11 @@ pub record IsOpened (server : Server) (i j : Image) : Type 0 where
   pub said : j.said ≡ i.said
 
 -- This state is opened, or else no damage is named.
-abbrev pub AnswersState : State → Result Server OpenFault → Type 0
+abbrev pub AnswersState : State → Result Server StartFault → Type 0
 AnswersState s result = MatchResult result (λ server. server_state server ≡ s) (λ fault. (f : File) (place : ℕ) → fault ≢ Damaged f place)
 
 -- No state is opened, and a damage that is named is this one.
-abbrev pub AnswersDamage : File → ℕ → Result Server OpenFault → Type 0
+abbrev pub AnswersDamage : File → ℕ → Result Server StartFault → Type 0
 AnswersDamage f place result = MatchResult result (λ server. ⊥) (λ fault. (g : File) (other : ℕ) → fault ≡ Damaged g other → (g ≡ f) × (other ≡ place))
 
 -- what is opened is so of what the desk holds, where it tells that
@@ -203,9 +203,9 @@ abbrev pub IsOpenedAt : {D : Type 0} → Ghosts D → Server → D → D → Typ
 IsOpenedAt g server old new = IsTrue (g.tells old) → IsOpened server (g.state old) (g.state new)
 
 -- a state that the files hold is the one that is opened
-abbrev pub HeldIsAnswered : Image → Result Server OpenFault → Type 0
+abbrev pub HeldIsAnswered : Image → Result Server StartFault → Type 0
 HeldIsAnswered i result = (c : Content) (s : State) → HoldNow c s i → AnswersState s result
 
 -- a damage of the files is the one that is named
-abbrev pub DamageIsAnswered : Image → Result Server OpenFault → Type 0
+abbrev pub DamageIsAnswered : Image → Result Server StartFault → Type 0
 DamageIsAnswered i result = (f : File) (place : ℕ) → IsDamagedNow i f place → AnswersDamage f place result

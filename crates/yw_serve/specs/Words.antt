@@ -27,14 +27,24 @@ IsRun words limit =
     ((map string_bytes words ≡ codes "run" ∷ []) × (limit ≡ greatest_limit))
     ⊎ ((text : List ℕ) × (map string_bytes words ≡ codes "run" ∷ codes "--limit" ∷ text ∷ []) × IsLimit text limit)
 
--- `check`, and nothing after it
+-- one word, and nothing after it
+abbrev pub IsWord : List ℕ → List (String Global) → Type 0
+IsWord word words = map string_bytes words ≡ word ∷ []
+
 abbrev pub IsCheck : List (String Global) → Type 0
-IsCheck words = map string_bytes words ≡ codes "check" ∷ []
+IsCheck = IsWord (codes "check")
+
+abbrev pub IsProve : List (String Global) → Type 0
+IsProve = IsWord (codes "prove")
+
+-- the words judge one text
+abbrev pub IsJudging : List (String Global) → Type 0
+IsJudging words = IsCheck words ⊎ IsProve words
 
 -- where the desk tells what it holds and the words are `run`, for the limit that they give and the bytes that the source has
 abbrev pub OnRun : Bool → List (String Global) → Option (List ℕ) → (ℕ → List ℕ → Type 0) → Type 0
 OnRun tells words input P = IsTrue tells → (limit : ℕ) (bytes : List ℕ) → IsRun words limit → input ≡ Some bytes → P limit bytes
 
--- where the words are `check`, for the bytes that the source has
-abbrev pub OnCheck : List (String Global) → Option (List ℕ) → (List ℕ → Type 0) → Type 0
-OnCheck words input P = (bytes : List ℕ) → IsCheck words → input ≡ Some bytes → P bytes
+-- where the words are this one, for the bytes that the source has
+abbrev pub OnWord : List ℕ → List (String Global) → Option (List ℕ) → (List ℕ → Type 0) → Type 0
+OnWord word words input P = (bytes : List ℕ) → IsWord word words → input ≡ Some bytes → P bytes

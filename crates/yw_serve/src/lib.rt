@@ -3,8 +3,8 @@
 #![tactic(auto)]
 
 mod answer;
-mod check;
 mod header;
+mod judging;
 mod laws;
 mod notice;
 mod opening;
@@ -18,8 +18,8 @@ mod top;
 mod window;
 mod words;
 
-pub use laws::{damaged_once, entry_once, held_once, held_or_damaged};
-pub use opening::OpenFault;
+pub use laws::{answered_line_is_held, damaged_once, entry_once, held_once, held_or_damaged};
+pub use opening::StartFault;
 pub use run::INPUT_LIMIT;
 pub use server::{Server, Stop};
 pub use top::{Status, serve};

@@ -20,7 +20,7 @@ use yw_outside::{Desk, Failed, File};
 
 /// Why a server isn't started.
 #[derive(Clone, Copy, Debug, Error, PartialEq, Eq)]
-pub enum OpenFault {
+pub enum StartFault {
     /// A call of the desk's files failed.
     #[error("a call of the files failed")]
     Disk,
@@ -32,25 +32,25 @@ pub enum OpenFault {
     Memory,
 }
 
-impl From<Failed> for OpenFault {
+impl From<Failed> for StartFault {
     ghost use Rattle.std.specs.Prelude.{◌≡◌};
-    ghost use Rattle.yw_serve.specs.declared.opening.OpenFault.TheVariants.{Disk};
+    ghost use Rattle.yw_serve.specs.declared.opening.StartFault.TheVariants.{Disk};
 
     ghost from_gives = { λ _ e. e ≡ Disk };
 
-    fn from(_: Failed) -> OpenFault {
-        OpenFault::Disk
+    fn from(_: Failed) -> StartFault {
+        StartFault::Disk
     }
 }
 
-impl From<AllocError> for OpenFault {
+impl From<AllocError> for StartFault {
     ghost use Rattle.std.specs.Prelude.{◌≡◌};
-    ghost use Rattle.yw_serve.specs.declared.opening.OpenFault.TheVariants.{Memory};
+    ghost use Rattle.yw_serve.specs.declared.opening.StartFault.TheVariants.{Memory};
 
     ghost from_gives = { λ _ e. e ≡ Memory };
 
-    fn from(_: AllocError) -> OpenFault {
-        OpenFault::Memory
+    fn from(_: AllocError) -> StartFault {
+        StartFault::Memory
     }
 }
 
@@ -95,7 +95,7 @@ fn heads_fault(a: &Option<Head>, b: &Option<Head>) -> Option<(File, u64)>
 }
 
 /// Looks at the headers of both files. It answers the head of a live file A, or `None` where no file is live.
-fn choose<D: Desk>(desk: &mut D) -> Result<Option<Head>, OpenFault>
+fn choose<D: Desk>(desk: &mut D) -> Result<Option<Head>, StartFault>
     ensures chosen { IsTrue (D.tells desk.old) → IfOk result (IsChosen (D.state desk.old)) }
     ensures size { IfOk result (λ found. IfSome found IsSized) }
     ensures counted { IfOk result (λ found. IfSome found (λ head. count_of head.bytes ≤ greatest)) }
@@ -106,7 +106,7 @@ fn choose<D: Desk>(desk: &mut D) -> Result<Option<Head>, OpenFault>
     let a = read_head(desk, File::A)?;
     let b = read_head(desk, File::B)?;
     match heads_fault(&a, &b) {
-        Some((f, place)) => Err(OpenFault::Damaged(f, place)),
+        Some((f, place)) => Err(StartFault::Damaged(f, place)),
         None => Ok(a),
     }
 }
@@ -118,7 +118,7 @@ fn resume<D: Desk>(
     piece: &mut [u8],
     desk: &mut D,
     head: &Head,
-) -> Result<Server, OpenFault>
+) -> Result<Server, StartFault>
     requires limit { limit ≤ 2 ^ 62 }
     requires room { 5 ≤ length piece.old }
     requires size { IsSized head.now }
@@ -147,7 +147,7 @@ fn resume<D: Desk>(
 }
 
 /// Makes file A, where no file is live.
-fn begin<D: Desk>(alloc: Global, limit: u64, desk: &mut D) -> Result<Server, OpenFault>
+fn begin<D: Desk>(alloc: Global, limit: u64, desk: &mut D) -> Result<Server, StartFault>
     requires some { 64 ≤ limit }
     requires limit { limit ≤ 2 ^ 62 }
     requires chosen { IsTrue (D.tells desk.old) → IsChosen (D.state desk.old) None }
@@ -167,7 +167,7 @@ fn begin<D: Desk>(alloc: Global, limit: u64, desk: &mut D) -> Result<Server, Ope
             let engine = Engine::opening(alloc);
             Ok(Server::new(alloc, engine, journal))
         }
-        Err(AppendFault::Disk) => Err(OpenFault::Disk),
+        Err(AppendFault::Disk) => Err(StartFault::Disk),
         Err(AppendFault::Full(_)) => unreachable!(),
     }
 }
@@ -187,7 +187,7 @@ impl Server {
         limit: u64,
         piece: &mut [u8],
         desk: &mut D,
-    ) -> Result<Server, OpenFault>
+    ) -> Result<Server, StartFault>
         requires some { 64 ≤ limit }
         requires room { 5 ≤ length piece.old }
         requires limit { limit ≤ 2 ^ 62 }
@@ -201,7 +201,7 @@ impl Server {
         // A crash before the syncs leaves what it might have left at the start, and after them the files as they are, or the
         // file being begun.
         ensures any_moment { IsTrue (D.tells desk.old) → OpensBy D.Desk desk.old desk.new
-            ⊎ ((result ≡ Err OpenFault.Disk) × IsUnsynced D.Desk desk.old desk.new) }
+            ⊎ ((result ≡ Err StartFault.Disk) × IsUnsynced D.Desk desk.old desk.new) }
         ensures said { IsTrue (D.tells desk.old)
             → (D.state desk.new).said ≡ (D.state desk.old).said }
 

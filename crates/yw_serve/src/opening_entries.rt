@@ -1,5 +1,5 @@
 // The entries of file A, one gate after another.
-ghost use Rattle.std.specs.Prelude.{◌≡◌, ◌≤◌, ◌<◌, ◌+◌, ◌^◌, [], List, ℕ, IsTrue, IfOk, OnOk, IfSome, Some, None, length, drop, true};
+ghost use Rattle.std.specs.Prelude.{◌≡◌, ◌≤◌, ◌<◌, ◌+◌, ◌^◌, [], List, ℕ, IsTrue, IfOk, IsErr, OnOk, IfSome, Some, None, length, drop, true};
 ghost use Rattle.std.specs.List.{list_all};
 ghost use Rattle.yw_built.specs.Built.{is_built};
 ghost use Rattle.yw_engine.specs.Held as held;
@@ -7,7 +7,7 @@ ghost use Rattle.yw_outside.specs.Causes.{HasCause};
 ghost use Rattle.yw_serve.specs.Opening.{AreApplied, EndsAt, EntryIsApplied, HasOpenCause, IsApplied, IsDamagedFrom, IsReached, OnlyLooked, ReachesNext, StandsHere, record_at};
 ghost use Rattle.yw_serve.specs.Window.{IsAtHand, LeavesAtHand};
 
-use crate::opening::OpenFault;
+use crate::opening::StartFault;
 use crate::window::{Window, part, reach};
 use std::alloc::{AllocError, Global};
 use yw_codec::{CodecFault, read_entry};
@@ -82,7 +82,12 @@ fn short_gate_at<D: Desk>(desk: &mut D, len: u64, at: u64) -> Result<GateByte, F
 }
 
 /// The record of so many bytes after the gate at this offset.
-fn record_at<D: Desk>(alloc: Global, desk: &mut D, at: u64, size: u32) -> Result<Vec<u8>, OpenFault>
+fn record_at<D: Desk>(
+    alloc: Global,
+    desk: &mut D,
+    at: u64,
+    size: u32,
+) -> Result<Vec<u8>, StartFault>
     requires within { IsTrue (D.tells desk.old) → at + 5 + size ≤ length (D.state desk.old).a }
     requires fits { at + 5 < 2 ^ 64 }
     ensures bytes { IfOk result (λ bytes. IsTrue (D.tells desk.old)
@@ -95,11 +100,12 @@ fn record_at<D: Desk>(alloc: Global, desk: &mut D, at: u64, size: u32) -> Result
     Ok(bytes)
 }
 
-/// Whether an event is allowed. The engine is then that after it. An `Err` says that no memory was left.
+/// Whether an event is allowed. The engine is then that after it. An `Err` says that no memory was left, and the engine is spent then.
 fn apply_event(engine: &mut Engine, event: Event) -> Result<bool, AllocError>
     requires { is_built event ≡ true }
-    ensures { IfOk result (λ allowed.
+    ensures applied { IfOk result (λ allowed.
         IsApplied (held.state_of engine.old) event allowed (held.state_of engine.new)) }
+    ensures spent { IsErr result → engine.new.spent ≡ true }
 {
     match engine.apply(event) {
         Ok(()) => Ok(true),
@@ -109,11 +115,12 @@ fn apply_event(engine: &mut Engine, event: Event) -> Result<bool, AllocError>
     }
 }
 
-/// Whether each event is allowed in its turn. The engine is then that after all.
+/// Whether each event is allowed in its turn. The engine is then that after all, and spent at an `Err`.
 fn apply_events(engine: &mut Engine, events: Vec<Event>) -> Result<bool, AllocError>
     requires { list_all is_built events.items ≡ true }
-    ensures { IfOk result (λ allowed.
+    ensures applied { IfOk result (λ allowed.
         AreApplied (held.state_of engine.old) events.items allowed (held.state_of engine.new)) }
+    ensures spent { IsErr result → engine.new.spent ≡ true }
 {
     for event in events {
         if !apply_event(engine, event)? {
@@ -152,7 +159,7 @@ fn apply_record<D: Desk>(
     at: u64,
     size: u32,
     engine: &mut Engine,
-) -> Result<bool, OpenFault>
+) -> Result<bool, StartFault>
     requires bound { len < 2 ^ 63 }
     requires within { at + 5 + size ≤ len }
     requires at_hand { IsAtHand D.Desk desk.old len window.old piece.old }
@@ -183,7 +190,7 @@ fn next_entry<D: Desk>(
     len: u64,
     at: u64,
     engine: &mut Engine,
-) -> Result<Option<u64>, OpenFault>
+) -> Result<Option<u64>, StartFault>
     requires bound { len < 2 ^ 63 }
     requires room { 5 ≤ length piece.old }
     requires within { at ≤ len }
@@ -200,12 +207,12 @@ fn next_entry<D: Desk>(
 {
     match gate_at(window, piece, desk, len, at)? {
         GateByte::Closed => Ok(None),
-        GateByte::Cut => Err(OpenFault::Damaged(File::A, at)),
+        GateByte::Cut => Err(StartFault::Damaged(File::A, at)),
         GateByte::Open(size) => {
             if apply_record(alloc, window, piece, desk, len, at, size, engine)? {
                 Ok(Some(at + 5 + u64::from(size)))
             } else {
-                Err(OpenFault::Damaged(File::A, at))
+                Err(StartFault::Damaged(File::A, at))
             }
         }
     }
@@ -225,7 +232,7 @@ pub fn read_entries<D: Desk>(
     desk: &mut D,
     len: u64,
     engine: &mut Engine,
-) -> Result<Tail, OpenFault>
+) -> Result<Tail, StartFault>
     requires len { IsTrue (D.tells desk.old) → len ≡ length (D.state desk.old).a }
     requires bound { len < 2 ^ 63 }
     requires room { 5 ≤ length piece.old }

@@ -1,5 +1,5 @@
 // The top call.
-ghost use Rattle.std.specs.Prelude.{◌≡◌, ◌≢◌, ◌≤◌, ◌<◌, ◌^◌, ◌↔◌, ◌⊎◌, ℕ, List, length, true, Some, IsErr, IsTrue, MatchResult, string_bytes};
+ghost use Rattle.std.specs.Prelude.{◌≡◌, ◌≢◌, ◌≤◌, ◌<◌, ◌^◌, ◌↔◌, ◌⊎◌, ℕ, List, length, true, Some, IsErr, IsTrue, MatchResult, codes, string_bytes};
 ghost use Rattle.std.specs.declared.option.Option.{Option};
 ghost use Rattle.yw_serve.specs.Ends.{EndsAs, EndsShort};
 ghost use Rattle.yw_outside.specs.Causes.{Rose};
@@ -16,29 +16,30 @@ ghost use Rattle.yw_serve.specs.Headline.{HoldsPrefix, LeavesFromSyncs, Serves};
 ghost use Rattle.yw_serve.specs.Notices.{damage_line, full_line};
 ghost use Rattle.yw_serve.specs.Served.{Ended, IsOfRun, IsTold, IsUnfailed, RunEnds};
 ghost use Rattle.yw_serve.specs.Session.{server_state};
-ghost use Rattle.yw_serve.specs.Words.{IsCheck, IsRun, OnCheck, OnRun};
-ghost use Rattle.yw_serve.specs.Checked.{Checks, IsOfCheck, Judges};
-ghost use Rattle.yw_verdict.specs.declared.finding.Finding.{Finding};
-ghost use Rattle.yw_verdict.specs.Ends.{KeepsFiles};
-ghost use Rattle.yw_verdict.specs.Found.{IsFound};
+ghost use Rattle.yw_serve.specs.Words.{IsJudging, IsRun, OnRun, OnWord};
+ghost use Rattle.yw_serve.specs.Judging.{IsOfJudging, Judges, TellsFound};
+ghost use Rattle.yw_judge.specs.Ends.{KeepsFiles};
 
-use crate::check::serve_check;
+use crate::judging::serve_judging;
 use crate::notice::{write_damage, write_full};
-use crate::opening::OpenFault;
+use crate::opening::StartFault;
 use crate::run::{Ending, INPUT_LIMIT, run};
 use crate::server::{Server, Stop, tell};
 use crate::session::Session;
-use crate::words::{file_limit, is_check};
+use crate::words::{file_limit, is_word};
 use std::alloc::{AllocError, Global};
 use yw_base::Bytes;
+use yw_judge::Judgement;
 use yw_outside::{Desk, File, Source, new_piece};
+use yw_proof::ProofFinding;
+use yw_verdict::Finding;
 
 /// How the program ends. The program's exit status is the number, from 0.
 #[derive(Clone, Copy, Debug, PartialEq, Eq)]
 pub enum Status {
-    /// The input was read to its end, and every line answered; or the text that was checked is accepted.
+    /// The input was read to its end, and every line answered; or what is found of the one text is a yes.
     Ok,
-    /// The text that was checked isn't accepted, and the line that says why was said.
+    /// What is found of the one text is a no, and the line that says why was said.
     Findings,
     /// The words have none of the forms. Nothing was read, said or written.
     Usage,
@@ -186,9 +187,9 @@ fn serve_files<S: Source, D: Desk>(
     };
     match Server::start(alloc, limit, &mut piece, desk) {
         Ok(server) => serve_lines(alloc, server, &mut piece, source, desk),
-        Err(OpenFault::Disk) => Status::Disk,
-        Err(OpenFault::Memory) => Status::Memory,
-        Err(OpenFault::Damaged(file, place)) => tell_damage(alloc, file, place, desk),
+        Err(StartFault::Disk) => Status::Disk,
+        Err(StartFault::Memory) => Status::Memory,
+        Err(StartFault::Damaged(file, place)) => tell_damage(alloc, file, place, desk),
     }
 }
 
@@ -199,14 +200,17 @@ fn serve_files<S: Source, D: Desk>(
 /// entries are a run over the lines, as `yw_model` defines it, from the state on that the files held.
 ///
 /// Or the words are `check`: the source gives the TOML text of one specification, and one line says whether it is
-/// accepted, or else the first fault, as `judge_input` of `yw_verdict` says it. No file is touched.
+/// accepted, or else the first fault, as `Finding` of `yw_verdict` says it. No file is touched.
+///
+/// Or the words are `prove`: the source gives one text in JSON with a specification and weights of one of its nets, and one line says whether
+/// they are a certificate that the net completes properly, or else the first fault, as `ProofFinding` of `yw_proof` says it. No file is touched.
 ///
 /// It answers `Usage` exactly where the words are others, and then calls neither source nor desk; `Disk` only
 /// where a call of the files failed, `Read` only where one of the source did, `Write` only where a say did;
 /// `Damaged` only where the synced files hold no state, and there unless a call of the files failed, no memory was
 /// left or the line couldn't be said; `Full` only where an entry would end past N, and no entry is taken that does;
-/// `InputLimit` only where more than `INPUT_LIMIT` bytes came; `Findings` only where a text isn't accepted that was
-/// checked; `Memory` where no memory was left; and no other status but `Ok`. No failed call is passed over: under
+/// `InputLimit` only where more than `INPUT_LIMIT` bytes came; `Findings` only where a text that is judged isn't
+/// accepted; `Memory` where no memory was left; and no other status but `Ok`. No failed call is passed over: under
 /// `Disk`, `Read` and `Write` only calls of that kind have failed, and under each other status none has.
 pub fn serve<S: Source, D: Desk>(
     alloc: Global,
@@ -238,9 +242,9 @@ pub fn serve<S: Source, D: Desk>(
     ensures faults { StatusFaults D.Desk result (S.faults source.old) (S.faults source.new)
         desk.old desk.new }
     ensures of_run { (limit : ℕ) → IsRun words.now limit → IsOfRun result }
-    ensures of_check { IsCheck words.now → IsOfCheck result }
+    ensures of_judging { IsJudging words.now → IsOfJudging result }
     ensures usage { (result ≡ Status.Usage)
-        ↔ (((limit : ℕ) → ¬ (IsRun words.now limit)) × ¬ (IsCheck words.now)) }
+        ↔ (((limit : ℕ) → ¬ (IsRun words.now limit)) × ¬ (IsJudging words.now)) }
     ensures usage_calls_nothing { result ≡ Status.Usage
         → (source.new ≡ source.old) × (desk.new ≡ desk.old) }
 
@@ -256,12 +260,20 @@ pub fn serve<S: Source, D: Desk>(
         → KeepsCounts D.Desk desk.old desk.new }
 
     // A text that is checked has the verdict that is said, and no other; also where the desk doesn't tell what was said.
-    ensures checks { IsTrue (D.tells desk.old) → OnCheck words.now (S.left source.old) (λ bytes.
-        Checks D.Desk result bytes (S.left source.new) desk.old desk.new) }
-    ensures judges { OnCheck words.now (S.left source.old) (λ bytes.
-        (finding : Finding) → IsFound bytes finding → Judges finding result) }
-    ensures check_keeps_files { IsCheck words.now → KeepsFiles D.Desk desk.old desk.new }
-    ensures check_complete { IsCheck words.now
+    ensures checks { IsTrue (D.tells desk.old)
+        → OnWord (codes "check") words.now (S.left source.old) (λ bytes.
+        Judges D.Desk ⟦<Finding as Judgement>⟧ result bytes (S.left source.new) desk.old desk.new) }
+    ensures check_tells { OnWord (codes "check") words.now (S.left source.old) (λ bytes.
+        TellsFound ⟦<Finding as Judgement>⟧ bytes result) }
+
+    // So has a text that gives a certificate: it is a yes exactly where the weights are one.
+    ensures proves { IsTrue (D.tells desk.old)
+        → OnWord (codes "prove") words.now (S.left source.old) (λ bytes.
+        Judges D.Desk ⟦<ProofFinding as Judgement>⟧ result bytes (S.left source.new) desk.old desk.new) }
+    ensures proof_tells { OnWord (codes "prove") words.now (S.left source.old) (λ bytes.
+        TellsFound ⟦<ProofFinding as Judgement>⟧ bytes result) }
+    ensures judging_keeps_files { IsJudging words.now → KeepsFiles D.Desk desk.old desk.new }
+    ensures judging_completes { IsJudging words.now
         → ¬ (Rose (S.faults source.old) (S.faults source.new))
         → ¬ (Rose (D.say_faults desk.old) (D.say_faults desk.new))
         → (result ≡ Status.Ok) ⊎ (result ≡ Status.Findings) ⊎ (result ≡ Status.Memory) }
@@ -269,8 +281,11 @@ pub fn serve<S: Source, D: Desk>(
     if let Some(limit) = file_limit(words) {
         return serve_files(alloc, limit, source, desk);
     }
-    if is_check(words) {
-        return serve_check(alloc, source, desk);
+    if is_word(words, "check") {
+        return serve_judging::<Finding, S, D>(alloc, source, desk);
+    }
+    if is_word(words, "prove") {
+        return serve_judging::<ProofFinding, S, D>(alloc, source, desk);
     }
     Status::Usage
 }

@@ -1,6 +1,6 @@
 // The program's words.
 ghost use Rattle.std.specs.Prelude.{◌≡◌, ◌↔◌, ◌≤◌, ◌<◌, ◌^◌, ◌∷◌, [], ℕ, map, codes, IfSome, IsNone, IsTrue, string_bytes};
-ghost use Rattle.yw_serve.specs.Words.{Spells, IsCheck, IsLimit, IsRun};
+ghost use Rattle.yw_serve.specs.Words.{Spells, IsLimit, IsRun, IsWord};
 
 const LEAST_LIMIT: u64 = 64;
 
@@ -58,12 +58,12 @@ pub fn file_limit(words: &[String]) -> Option<u64>
     }
 }
 
-/// The words are `check` alone.
-pub fn is_check(words: &[String]) -> bool
-    ensures { IsTrue result ↔ IsCheck words.now }
+/// The words are this one alone.
+pub fn is_word(words: &[String], wanted: &str) -> bool
+    ensures { IsTrue result ↔ IsWord wanted.now words.now }
 {
     match words {
-        [word] => word.as_str() == "check",
+        [word] => word.as_str() == wanted,
         _ => false,
     }
 }

@@ -1,37 +1,19 @@
--- What is found of a text is found once, and is found of its front.
-use Rattle.std.proofs.Common.{◌≡◌, ℕ, ◌+◌, ◌≤◌, List, length, take, None, Some, Result, Ok, Err, inl, inr, refl, sym, ap, ◌∙◌, subst, arith, length-take}
+-- What is found of a text, by what it says.
+use Rattle.std.proofs.Common.{◌≡◌, ℕ, List, None, Some, Result, Ok, Err, refl, sym, ◌∙◌, subst}
 use Rattle.std.specs.Prelude.{true, false, if◌then◌else◌}
 use Rattle.std.specs.Str.{IsUtf8, is_utf8}
-use Rattle.std.proofs.lemmas.List.{take_all}
 use Rattle.std.proofs.lemmas.Str.{is_utf8-from_IsUtf8, IsUtf8-from_is_utf8}
 use Rattle.yw_read.specs.Reading.{spec_in}
 use Rattle.yw_read.specs.declared.raw.RawSpec.{RawSpec}
 use Rattle.yw_read.specs.declared.raw.ReadFault.{ReadFault}
 use Rattle.yw_read.specs.declared.raw.ReadFault.TheVariants.{NotToml}
-use Rattle.yw_model.specs.Accepted.{document_in}
-use Rattle.yw_model.proofs.ReadingOnce.{judged_once}
+use Rattle.yw_model.specs.Accepted.{document_in, JudgesSaid}
+use Rattle.yw_model.specs.Texts.{ReadsSpec}
+use Rattle.yw_spec.specs.declared.spec.Spec.{Spec}
 use Rattle.yw_state.specs.Broken.{placeless}
 use Rattle.yw_state.specs.declared.rule.Refusal.{Refusal}
 use Rattle.yw_state.specs.declared.rule.Rule.TheVariants.{SpecText}
-use Rattle.yw_verdict.specs.Found.{text_limit, FindsSaid, IsFoundBy}
-use Rattle.yw_verdict.specs.declared.finding.Finding.{Finding}
-use Rattle.yw_verdict.specs.declared.finding.TheConstants.{TEXT_LIMIT}
-use Rattle.yw_verdict.specs.declared.finding.Finding.TheVariants.{Accepted, Refused}
-
-same_ok : (said : Result RawSpec ReadFault) (raw other : RawSpec) → said ≡ Ok raw → said ≡ Ok other → raw ≡ other
-same_ok said raw other e f = cc
-
-same_some : (r q : Refusal) → Some r ≡ Some q → r ≡ q
-same_some r q e = cc
-
-not_both : (r : Refusal) → None ≡ Some r → ⊥
-not_both r e = cc
-
-finds-once : (said : Result RawSpec ReadFault) (f g : Finding) → FindsSaid said f → FindsSaid said g → f ≡ g
-finds-once said (Accepted n) (Accepted m) (j, raw, is, named) (k, other, os, called) = ap Accepted (named ∙ ap (λ (r : RawSpec). r.name) (same_ok said raw other is os) ∙ sym called)
-finds-once said (Accepted n) (Refused q) (j, raw, is, named) k = absurd (not_both q (judged_once said None (Some q) j k))
-finds-once said (Refused r) (Accepted m) j (k, other, os, called) = absurd (not_both r (judged_once said None (Some r) k j))
-finds-once said (Refused r) (Refused q) j k = ap Refused (same_some r q (judged_once said (Some r) (Some q) j k))
+use Rattle.yw_verdict.specs.Found.{finding_of, FindsSaid, SaysSpec}
 
 -- bytes that are UTF-8 say what their text says, and others nothing
 pub document_of_text : (bytes : List ℕ) → IsUtf8 bytes → document_in bytes ≡ spec_in bytes
@@ -46,24 +28,17 @@ document_of_others bytes none =
       | false ↦ λ e. refl
     ] refl
 
-pub no_text : (said : Result RawSpec ReadFault) (f : Finding) → said ≡ Err NotToml → f ≡ Refused (placeless SpecText) → FindsSaid said f
-no_text said f is e =
-    subst (λ (g : Finding). FindsSaid said g) (sym e) (subst (λ (s : Result RawSpec ReadFault). FindsSaid s (Refused (placeless SpecText))) (sym is) refl)
+-- what a text of UTF-8 says, as its document
+pub reads_by : (bytes : List ℕ) (said : Result Spec Refusal) → IsUtf8 bytes → SaysSpec (spec_in bytes) said → ReadsSpec bytes said
+reads_by bytes (Ok spec) u (raw, says, verdict, is_spec) = record { raw = raw; says = document_of_text bytes u ∙ says; accepted = verdict; is_spec = is_spec }
+reads_by bytes (Err refusal) u judged = subst (λ (d : Result RawSpec ReadFault). JudgesSaid d (Some refusal)) (sym (document_of_text bytes u)) judged
 
-pub limit_is : text_limit ≡ TEXT_LIMIT
-unfolding text_limit
-limit_is = refl
+-- what is found where this is said
+pub finds_by : (bytes : List ℕ) (said : Result Spec Refusal) → ReadsSpec bytes said → FindsSaid (document_in bytes) (finding_of said)
+finds_by bytes (Ok spec) a = (subst (λ (d : Result RawSpec ReadFault). JudgesSaid d None) (sym a.says) (None, a.accepted, refl), a.raw, a.says, a.is_spec.name)
+finds_by bytes (Err refusal) judged = judged
 
--- one thing is found of a text
-pub found-once : (limit : ℕ) (text : List ℕ) (f g : Finding) → IsFoundBy limit text f → IsFoundBy limit text g → f ≡ g
-found-once limit text f g (inl a) (inl b) = finds-once (document_in text) f g a.finds b.finds
-found-once limit text f g (inl a) (inr b) = absurd (omega (arith, a.within, b.past))
-found-once limit text f g (inr a) (inl b) = absurd (omega (arith, a.past, b.within))
-found-once limit text f g (inr a) (inr b) = a.refused ∙ sym b.refused
-
--- what is found of a front that is longer than what is judged, or whole
-pub found_of_front : (limit : ℕ) (bytes front : List ℕ) (f : Finding) → front ≡ take (limit + 1) bytes → IsFoundBy limit front f → IsFoundBy limit bytes f
-found_of_front limit bytes front f e (inl a) =
-    let short : length bytes ≤ limit + 1 = omega (arith, a.within, ap length e, length-take (limit + 1) bytes) in
-    subst (λ (t : List ℕ). IsFoundBy limit t f) (e ∙ take_all (limit + 1) bytes short) (inl a)
-found_of_front limit bytes front f e (inr a) = inr (record { past = omega (arith, a.past, ap length e, length-take (limit + 1) bytes); refused = a.refused })
+-- what isn't read is no text of a specification
+pub no_text : (said : Result RawSpec ReadFault) (refusal : Refusal) → said ≡ Err NotToml → refusal ≡ placeless SpecText → JudgesSaid said (Some refusal)
+no_text said refusal is e =
+    subst (λ (r : Refusal). JudgesSaid said (Some r)) (sym e) (subst (λ (s : Result RawSpec ReadFault). JudgesSaid s (Some (placeless SpecText))) (sym is) refl)

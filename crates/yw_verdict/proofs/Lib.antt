@@ -1,4 +1,1 @@
-pub mod ReadLemmas
 pub mod FoundLemmas
-pub mod TellLemmas
-pub mod EndLemmas

@@ -1,5 +1,3 @@
 pub mod Found
 pub mod Lines
-pub mod Taken
-pub mod Ends
-pub mod Counts
+pub mod FoundLaws

@@ -1,9 +1,11 @@
-//! The words `check` of the program: a text is read to its end and judged, and one line says what was found.
+//! The words `check` of the program: what is found of a text that may be a specification, and the line that says it. A text is read to its
+//! end, judged so, and the line said by `judge_input` of `yw_judge`.
 #![tactic(auto)]
 
+mod check;
 mod finding;
-mod input;
 mod line;
-mod verdict;
+mod text;
 
-pub use verdict::{Verdict, judge_input};
+pub use finding::Finding;
+pub use text::accepted;

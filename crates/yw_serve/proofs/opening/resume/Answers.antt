@@ -10,7 +10,7 @@ use Rattle.yw_state.specs.State.{State, opening}
 use Rattle.yw_serve.specs.Damage.{HoldNow, IsDamagedNow}
 use Rattle.yw_serve.specs.Desks.{Stands}
 use Rattle.yw_serve.specs.Opening.{HasFaultCause, HasOpenCause, IsDamagedAt, IsReached, IsOpened}
-use Rattle.yw_serve.specs.declared.opening.OpenFault.{OpenFault}
+use Rattle.yw_serve.specs.declared.opening.StartFault.{StartFault}
 use Rattle.yw_serve.specs.declared.server.Server.{Server}
 use Rattle.yw_serve.proofs.OpenHeld.{chosen_start, content_of, current_records, damaged_within, held_records}
 use Rattle.yw_serve.proofs.OpenLooked.{fault_further, still_settled}
@@ -25,7 +25,7 @@ returns-in_err-tail-clause-cause g c =
     let s : State = engine.state_of c.opening-engine.result in
     let whole = λ (f : File) (place : ℕ). IsTrue (D.tells old) → IsDamagedNow i f place in
     let found = λ (_ : ℕ) (f : File) (place : ℕ). IsTrue (D.tells old) → IsReached i.a 29 [] s → IsDamagedAt i.a f place in
-    let fault : OpenFault = c.in_err-tail.field-0.0 in
+    let fault : StartFault = c.in_err-tail.field-0.0 in
     let nobody : opening ≡ s = sym c.opening-engine.ensures.state in
     let is : c.from_residual.result ≡ Err fault = search rules in
     let cause : HasFaultCause whole (D.disk_faults old) (D.disk_faults new) fault =
@@ -34,7 +34,7 @@ returns-in_err-tail-clause-cause g c =
     let chosen = c.requires.chosen tells in
     damaged_within i c.args.head.now chosen f place (all 0 tells (subst (λ (p : State). IsReached i.a 29 [] p) nobody (chosen_start i c.args.head.now chosen))))
     refl in
-    subst (λ (r : Result Server OpenFault). HasOpenCause D r whole old new) (sym is) cause
+    subst (λ (r : Result Server StartFault). HasOpenCause D r whole old new) (sym is) cause
 
 pub returns-clause-opened : goal.returns-clause-opened
 returns-clause-opened g c = λ tells.

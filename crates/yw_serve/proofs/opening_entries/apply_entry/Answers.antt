@@ -20,7 +20,7 @@ returns-then-size-bytes c =
     let is = c.in-Ok.ensures.ok in
     let all = c.if-size-bytes.true in
     IfOk-weaker c.apply_events.result _ _ (by_answer s t bytes c.in-Ok.size c.in-Ok.events is all)
-    (subst (λ (es : List Event). IfOk c.apply_events.result (λ allowed. AreApplied s es allowed t)) c.into_vec.ensures c.apply_events.ensures)
+    (subst (λ (es : List Event). IfOk c.apply_events.result (λ allowed. AreApplied s es allowed t)) c.into_vec.ensures c.apply_events.ensures.applied)
 
 pub returns-else-size-bytes : goal.returns-else-size-bytes
 returns-else-size-bytes c =

@@ -6,17 +6,17 @@ use Rattle.yw_serve.specs.Opening.{AreApplied, IsApplied}
 use Rattle.yw_serve.proofs.OpenEntries.{first_applied, first_stops, further_events, none_left}
 use Rattle.yw_serve.proofs.opening_entries.apply_events.Goals as goal
 
-pub returns-then-not-branch : goal.returns-then-not-branch
-returns-then-not-branch c =
+pub returns-then-not-branch-clause-applied : goal.returns-then-not-branch-clause-applied
+returns-then-not-branch-clause-applied c =
     let s = engine.state_of c.loop-event.engine in
     let t = engine.state_of c.apply_event.new.engine in
     let event = c.in-Some.event in
-    let stops = subst (λ (b : Bool). IsApplied s event b t) c.if-not-branch.true c.in_ok-apply_event.ensures in
+    let stops = subst (λ (b : Bool). IsApplied s event b t) c.if-not-branch.true c.in_ok-apply_event.ensures.applied in
     c.loop-event.invariant.2 false t
     (subst (λ (es : List Event). AreApplied s es false t) (sym c.in-Some.ensures.steps.0) (first_stops s event (into_iter_items c.next.new.self) t stops))
 
-pub returns : goal.returns
-returns c =
+pub returns-clause-applied : goal.returns-clause-applied
+returns-clause-applied c =
     let t = engine.state_of c.loop-event.engine in
     let none : into_iter_items c.loop-event.event-iterator ≡ [] = none_left (into_iter_items c.loop-event.event-iterator) (omega (arith, c.loop-event.event-iterator.rest.ok, c.in-None.ensures.steps.0)) in
     c.loop-event.invariant.2 true t (subst (λ (es : List Event). AreApplied t es true t) (sym none) refl)
@@ -27,7 +27,7 @@ loop-event-preserved c =
     let mid = engine.state_of c.apply_event.new.engine in
     let event = c.in-Some.event in
     let rest = into_iter_items c.next.new.self in
-    let one = subst (λ (b : Bool). IsApplied s event b mid) c.if-not-branch.false c.in_ok-apply_event.ensures in (
+    let one = subst (λ (b : Bool). IsApplied s event b mid) c.if-not-branch.false c.in_ok-apply_event.ensures.applied in (
       tt,
       tt,
       λ allowed t others. c.loop-event.invariant.2 allowed t

@@ -4,7 +4,7 @@ use Rattle.yw_outside.specs.declared.image.Image.{Image}
 use Rattle.yw_engine.specs.Held as engine
 use Rattle.yw_state.specs.State.{State}
 use Rattle.yw_serve.specs.Opening.{HasFaultCause, HasOpenCause, IsClosedHere, IsDamagedAt, IsReached}
-use Rattle.yw_serve.specs.declared.opening.OpenFault.{OpenFault}
+use Rattle.yw_serve.specs.declared.opening.StartFault.{StartFault}
 use Rattle.yw_serve.specs.declared.opening_entries.Tail.{Tail}
 use Rattle.yw_serve.specs.Window.{Shows}
 use Rattle.yw_serve.proofs.OpenLooked.{fault_further, looked_on, none_case, some_case, still_at_hand}
@@ -21,7 +21,7 @@ returns-in_err-next-clause-cause g c =
     let t : State = engine.state_of c.loop-next.engine in
     let whole = λ (f : File) (place : ℕ). IsTrue (D.tells old) → IsReached (D.state old).a 29 [] s → IsDamagedAt (D.state old).a f place in
     let found = λ (records : List (List ℕ)) (f : File) (place : ℕ). IsTrue (D.tells mid) → IsReached (D.state mid).a c.loop-next.gate records t → IsDamagedAt (D.state mid).a f place in
-    let fault : OpenFault = c.in_err-next.field-0.0 in
+    let fault : StartFault = c.in_err-next.field-0.0 in
     let is : c.from_residual.result ≡ Err fault = search rules in
     let cause : HasFaultCause whole (D.disk_faults old) (D.disk_faults new) fault =
     fault_further found whole (D.disk_faults old) (D.disk_faults mid) (D.disk_faults new) fault c.in_err-next.ensures.cause []
@@ -30,7 +30,7 @@ returns-in_err-next-clause-cause g c =
     subst (λ (i : Image). IsDamagedAt i.a f place) inv.looked.same
     (all reached.0 (inv.looked.telling ∙ tells) (subst (λ (i : Image). IsReached i.a c.loop-next.gate reached.0 t) (sym inv.looked.same) reached.1)))
     inv.none_failed in
-    subst (λ (r : Result Tail OpenFault). HasOpenCause D r whole old new) (sym is) cause
+    subst (λ (r : Result Tail StartFault). HasOpenCause D r whole old new) (sym is) cause
 
 pub next_entry-requires-clause-at_hand : goal.next_entry-requires-clause-at_hand
 next_entry-requires-clause-at_hand g c =

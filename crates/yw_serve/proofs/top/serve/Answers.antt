@@ -67,14 +67,14 @@ returns-in-Some-clause-crash g c = λ tells limit bytes run left content s hold.
     subst Leaves (one_limit c.args.words.now c.in-Some.limit limit c.in-Some.ensures.some run)
     (crash_left D g.met.D.Desk.said_by_now content s old hold bytes c.in-Some.limit c.serve_files.result new INPUT_LIMIT still piece (c.serve_files.new.source ≡ c.args.source.now) (c.serve_files.ensures.ends tells bytes left))
 
-pub returns-in-Some-clause-of_check : goal.returns-in-Some-clause-of_check
-returns-in-Some-clause-of_check g c = λ check. absurd (not_both c.args.words.now c.in-Some.limit c.in-Some.ensures.some check)
+pub returns-in-Some-clause-of_judging : goal.returns-in-Some-clause-of_judging
+returns-in-Some-clause-of_judging g c = λ judging. absurd (not_both c.args.words.now c.in-Some.limit c.in-Some.ensures.some judging)
 
 pub returns-in-Some-clause-checks : goal.returns-in-Some-clause-checks
-returns-in-Some-clause-checks g c = λ tells bytes check left. absurd (not_both c.args.words.now c.in-Some.limit c.in-Some.ensures.some check)
+returns-in-Some-clause-checks g c = λ tells bytes check left. absurd (not_both c.args.words.now c.in-Some.limit c.in-Some.ensures.some (inl check))
 
-pub returns-then-is_check-clause-judges : goal.returns-then-is_check-clause-judges
-returns-then-is_check-clause-judges g c = λ bytes check left finding found. c.serve_check.ensures.judges bytes finding left found
+pub returns-in-Some-clause-proves : goal.returns-in-Some-clause-proves
+returns-in-Some-clause-proves g c = λ tells bytes prove left. absurd (not_both c.args.words.now c.in-Some.limit c.in-Some.ensures.some (inr prove))
 
 pub returns-clause-ends : goal.returns-clause-ends
 returns-clause-ends g c = λ tells limit bytes run left. absurd (c.in_default.ensures.none refl limit run)
@@ -82,11 +82,26 @@ returns-clause-ends g c = λ tells limit bytes run left. absurd (c.in_default.en
 pub returns-clause-of_run : goal.returns-clause-of_run
 returns-clause-of_run g c = λ limit run. absurd (c.in_default.ensures.none refl limit run)
 
-pub returns-clause-usage : goal.returns-clause-usage
-returns-clause-usage g c = (λ e. (c.in_default.ensures.none refl, λ check. let yes : false ≡ true = c.if-is_check.ensures.1 check in cc), λ none. refl)
-
 pub returns-clause-complete : goal.returns-clause-complete
 returns-clause-complete g c = λ tells limit bytes run left content s hold small none. absurd (c.in_default.ensures.none refl limit run)
 
 pub returns-clause-crash : goal.returns-clause-crash
 returns-clause-crash g c = λ tells limit bytes run left content s hold. absurd (c.in_default.ensures.none refl limit run)
+
+pub returns-then-is_word-clause-check_tells : goal.returns-then-is_word-clause-check_tells
+returns-then-is_word-clause-check_tells g c = λ bytes check left finding found. c.serve_judging.ensures.tells bytes left finding found
+
+pub returns-then-is_word-2-clause-proof_tells : goal.returns-then-is_word-2-clause-proof_tells
+returns-then-is_word-2-clause-proof_tells g c = λ bytes prove left finding found. c.serve_judging-then-is_word-2.ensures.tells bytes left finding found
+
+pub returns-clause-usage : goal.returns-clause-usage
+returns-clause-usage g c = (
+  λ e. (
+    c.in_default.ensures.none refl,
+    λ judging. elim judging [
+      | inl check ↦ let yes : false ≡ true = c.if-is_word.ensures.1 check in cc
+      | inr prove ↦ let yes : false ≡ true = c.if-is_word-2.ensures.1 prove in cc
+    ],
+  ),
+  λ none. refl,
+)

@@ -7,8 +7,8 @@ use Rattle.yw_serve.proofs.ServedLemmas.{damage_ends, runs_from}
 use Rattle.yw_serve.proofs.HeldWell.{held_well}
 use Rattle.yw_serve.specs.Opening.{OpenFaults}
 use Rattle.yw_serve.specs.Session.{server_state}
-use Rattle.yw_serve.specs.declared.opening.OpenFault.{OpenFault}
-use Rattle.yw_serve.specs.declared.opening.OpenFault.TheVariants as faults
+use Rattle.yw_serve.specs.declared.opening.StartFault.{StartFault}
+use Rattle.yw_serve.specs.declared.opening.StartFault.TheVariants as faults
 use Rattle.yw_serve.specs.declared.server.Server.{Server}
 use Rattle.yw_serve.specs.declared.run.TheConstants.{INPUT_LIMIT}
 use Rattle.yw_serve.proofs.top.serve_files.Goals as goal
@@ -65,5 +65,5 @@ returns-clause-faults g c =
     let mid = c.start.new.desk in
     let new = c.tell_damage.new.desk in
     let is : c.start.result ≡ Err (faults.Damaged c.in-Err-Damaged.file c.in-Err-Damaged.place) = search rules in
-    status_then D old mid new (record { disk = subst (λ (r : Result Server OpenFault). OpenFaults D r old mid) is c.start.ensures.faults; say = c.start.ensures.say_faults }) c.tell_damage.result _ _
+    status_then D old mid new (record { disk = subst (λ (r : Result Server StartFault). OpenFaults D r old mid) is c.start.ensures.faults; say = c.start.ensures.say_faults }) c.tell_damage.result _ _
     (notice_faults D _ _ refl mid new c.tell_damage.result statuses.Damaged (λ none. (refl, none)) c.tell_damage.ensures.faults)

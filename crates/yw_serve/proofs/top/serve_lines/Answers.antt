@@ -1,4 +1,4 @@
-use Rattle.std.proofs.Common.{◌≡◌, Bool, sym, ap, ◌∙◌, subst}
+use Rattle.std.proofs.Common.{◌≡◌, Bool, sym, ap, subst}
 use Rattle.std.specs.Bool.{IsTrue}
 use Rattle.yw_journal.specs.Journal.{IsCurrent}
 use Rattle.yw_model.specs.Texts.{reader}

@@ -2,7 +2,7 @@ use Rattle.std.proofs.Common.{◌≡◌, ℕ, IsTrue, Err, IfOk, inl, inr, ◌�
 use Rattle.yw_outside.specs.declared.desk.File.{File}
 use Rattle.yw_serve.specs.Damage.{IsDamagedNow}
 use Rattle.yw_serve.specs.Opening.{IsOpened}
-use Rattle.yw_serve.specs.declared.opening.OpenFault.TheVariants.{Damaged}
+use Rattle.yw_serve.specs.declared.opening.StartFault.TheVariants.{Damaged}
 use Rattle.yw_serve.proofs.OpenLaws.{answers_state, answers_damage}
 use Rattle.yw_serve.proofs.OpenLooked.{looked_on, open_faults, opens_beginning, opens_looking, still_settled, unsynced}
 use Rattle.yw_serve.proofs.server.Server.start.Goals as goal

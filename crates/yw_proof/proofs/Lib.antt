@@ -1,0 +1,2 @@
+pub mod NetFound
+pub mod Bounded
