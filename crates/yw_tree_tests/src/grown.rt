@@ -11,10 +11,16 @@ ghost use Rattle.yw_tree.specs.Places.{hung_at, net_at};
 ghost use Rattle.yw_tree.specs.Spots.{part_at};
 ghost use Rattle.yw_tree_tests.specs.Grown.{Grown, HasRoom, IsBareItem, IsBareRun, IsBelow};
 
-use crate::shapes::NO_CHECKS;
 use std::alloc::Global;
 use yw_base::{Ident, Items};
+use yw_state::Checks;
 use yw_tree::{Case, Forest, NetState, Node, Run, Spot};
+
+const NO_CHECKS: Checks = Checks {
+    pre: false,
+    select: false,
+    post: false,
+};
 
 /// As many numbers as an identity has.
 const MOST_NUMBERS: usize = 40;

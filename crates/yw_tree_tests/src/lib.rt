@@ -5,12 +5,4 @@
 #[cfg(test)]
 mod changes;
 #[cfg(test)]
-mod depths;
-#[cfg(test)]
 mod grown;
-#[cfg(test)]
-mod kinds;
-#[cfg(test)]
-mod shapes;
-#[cfg(test)]
-mod urgent;
