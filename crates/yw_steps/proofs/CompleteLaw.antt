@@ -1,10 +1,9 @@
 -- The completion of an item, on the whole forest.
-use Rattle.std.proofs.Common.{Bool, List, None, Option, Some, [], ap, cond, false, length, refl, subst, sym, true, ℕ, ◌++◌, ◌∙◌, ◌∷◌, ◌≡◌, ◌≤◌}
-use Rattle.std.proofs.lemmas.Bool.{and_from, eq-eqb}
+use Rattle.std.proofs.Common.{Bool, List, None, Option, Some, [], ap, cond, length, refl, subst, sym, true, ℕ, ◌++◌, ◌∙◌, ◌∷◌, ◌≡◌, ◌≤◌}
+use Rattle.std.proofs.lemmas.Bool.{eq-eqb}
 use Rattle.std.specs.List.{list_all}
-use Rattle.std.specs.Prelude.{find, is_none, is_some, not, option_and_then, option_map, slice_get, if◌then◌else◌}
-use Rattle.yw_asked.proofs.Fitting.{all_defined, made_there}
-use Rattle.yw_asked.proofs.Unbroken.{passes, unmapped}
+use Rattle.std.specs.Prelude.{is_some, option_and_then, option_map, slice_get, if◌then◌else◌}
+use Rattle.yw_asked.proofs.Fitting.{made_there}
 use Rattle.yw_base.specs.Identity.{is_identity}
 use Rattle.yw_expr.specs.Meaning.{val}
 use Rattle.yw_nest.proofs.Known.{no_case}
@@ -14,37 +13,32 @@ use Rattle.yw_spec.specs.declared.spec.Net.{Net}
 use Rattle.yw_spec.specs.declared.task.Assign.{Assign}
 use Rattle.yw_spec.specs.declared.task.Many.{Many}
 use Rattle.yw_spec.specs.declared.task.Task.{Task}
-use Rattle.yw_state.proofs.Tests.{by_option, map_some, nowhere, some_same, then_some}
+use Rattle.yw_state.proofs.Tests.{by_option, map_some, some_same, then_some}
 use Rattle.yw_state.specs.After.{due_where, with_sites}
-use Rattle.yw_state.specs.Allowed.{allows, may_complete}
 use Rattle.yw_state.specs.Broken.{First}
 use Rattle.yw_state.specs.Events.{after}
 use Rattle.yw_state.specs.Given.{made_values, misfit}
 use Rattle.yw_state.specs.Identity.{Ident, parent}
 use Rattle.yw_state.specs.Map.{entries, get}
 use Rattle.yw_state.specs.Passing.{is_defined, made_rows_with, row_fits, set_row}
-use Rattle.yw_state.specs.State.{ItemAt, ItemPart, NetAt, NetPart, State, TaskAt, if_of_task, item_at, item_of_task, item_part, items_of, net_at, net_part, task_in}
+use Rattle.yw_state.specs.State.{ItemAt, ItemPart, NetAt, NetPart, State, TaskAt, if_of_task, item_at, item_of_task, item_part, items_of, net_at, task_in}
 use Rattle.yw_state.specs.Texts.{nothing}
 use Rattle.yw_state.specs.Values.{Row}
 use Rattle.yw_state.specs.Well.{item_limit}
-use Rattle.yw_state.specs.Words.{busy, is_executing}
 use Rattle.yw_state.specs.declared.command.Given.{Given}
 use Rattle.yw_state.specs.declared.event.Event.TheVariants as events
 use Rattle.yw_state.specs.declared.part.Checks.{Checks}
 use Rattle.yw_state.specs.declared.part.Stage.TheVariants.{Completed}
 use Rattle.yw_state.specs.declared.rule.Refusal.{Refusal}
-use Rattle.yw_state.specs.declared.rule.Rule.{Rule}
-use Rattle.yw_state.specs.declared.rule.Rule.TheVariants as rules
 use Rattle.yw_state.specs.declared.tree.TreeKind.TheVariants.{Post}
 use Rattle.yw_steps.proofs.Gathered.{only_one, speaks_many, speaks_one}
 use Rattle.yw_steps.proofs.ItemFound.{it_stands, its_id}
 use Rattle.yw_steps.proofs.NetFound.{net_stands, part_is}
-use Rattle.yw_steps.specs.Completes.{CompleteBreaks, CompleteIsAllowed, Completes, Finds, IsItemIn, ItemIs, defined_once, outs_once, speaks_once}
+use Rattle.yw_steps.specs.Completes.{CompleteBreaks, Completes, Finds, IsItemIn, ItemIs, defined_once, outs_once, speaks_once}
 use Rattle.yw_task.proofs.CompleteLaw.{completes, completes_first}
 use Rattle.yw_task.proofs.EnterAsk.{its_items}
-use Rattle.yw_task.proofs.ItemLaw.{its_busy, its_site, known_part}
-use Rattle.yw_task.specs.Asked.{complete_fault, is_others}
-use Rattle.yw_task.specs.Completes.{complete_rest, completion_fault, first_undefined, made_of, mapping_fault, or_else, speaks_of}
+use Rattle.yw_task.proofs.ItemLaw.{its_site, known_part}
+use Rattle.yw_task.specs.Completes.{complete_rest, completion_fault, made_of, speaks_of}
 use Rattle.yw_task.specs.Standing.{ItemStands}
 use Rattle.yw_tree.proofs.Parents.{identity_long, parent_child}
 use Rattle.yw_tree.specs.Entries.{item_part_of, item_site}
@@ -167,48 +161,12 @@ module _ (f : Forest) (boxed : IsForest f) (j : Ident) (identity : is_identity j
       subst (λ k. First (complete_rest s who k gs) found) id
       (completes_first net task vals so_far place.item who out of_task names f s is.there gs (record { stands = stands; known = known_there; net_is = is.net_is; fits = none; given = made; together = all }))
 
-  -- ---- where nothing is broken
-
-  split_fault : (o : Option Refusal) (r : Option Rule) → None ≡ or_else o r → (r ≡ None) × (o ≡ None)
-  split_fault o None e = (refl, sym e)
-  split_fault o (Some first) e = nowhere e
-
-  of_three : (a b c : Bool) → (if not a then Some rules.Stage else (if b then Some rules.NotYours else (if c then Some rules.Busy else None))) ≡ None → (a ≡ true) × (c ≡ false)
-  of_three false b c e = nowhere (sym e)
-  of_three true true c e = nowhere (sym e)
-  of_three true false true e = nowhere (sym e)
-  of_three true false false e = (refl, refl)
-
-  pub may_then : (out so_far : Row) (who : List ℕ) → None ≡ completion_fault net task (out-NetState place.outer).vals so_far place.item who out
-      → (is_some task.many ≡ true → so_far ≡ outs_once j out (items_in place.outer (out-Node place.item).task) 0 task.outs)
-      → row_fits is.there.of_task.task.outs out ≡ true → is_some is.there.part.who ≡ true → net_part s j ≡ None → (busy s j ≡ false) × (may_complete s j out is.there ≡ true)
-  may_then out so_far who none gathered fits_there begun vacant =
-      let vals = (out-NetState place.outer).vals in
-      let row : Row = made_of task so_far out ++ vals in
-      let split = split_fault (mapping_fault net (first_undefined task.set row)) (complete_fault place.item who) none in
-      let shown = of_three (is_executing (out-Node place.item).stage) (is_others who (out-Node place.item).who) (is_some (out-Node place.item).run) split.0 in
-      let fits : row_fits task.outs out ≡ true = subst (λ (t : Task). row_fits t.outs out ≡ true) task_is fits_there in
-      let defined : list_all (λ (a : Assign). is_some (val a.value row)) task.set ≡ true =
-      all_defined (λ (a : Assign). val a.value row) task.set (unmapped (λ (a : Assign). a.var) (find (λ (a : Assign). is_none (val a.value row)) task.set) (unmapped _ (first_undefined task.set row) split.1)) in
-      let executing : is_executing is.there.part.stage ≡ true = ap (λ (p : ItemPart). is_executing p.stage) part_there ∙ shown.0 in
-      let all : list_all (λ (a : Assign). is_some (val a.value (speaks_of s j is.there out))) is.there.of_task.task.set ≡ true =
-      (λ i. list_all (λ (a : Assign). is_some (val a.value (together out so_far fits gathered i))) (task_is i).set) ∙ defined in (
-        ap (busy s) (sym id) ∙ its_busy names f s place.item stands ∙ shown.1,
-        and_from _ _ (and_from _ _ (and_from _ _ (and_from _ _ executing begun) (ap is_none vacant)) fits_there) all,
-      )
-
 -- ---- the calls
 
 module _ (f : Forest) (boxed : IsForest f) (j : Ident) (identity : is_identity j ≡ true) (net : Net) (who : List ℕ) (out : Row) where
   pub breaks : (found : Option Refusal) → Finds f net j who out found → CompleteBreaks f net j who out found
   breaks found h = λ names s gs is sites none made.
       subst (First (complete_rest s who j gs)) (sym h.is) (net_first f boxed j identity net h.place h.task h.of_task names s sites is out h.so_far who gs none made h.together)
-
-  pub allowed : Finds f net j who out None → CompleteIsAllowed f net j out
-  unfolding allows
-  allowed h = λ names s said is sites fits begun vacant free.
-      let m = may_then f boxed j identity net h.place h.task h.of_task names s sites is out h.so_far who h.is h.together fits begun vacant in
-      (and_from _ _ (and_from _ _ free (ap not m.0)) (passes is.known (may_complete s j out) m.1), tt)
 
 abbrev Level : Type 0
 Level = Node-F NetState Node Run

@@ -10,17 +10,14 @@ use Rattle.yw_spec.specs.declared.spec.Net.{Net}
 use Rattle.yw_spec.specs.declared.task.Assign.{Assign}
 use Rattle.yw_spec.specs.declared.task.Param.{Param}
 use Rattle.yw_spec.specs.declared.task.Task.{Task}
-use Rattle.yw_state.specs.Allowed.{Allowed}
 use Rattle.yw_state.specs.Broken.{First}
 use Rattle.yw_state.specs.Given.{made_values, misfit}
 use Rattle.yw_state.specs.Identity.{Ident, parent, same}
 use Rattle.yw_state.specs.Judged.{has_rules, task_place}
-use Rattle.yw_state.specs.Passing.{int_in, row_fits, text_in}
-use Rattle.yw_state.specs.State.{ItemAt, State, item_at, items_of, net_part}
-use Rattle.yw_state.specs.Texts.{Said}
+use Rattle.yw_state.specs.Passing.{int_in, text_in}
+use Rattle.yw_state.specs.State.{ItemAt, State, item_at, items_of}
 use Rattle.yw_state.specs.Values.{Row}
 use Rattle.yw_state.specs.Well.{item_limit}
-use Rattle.yw_state.specs.Words.{clear}
 use Rattle.yw_state.specs.declared.command.Given.{Given}
 use Rattle.yw_state.specs.declared.event.Event.TheVariants as events
 use Rattle.yw_state.specs.declared.part.Checks.{Checks}
@@ -104,11 +101,3 @@ CompleteBreaks f net j who out found =
 -- the item at j is completed with these values
 abbrev pub Completes : Net → Ident → Row → Checks → Forest → Forest → Type 0
 Completes net j out due = DoesWhere (λ names. events.Complete j out) (λ names. MayComplete net j due) all_else
-
--- Wherever a state has the map of the forest, and there the item as is said, the completion is allowed with values of the sorts that its task
--- makes, where somebody has started it, no net stands at it, and nothing holds it back.
-abbrev pub CompleteIsAllowed : Forest → Net → Ident → Row → Type 0
-CompleteIsAllowed f net j out =
-    (names : ℕ → List ℕ) (s : State) (said : Said) (is : ItemIs s j net) → s.sites ≡ sites_of names f
-    → row_fits is.there.of_task.task.outs out ≡ true → is_some is.there.part.who ≡ true → net_part s j ≡ None → clear s j ≡ true
-    → Allowed s (events.Complete j out) said

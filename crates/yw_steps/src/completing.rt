@@ -1,23 +1,25 @@
 // An item is completed.
 ghost use Rattle.std.specs.List.{list_all};
-ghost use Rattle.std.specs.Prelude.{◌≡◌, IfOk, IsSome, OnErr, OnOk, is_some, true};
-ghost use Rattle.yw_base.specs.Identity.{is_identity};
+ghost use Rattle.std.specs.Prelude.{◌≡◌, ◌<◌, IfOk, IsSome, Some, is_some, length};
 ghost use Rattle.yw_expr.specs.Meaning.{val};
 ghost use Rattle.yw_spec.specs.declared.spec.Net.{Net};
 ghost use Rattle.yw_spec.specs.declared.task.Assign.{Assign};
-ghost use Rattle.yw_steps.specs.Completes.{CompleteBreaks, CompleteIsAllowed, Completes, Finds, IsItemIn, defined_once};
-ghost use Rattle.yw_task.specs.Completes.{AnswersFirst, made_of};
+ghost use Rattle.yw_steps.specs.Completes.{CompleteBreaks, Completes, Finds, defined_once};
+ghost use Rattle.yw_state.specs.Identity.{parent};
+ghost use Rattle.yw_task.specs.Completes.{made_of};
 ghost use Rattle.yw_tree.specs.Forest.{IsForest, item_of};
+ghost use Rattle.yw_tree.specs.Places.{net_at};
+ghost use Rattle.yw_tree.specs.declared.Forest as forests;
+ghost use Rattle.yw_tree.specs.declared.Node.{out-Node};
 
-use crate::found::{item_there, net_there, parent};
 use crate::together::made_so_far;
 use std::alloc::{AllocError, Global};
 use yw_base::{Ident, Name, Row};
 use yw_expr::{Joined, Values, view_of};
 use yw_spec::{Assign, Net, Task};
 use yw_state::{Checks, Refusal};
-use yw_task::{StepFault, completion_fault, finish, items_in, task_at};
-use yw_tree::{Forest, Node};
+use yw_task::{completion_fault, finish, items_in, task_at};
+use yw_tree::{Forest, NetState, Node};
 
 /// The assignment is defined over these values.
 fn is_defined<V: Values>(assign: &Assign, row: &V) -> bool
@@ -63,23 +65,20 @@ pub fn are_defined(
     Ok(all_defined(task.set.as_slice(), &row))
 }
 
-/// The first rule that a completion breaks.
-fn first_broken(
+/// The first rule that a completion of this item breaks, where it stands in this net.
+fn broken_of(
     alloc: Global,
-    forest: &Forest,
+    outer: &NetState,
+    item: &Node,
     net: &Net,
     j: &Ident,
     who: &Name,
     out: &Row,
 ) -> Result<Option<Refusal>, AllocError>
-    requires boxed { IsForest forest.now }
-    requires may { IsItemIn forest.now net.now j.now }
-    ensures finds { IfOk result (Finds forest.now net.now j.now who.now out.now) }
-    ensures identity { is_identity j.now ≡ true }
+    requires { (out-Node item.now).task < length net.now.tasks }
+    ensures { (f : forests.Forest) → item_of f j.now ≡ Some item.now → net_at f (parent j.now) ≡ Some outer.now
+        → IfOk result (Finds f net.now j.now who.now out.now) }
 {
-    let at = parent(alloc, j)?;
-    let outer = net_there(forest, &at);
-    let item = item_there(forest, j);
     let task = task_at(net, item.task);
     let so_far = made_so_far(alloc, task, items_in(outer, item.task), j, out)?;
     completion_fault(alloc, net, task, &outer.vals, &so_far, item, who, out)
@@ -87,22 +86,25 @@ fn first_broken(
 
 /// The first rule that the completion of an item breaks, of those that are looked at here: `Stage` where it isn't executing, `NotYours` where
 /// another person started it, `Busy` where an exlet is at work on it, and `Mapping` where an assignment would be undefined over what the
-/// task's items make together and the net's values, at the variable of the first such one; `None` where it breaks none. The item stands in
-/// this net, and has made these values, one for each of the task's `outs` and of its sort. An `Err` says that no memory was left. That persons
-/// complete items is the paper's.
+/// task's items make together and the net's values, at the variable of the first such one; `None` where it breaks none. `item` is the one at
+/// the identity, and `outer` the net in which it stands, wherever they do; it has made these values, one for each of the task's `outs` and of
+/// its sort. An `Err` says that no memory was left. That persons complete items is the paper's.
 pub fn ask_complete(
     alloc: Global,
-    forest: &Forest,
+    outer: &NetState,
+    item: &Node,
     net: &Net,
     j: &Ident,
     who: &Name,
     out: &Row,
 ) -> Result<Option<Refusal>, AllocError>
-    requires boxed { IsForest forest.now }
-    requires may { IsItemIn forest.now net.now j.now }
-    ensures { IfOk result (CompleteBreaks forest.now net.now j.now who.now out.now) }
+    requires { (out-Node item.now).task < length net.now.tasks }
+    ensures { (f : forests.Forest) → IsForest f → item_of f j.now ≡ Some item.now → net_at f (parent j.now) ≡ Some outer.now
+        → IfOk result (CompleteBreaks f net.now j.now who.now out.now) }
 {
-    first_broken(alloc, forest, net, j, who, out)
+    // No work is done here: it says that it is an identity.
+    let _ = j.numbers();
+    broken_of(alloc, outer, item, net, j, who, out)
 }
 
 /// The item at an identity is completed, and has made these values. If `due` says so, the check after it is due. Nothing is tested. It takes no
@@ -115,37 +117,5 @@ pub fn finish_at(forest: &mut Forest, j: &Ident, out: Row, due: Checks)
     match forest.item_mut(j) {
         Some(node) => finish(node, out, due.post),
         None => unreachable!(),
-    }
-}
-
-/// A person completes the item at an identity, which it started and which has made these values, one for each of the task's `outs` and of its
-/// sort; it stands in this net. From now on it is completed, and if `due` says so its tree after it is to be asked.
-///
-/// `Refused` has the first rule that this breaks, of those that are looked at here: `Stage` where it isn't executing, `NotYours` where another
-/// person started it, `Busy` where an exlet is at work on it, and `Mapping` where an assignment would be undefined over what the task's items
-/// make together and the net's values, at the variable of the first such one. Then, and where no memory is left, all is as it was. That
-/// persons complete items is the paper's.
-pub fn complete(
-    alloc: Global,
-    forest: &mut Forest,
-    net: &Net,
-    j: &Ident,
-    who: &Name,
-    out: Row,
-    due: Checks,
-) -> Result<(), StepFault>
-    requires boxed { IsForest forest.old }
-    requires may { IsItemIn forest.old net.now j.now }
-    ensures ok { OnOk result (Completes net.now j.now out due forest.old forest.new) }
-    ensures allowed { OnOk result (CompleteIsAllowed forest.old net.now j.now out) }
-    ensures first { AnswersFirst (CompleteBreaks forest.old net.now j.now who.now out) result }
-    ensures err { OnErr result (forest.new ≡ forest.old) }
-{
-    match first_broken(alloc, forest, net, j, who, &out)? {
-        Some(refusal) => Err(StepFault::Refused(refusal)),
-        None => {
-            finish_at(forest, j, out, due);
-            Ok(())
-        }
     }
 }

@@ -7,13 +7,12 @@ mod adding;
 mod completing;
 mod entering;
 mod exiting;
-mod found;
 pub mod laws;
 mod starting;
 mod together;
 
 pub use adding::come_more_at;
-pub use completing::{are_defined, ask_complete, complete, finish_at};
+pub use completing::{are_defined, ask_complete, finish_at};
 pub use entering::come_at;
 pub use exiting::exit;
 pub use starting::begin;

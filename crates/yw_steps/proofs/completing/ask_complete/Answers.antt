@@ -3,7 +3,7 @@ use Rattle.yw_steps.proofs.CompleteLaw.{breaks}
 use Rattle.yw_steps.proofs.completing.ask_complete.Goals as goal
 
 pub returns : goal.returns
-returns c =
-    IfOk-weaker c.first_broken.result _ _
-    (breaks c.args.forest.now c.requires.boxed c.args.j.now c.first_broken.ensures.identity c.args.net.now c.args.who.now c.args.out.now)
-    c.first_broken.ensures.finds
+returns c = λ f boxed found stands_in.
+    IfOk-weaker c.broken_of.result _ _
+    (breaks f boxed c.args.j.now c.numbers.ensures.identity c.args.net.now c.args.who.now c.args.out.now)
+    (c.broken_of.ensures f found stands_in)
