@@ -1,5 +1,5 @@
 -- What a completion breaks, and the event that it asks for, by what is held.
-use Rattle.std.proofs.Common.{◌≡◌, ◌∙◌, List, Ok, Option, Some, None, ap, refl, subst, sym, true, ℕ}
+use Rattle.std.proofs.Common.{◌<◌, ◌≡◌, ◌∙◌, List, Ok, Option, Some, None, ap, length, refl, subst, sym, true, ℕ}
 use Rattle.std.specs.Prelude.{[], drop, option_and_then, option_map}
 use Rattle.yw_asked.proofs.ItemsAsked as items
 use Rattle.yw_asked.proofs.Unbroken.{none_broken}
@@ -30,8 +30,10 @@ use Rattle.yw_state.specs.declared.command.Given.{Given}
 use Rattle.yw_state.specs.declared.event.Event.{Event}
 use Rattle.yw_state.specs.declared.event.Event.TheVariants as events
 use Rattle.yw_state.specs.declared.rule.Refusal.{Refusal}
-use Rattle.yw_steps.specs.Completes.{CompleteBreaks, IsItemIn, ItemIs}
+use Rattle.yw_steps.specs.Completes.{CompleteBreaks, ItemIs}
 use Rattle.yw_tree.proofs.Removed.{within}
+use Rattle.yw_tree.specs.Forest.{IsForest, item_of}
+use Rattle.yw_tree.specs.Places.{net_at}
 use Rattle.yw_tree.specs.declared.Forest.{Forest}
 use Rattle.yw_tree.specs.declared.Node.{out-Node}
 
@@ -66,17 +68,8 @@ module _ (h : Standing) (may : MayStand h) (who : List ℕ) (j : Ident) (gs : Li
     here : IsItemHere h.known h.forest s j w
     here = says s may.held
 
-    stands : IsItemIn h.forest w.outer.net.now j
-    stands = record {
-      item = w.item.now;
-      outer = w.outer.state.now;
-      found = here.found;
-      stands_in = here.outer.stands.found;
-      task = within w.outer.net.now.tasks (out-Node w.item.now).task w.task.now here.of_net;
-    }
-
-    pub stands_in : (f : Forest) → f ≡ h.forest → IsItemIn f w.outer.net.now j
-    stands_in f same = subst (λ (g : Forest). IsItemIn g w.outer.net.now j) (sym same) stands
+    pub its_task : (out-Node w.item.now).task < length w.outer.net.now.tasks
+    its_task = within w.outer.net.now.tasks (out-Node w.item.now).task w.task.now here.of_net
 
     abbrev item_is : ItemIs s j w.outer.net.now
     item_is = record {
@@ -103,11 +96,11 @@ module _ (h : Standing) (may : MayStand h) (who : List ℕ) (j : Ident) (gs : Li
         values_are = sym (ap (option_and_then made_by) here.at) ∙ made_so j (option_and_then made_by (item_at s j)) out asked
 
         -- the last rule is the first, or none is broken
-        pub last_first : (f : Forest) → f ≡ h.forest → (found : Option Refusal) → CompleteBreaks f w.outer.net.now j who out found
+        pub last_first : (found : Option Refusal)
+            → ((f : Forest) → IsForest f → item_of f j ≡ Some w.item.now → net_at f (parent j) ≡ Some w.outer.state.now → CompleteBreaks f w.outer.net.now j who out found)
             → First (complete_rest s who j gs) found
-        last_first f same found breaks =
-            let at : CompleteBreaks h.forest w.outer.net.now j who out found =
-            subst (λ (g : Forest). CompleteBreaks g w.outer.net.now j who out found) same breaks in
+        last_first found breaks =
+            let at : CompleteBreaks h.forest w.outer.net.now j who out found = breaks h.forest may.held.boxed here.found here.outer.stands.found in
             whole.complete_last s who j gs found most (at (names_of h.known) s gs item_is may.held.sites fits values_are)
 
   -- ---- the event

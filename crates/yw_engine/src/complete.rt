@@ -40,8 +40,8 @@ fn complete_here(
     let Some(out) = complete_values(work.alloc, here, given)? else {
         unreachable!();
     };
-    let forest = work.standing.forest();
-    match ask_complete(work.alloc, forest, here.outer.net, &item, who, &out)? {
+    let (node, outer) = (here.item, &here.outer);
+    match ask_complete(work.alloc, outer.state, node, outer.net, &item, who, &out)? {
         Some(refusal) => Err(EngineFault::Refused(refusal)),
         None => Ok(Event::Complete { item, out }),
     }

@@ -2,7 +2,7 @@ use Rattle.std.proofs.Common.{None, Option, Some, subst}
 use Rattle.yw_breaks.proofs.Whole.{complete_joins}
 use Rattle.yw_breaks.specs.Tables.{complete_front, complete_most, complete_rest}
 use Rattle.yw_cases.specs.State.{state_of}
-use Rattle.yw_engine.proofs.Completes.{asked, last_first, most_first, stands_in, values_there}
+use Rattle.yw_engine.proofs.Completes.{asked, its_task, last_first, most_first, values_there}
 use Rattle.yw_engine.proofs.Fronts.{behind, moving}
 use Rattle.yw_engine.proofs.complete.complete_here.Goals as goal
 use Rattle.yw_model.specs.Texts.{reader}
@@ -47,10 +47,9 @@ unreachable-requires c =
     values_there h may who j gs c.args.here.now c.requires.says most c.in_ok-out.field-0
     (c.in_ok-out.ensures h.known h.forest j c.requires.says) c.in_default-3.is
 
-pub ask_complete-requires-clause-may : goal.ask_complete-requires-clause-may
-ask_complete-requires-clause-may c =
-    stands_in c.args.work.now.standing c.requires.stands c.args.who.now c.args.item c.args.given.now c.args.here.now c.requires.says
-    c.forest-forest.result.now c.forest-forest.ensures
+pub ask_complete-requires : goal.ask_complete-requires
+ask_complete-requires c =
+    its_task c.args.work.now.standing c.requires.stands c.args.who.now c.args.item c.args.given.now c.args.here.now c.requires.says
 
 pub returns-in-Some-4 : goal.returns-in-Some-4
 returns-in-Some-4 c =
@@ -64,7 +63,7 @@ returns-in-Some-4 c =
     (c.in_ok-refusal-2.ensures h.known h.forest j c.requires.says s may.held may.plain) in
     let last = last_first h may who j gs c.args.here.now c.requires.says most c.in_ok-out.field-0
     (c.in_ok-out.ensures h.known h.forest j c.requires.says) c.in-Some-3.out c.in-Some-3.is
-    c.forest-forest.result.now c.forest-forest.ensures c.in_ok-refusal-3.field-0 c.in_ok-refusal-3.ensures in
+    c.in_ok-refusal-3.field-0 c.in_ok-refusal-3.ensures in
     behind h (commands.Complete who j gs) j (complete_front s who j gs) (complete_rest s who j gs) (complete_joins reader s who j gs) c.requires.front
     c.case_number.result c.case_number.ensures c.in_ok-refusal.field-0 c.in_ok-refusal.ensures c.in_default.is
     (Some c.in-Some-4.refusal) (subst (λ (o : Option Refusal). First (complete_rest s who j gs) o) c.in-Some-4.is last)
@@ -82,7 +81,7 @@ returns-in-None c =
     let most = subst (λ (o : Option Refusal). First (complete_most s who j gs) o) c.in_default-2.is
     (c.in_ok-refusal-2.ensures h.known h.forest j says s may.held may.plain) in
     let last = last_first h may who j gs c.args.here.now says most c.in_ok-out.field-0 makes c.in-Some-3.out c.in-Some-3.is
-    c.forest-forest.result.now c.forest-forest.ensures c.in_ok-refusal-3.field-0 c.in_ok-refusal-3.ensures in (
+    c.in_ok-refusal-3.field-0 c.in_ok-refusal-3.ensures in (
       behind h (commands.Complete who j gs) j (complete_front s who j gs) (complete_rest s who j gs) (complete_joins reader s who j gs) c.requires.front
           c.case_number.result c.case_number.ensures c.in_ok-refusal.field-0 c.in_ok-refusal.ensures c.in_default.is
           None (subst (λ (o : Option Refusal). First (complete_rest s who j gs) o) c.in-None.is last),
