@@ -31,6 +31,18 @@ def proof(net: str = "main", toml: str = TWO, **weights) -> dict:
     return {"net": net, "toml": toml, "weights": {name: weight for name, weight in given.items() if weight is not None}}
 
 
+def many(count: int) -> str:
+    """A specification of so many nets: `main` has a task for each other one, and each of these, `n2` on, has one task."""
+    subs = [f"t{k}" for k in range(2, count + 1)]
+    flows = [list(it) for it in zip(["i", *subs], [*subs, "o"])]
+    nets = [f'[[net]]\nname = "main"\ninput = "i"\noutput = "o"\nflows = {json.dumps(flows)}\n']
+    nets += [f'[[net.task]]\nname = "{it}"\nkind = "sub"\nnet = "n{it[1:]}"\n' for it in subs]
+    nets += [
+        f'[[net]]\nname = "n{it[1:]}"\ninput = "i"\noutput = "o"\nflows = [["i","a"],["a","o"]]\n[[net.task]]\nname = "a"\n' for it in subs
+    ]
+    return 'name = "many"\ntop = "main"\n' + "".join(nets)
+
+
 def no(rule: str, at: str = "") -> dict:
     return {"at": at, "ok": False, "rule": rule}
 
@@ -39,6 +51,9 @@ def no(rule: str, at: str = "") -> dict:
 FOUND = [
     (proof(), {"bound": 1, "net": "main", "ok": True, "spec": "seq"}),
     (proof(i=MOST, o=MOST, a_b=MOST, a=MOST, b=MOST), {"bound": MOST, "net": "main", "ok": True, "spec": "seq"}),
+    (proof("n64", many(64), a_b=None, b=None), {"bound": 1, "net": "n64", "ok": True, "spec": "many"}),
+    (proof("n64", many(64), a_b=None, b=None, i=2), no("Rises", "ends")),
+    (proof("n65", many(64), a_b=None, b=None), no("UnknownNet")),
     (b"x" * 2_097_153, no("LineTooLong")),
     (b"\xff", no("NotJson")),
     (b"", no("NotJson")),
