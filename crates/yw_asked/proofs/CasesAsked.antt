@@ -10,7 +10,8 @@ use Rattle.yw_state.specs.Allowed.{allows, are_roles, launch_fits}
 use Rattle.yw_state.specs.Broken.{checks}
 use Rattle.yw_state.specs.Events.{after}
 use Rattle.yw_state.specs.Given.{launch_values}
-use Rattle.yw_state.specs.Identity.{Ident, case_ident, case_number, is_case_ident}
+use Rattle.yw_state.specs.Identity.{Ident, case_ident, is_case_ident}
+use Rattle.yw_base.specs.Identity.{case_number}
 use Rattle.yw_state.specs.Legal.{IsAsked}
 use Rattle.yw_state.specs.Map.{get, has_key}
 use Rattle.yw_state.specs.Nets.{top_net}

@@ -10,7 +10,8 @@ use Rattle.yw_state.proofs.Tests.{by_test, never, there}
 use Rattle.yw_state.specs.Allowed.{allows, may_complete}
 use Rattle.yw_state.specs.Broken.{checks}
 use Rattle.yw_state.specs.Given.{made_values, misfit}
-use Rattle.yw_state.specs.Identity.{Ident, parent}
+use Rattle.yw_state.specs.Identity.{Ident}
+use Rattle.yw_base.specs.Identity.{parent}
 use Rattle.yw_state.specs.Legal.{IsAsked}
 use Rattle.yw_state.specs.Nets.{is_atomic}
 use Rattle.yw_state.specs.Passing.{made_rows_with, set_row}

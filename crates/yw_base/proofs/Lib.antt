@@ -1,1 +1,2 @@
 pub mod DottedLemmas
+pub mod Parents

@@ -32,3 +32,21 @@ abbrev pub under : List ℕ → List ℕ → Bool
 under identity [] = true
 under [] (number ∷ top) = false
 under (first ∷ identity) (number ∷ top) = number == first && under identity top
+
+-- the identity with this number behind
+abbrev pub child : List ℕ → ℕ → List ℕ
+child identity number = identity ++ number ∷ []
+
+abbrev but_last : ℕ → List ℕ → List ℕ
+but_last number [] = []
+but_last number (next ∷ numbers) = number ∷ but_last next numbers
+
+-- without the last number
+abbrev pub parent : List ℕ → List ℕ
+parent [] = []
+parent (number ∷ numbers) = but_last number numbers
+
+-- the number of the case in which it lies
+abbrev pub case_number : List ℕ → ℕ
+case_number [] = 0
+case_number (number ∷ numbers) = number

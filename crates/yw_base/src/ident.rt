@@ -3,7 +3,7 @@ ghost use Rattle.std.specs.Prelude.{◌≡◌, ◌↔◌, ◌+◌, ◌*◌, ◌-
 ghost use Rattle.std.specs.Fmt.{decimal};
 ghost use Rattle.std.specs.List.{list_all};
 ghost use Rattle.std.specs.Option.{SomeIff};
-ghost use Rattle.yw_base.specs.Identity.{SpellsIdentity, dotted, is_identity, is_number, most_numbers, number_end, under};
+ghost use Rattle.yw_base.specs.Identity.{SpellsIdentity, case_number, dotted, is_identity, is_number, most_numbers, number_end, parent, under};
 
 use crate::Text;
 use std::alloc::{AllocError, Global};
@@ -207,6 +207,26 @@ impl Ident {
         numbers.extend_from_slice(&self.numbers)?;
         numbers.push(number)?;
         Ok(Ident { numbers })
+    }
+
+    /// The identity without its last number, which is that of the net, item or case above; `None` for one
+    /// number. An `Err` says that no memory was left.
+    pub fn parent(&self, alloc: Global) -> Result<Option<Ident>, AllocError>
+        ensures { IfOk result (λ above. SomeIff above (is_identity (parent self.now) ≡ true) (parent self.now)) }
+    {
+        let numbers = self.numbers();
+        let above = Vec::from_slice(alloc, &numbers[..numbers.len() - 1])?;
+        Ok(Ident::from_numbers(above))
+    }
+
+    /// The number of the case in which it lies, its first. It takes no memory.
+    pub fn case_number(&self) -> u64
+        ensures { result ≡ case_number self.now }
+    {
+        match self.numbers() {
+            [number, ..] => *number,
+            [] => 0,
+        }
     }
 
     /// A copy. An `Err` says that no memory was left.

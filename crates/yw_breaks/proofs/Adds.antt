@@ -13,9 +13,9 @@ use Rattle.yw_breaks.specs.Launch.{number_rule}
 use Rattle.yw_breaks.specs.Nets.{IsTaskNamed}
 use Rattle.yw_breaks.specs.Persons.{lacks_role}
 use Rattle.yw_breaks.specs.Tables.{add_rest}
-use Rattle.yw_known.specs.Held.{IsHeld}
+use Rattle.yw_library.specs.Held.{IsHeld}
 use Rattle.yw_known.specs.Here.{IsNetHere}
-use Rattle.yw_known.specs.Names.{names_of}
+use Rattle.yw_library.specs.Names.{names_of}
 use Rattle.yw_known.specs.declared.here.NetHere.{NetHere}
 use Rattle.yw_library.specs.Holdings.{Holdings}
 use Rattle.yw_plain.proofs.Words.{words}

@@ -5,9 +5,9 @@ use Rattle.yw_base.specs.declared.value.Value.{Value}
 use Rattle.yw_breaks.proofs.Enters.{no_task}
 use Rattle.yw_breaks.specs.Nets.{IsTaskNamed}
 use Rattle.yw_known.proofs.Standing.{kept_called, specs_are}
-use Rattle.yw_known.specs.Held.{IsHeld}
+use Rattle.yw_library.specs.Held.{IsHeld}
 use Rattle.yw_known.specs.Here.{IsItemHere, IsNetHere, as_item_at}
-use Rattle.yw_known.specs.Names.{names_of}
+use Rattle.yw_library.specs.Names.{names_of}
 use Rattle.yw_known.specs.declared.here.ItemHere.{ItemHere}
 use Rattle.yw_known.specs.declared.here.NetHere.{NetHere}
 use Rattle.yw_library.specs.Holdings.{Holdings, IsKept, state_of}
@@ -17,7 +17,8 @@ use Rattle.yw_spec.specs.declared.spec.Spec.{Spec}
 use Rattle.yw_spec.specs.declared.task.Task.{Task}
 use Rattle.yw_state.proofs.Tests.{nowhere, some_same}
 use Rattle.yw_state.specs.Given.{element_value, launch_values, made_values, misfit}
-use Rattle.yw_state.specs.Identity.{Ident, case_number}
+use Rattle.yw_state.specs.Identity.{Ident}
+use Rattle.yw_base.specs.Identity.{case_number}
 use Rattle.yw_state.specs.Legal.{IsAsked}
 use Rattle.yw_state.specs.Map.{get}
 use Rattle.yw_state.specs.Nets.{task_number, top_net}

@@ -7,9 +7,9 @@ use Rattle.yw_breaks.proofs.Joining.{then_rest}
 use Rattle.yw_breaks.proofs.Rows.{idle_row, last_place, test_row}
 use Rattle.yw_breaks.specs.Complete.{is_by_itself, most_broken}
 use Rattle.yw_breaks.specs.Tables.{complete_most}
-use Rattle.yw_known.specs.Held.{IsHeld}
+use Rattle.yw_library.specs.Held.{IsHeld}
 use Rattle.yw_known.specs.Here.{IsItemHere, as_item_at}
-use Rattle.yw_known.specs.Names.{names_of}
+use Rattle.yw_library.specs.Names.{names_of}
 use Rattle.yw_known.specs.declared.here.ItemHere.{ItemHere}
 use Rattle.yw_library.specs.Holdings.{Holdings}
 use Rattle.yw_nest.proofs.Known.{site_known}

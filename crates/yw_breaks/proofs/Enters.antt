@@ -9,9 +9,9 @@ use Rattle.yw_breaks.specs.Enter.{EnterBreaks}
 use Rattle.yw_breaks.specs.Nets.{IsTaskNamed}
 use Rattle.yw_breaks.specs.Persons.{lacks_role, worker_rule}
 use Rattle.yw_breaks.specs.Tables.{enter_rest}
-use Rattle.yw_known.specs.Held.{IsHeld}
+use Rattle.yw_library.specs.Held.{IsHeld}
 use Rattle.yw_known.specs.Here.{IsNetHere, as_net_at}
-use Rattle.yw_known.specs.Names.{names_of}
+use Rattle.yw_library.specs.Names.{names_of}
 use Rattle.yw_known.specs.declared.here.NetHere.{NetHere}
 use Rattle.yw_library.specs.Holdings.{Holdings}
 use Rattle.yw_plain.proofs.Words.{words}

@@ -2,13 +2,14 @@
 use Rattle.std.proofs.Common.{List, None, Option, Some, [], ap, false, refl, sym, true, ℕ, ◌∙◌, ◌≡◌}
 use Rattle.std.specs.Prelude.{is_none, is_some, not, option_and_then, option_map, unwrap_or}
 use Rattle.yw_breaks.specs.Persons.{is_stranger, lacks_role}
-use Rattle.yw_known.specs.Held.{IsHeld}
+use Rattle.yw_library.specs.Held.{IsHeld}
 use Rattle.yw_library.specs.Holdings.{Holdings, state_of, with_library}
 use Rattle.yw_spec.specs.declared.spec.Net.{Net}
 use Rattle.yw_spec.specs.declared.task.Task.{Task}
 use Rattle.yw_state.proofs.Tests.{by_test, never, nowhere, then_some}
 use Rattle.yw_state.specs.Broken.{has_role}
-use Rattle.yw_state.specs.Identity.{Ident, parent}
+use Rattle.yw_state.specs.Identity.{Ident}
+use Rattle.yw_base.specs.Identity.{parent}
 use Rattle.yw_state.specs.Map.{get, has_key}
 use Rattle.yw_state.specs.State.{ItemAt, ItemPart, NetAt, NetPart, State, TaskAt, is_item, item_at, item_part, net_at, net_of, net_part, task_in}
 use Rattle.yw_tree.specs.declared.Forest.{Forest}

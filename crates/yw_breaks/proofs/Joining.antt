@@ -5,7 +5,8 @@ use Rattle.std.specs.Prelude.{option_map}
 use Rattle.yw_breaks.specs.Tables.{Joins}
 use Rattle.yw_state.proofs.Tests.{nowhere}
 use Rattle.yw_state.specs.Broken.{Check, First, checks, fact, fact_at, fault, placeless, test, test_at}
-use Rattle.yw_state.specs.Identity.{Ident, case_number}
+use Rattle.yw_state.specs.Identity.{Ident}
+use Rattle.yw_base.specs.Identity.{case_number}
 use Rattle.yw_state.specs.State.{State}
 use Rattle.yw_state.specs.Texts.{Reader}
 use Rattle.yw_state.specs.declared.command.Command.{Command}

@@ -5,7 +5,7 @@ use Rattle.yw_base.specs.Identity.{number_end}
 use Rattle.yw_breaks.proofs.Rows.{broken_row, idle_row, place_row, rule_row}
 use Rattle.yw_breaks.specs.Launch.{launch_fault, unwanted_at}
 use Rattle.yw_known.proofs.Standing.{kept_called, specs_are}
-use Rattle.yw_known.specs.Held.{IsHeld}
+use Rattle.yw_library.specs.Held.{IsHeld}
 use Rattle.yw_library.specs.Holdings.{Holdings, IsKept, state_of}
 use Rattle.yw_spec.specs.declared.spec.Net.{Net}
 use Rattle.yw_spec.specs.declared.spec.Spec.{Spec}

@@ -7,9 +7,9 @@ use Rattle.yw_breaks.proofs.Rows.{idle_row, rule_row}
 use Rattle.yw_breaks.specs.Persons.{lacks_role, worker_rule}
 use Rattle.yw_breaks.specs.Start.{start_rule}
 use Rattle.yw_breaks.specs.Tables.{start_rest}
-use Rattle.yw_known.specs.Held.{IsHeld}
+use Rattle.yw_library.specs.Held.{IsHeld}
 use Rattle.yw_known.specs.Here.{IsItemHere, as_item_at}
-use Rattle.yw_known.specs.Names.{names_of}
+use Rattle.yw_library.specs.Names.{names_of}
 use Rattle.yw_known.specs.declared.here.ItemHere.{ItemHere}
 use Rattle.yw_library.specs.Holdings.{Holdings}
 use Rattle.yw_plain.proofs.Words.{words}

@@ -5,7 +5,7 @@ use Rattle.yw_base.specs.declared.value.Value.{Value}
 use Rattle.yw_breaks.specs.Launch.{number_rule}
 use Rattle.yw_breaks.specs.Persons.{lacks_role}
 use Rattle.yw_breaks.specs.Tables.{add_rest}
-use Rattle.yw_known.specs.Held.{IsHeld}
+use Rattle.yw_library.specs.Held.{IsHeld}
 use Rattle.yw_known.specs.Here.{IsNetHere}
 use Rattle.yw_known.specs.declared.here.NetHere.{NetHere}
 use Rattle.yw_library.specs.Holdings.{Holdings}

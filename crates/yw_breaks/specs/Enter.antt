@@ -1,7 +1,7 @@
 -- What an entry breaks first behind the check that the case is quiet, where the net has the task.
 use Rattle.std.specs.Prelude.{◌≡◌, ℕ, List, None, Option, Some, drop, is_some, length, option_map, slice_get, true}
 use Rattle.std.specs.List.{All}
-use Rattle.yw_known.specs.Held.{IsHeld}
+use Rattle.yw_library.specs.Held.{IsHeld}
 use Rattle.yw_known.specs.Here.{IsNetHere}
 use Rattle.yw_known.specs.declared.here.NetHere.{NetHere}
 use Rattle.yw_library.specs.Holdings.{Holdings}

@@ -1,7 +1,7 @@
 -- The event that a command asks for, where the command breaks no rule.
 use Rattle.std.specs.Prelude.{◌≡◌, ℕ, List, None, Option, Some, option_and_then}
 use Rattle.yw_base.specs.declared.value.Value.{Value}
-use Rattle.yw_known.specs.Held.{IsHeld}
+use Rattle.yw_library.specs.Held.{IsHeld}
 use Rattle.yw_library.specs.Holdings.{Holdings}
 use Rattle.yw_model.specs.Texts.{reader}
 use Rattle.yw_state.specs.Allowed.{Allowed}

@@ -1,6 +1,6 @@
 -- What is found, whatever the state is that is held.
 use Rattle.std.specs.Prelude.{◌≡◌, ℕ, List, None, Option, Some, Result, Ok, Err}
-use Rattle.yw_known.specs.Held.{IsHeld}
+use Rattle.yw_library.specs.Held.{IsHeld}
 use Rattle.yw_known.specs.Here.{SaysItem, SaysNet}
 use Rattle.yw_known.specs.declared.here.ItemHere.{ItemHere}
 use Rattle.yw_known.specs.declared.here.NetHere.{NetHere}

@@ -5,7 +5,8 @@ use Rattle.yw_base.specs.declared.value.Value.{Value}
 use Rattle.yw_state.specs.Automatic.{IsQuiet}
 use Rattle.yw_state.specs.Broken.{Breaks, Check, First, bad_element, complete_checks, enter_checks, has_role, is_spent, placeless, start_checks, test, test_at, undefined_in}
 use Rattle.yw_state.specs.Given.{element_value}
-use Rattle.yw_state.specs.Identity.{Ident, case_number}
+use Rattle.yw_state.specs.Identity.{Ident}
+use Rattle.yw_base.specs.Identity.{case_number}
 use Rattle.yw_state.specs.Map.{get}
 use Rattle.yw_state.specs.Options.{is_some_and}
 use Rattle.yw_state.specs.State.{State, TaskAt, items_of, task_at}

@@ -1,7 +1,7 @@
 // A case is cancelled, or gone on with.
 ghost use Rattle.std.specs.Prelude.{◌≡◌, option_map};
 ghost use Rattle.yw_breaks.specs.Persons.{case_rule};
-ghost use Rattle.yw_known.specs.Held.{IsHeld};
+ghost use Rattle.yw_library.specs.Held.{IsHeld};
 ghost use Rattle.yw_library.specs.Holdings.{Holdings};
 ghost use Rattle.yw_model.specs.Texts.{reader};
 ghost use Rattle.yw_state.specs.Broken.{Breaks, placeless};

@@ -5,7 +5,7 @@ ghost use Rattle.yw_known.specs.Here.{SaysItem, SaysNet};
 ghost use Rattle.yw_library.specs.Holdings.{Holdings};
 ghost use Rattle.yw_model.specs.Texts.{reader};
 ghost use Rattle.yw_state.specs.Identity as ids;
-ghost use Rattle.yw_state.specs.Identity.{case_number};
+ghost use Rattle.yw_base.specs.Identity.{case_number};
 ghost use Rattle.yw_state.specs.Legal.{IsAsked};
 ghost use Rattle.yw_state.specs.State.{State};
 ghost use Rattle.yw_state.specs.declared.command.Command.TheVariants as commands;
@@ -19,16 +19,6 @@ use yw_known::{ItemHere, Known, NetHere};
 use yw_state::{Event, GivenList};
 use yw_task::task_at;
 
-/// The number of the case in which this lies.
-fn case_number(id: &Ident) -> u64
-    ensures { result ≡ case_number id.now }
-{
-    match id.numbers() {
-        [first, ..] => *first,
-        [] => 0,
-    }
-}
-
 /// The event that a start asks for. It takes no memory.
 pub fn start_event(who: Name, item: Ident) -> Event
     ensures { (s : State) → IsAsked reader s (commands.Start who item) result }
@@ -41,7 +31,7 @@ pub fn cancel_event(case: &Ident) -> Event
     ensures { (s : State) → IsAsked reader s (commands.Cancel case.now) result }
 {
     Event::Cancel {
-        case: case_number(case),
+        case: case.case_number(),
     }
 }
 
@@ -50,7 +40,7 @@ pub fn advance_event(case: &Ident) -> Event
     ensures { (s : State) → IsAsked reader s (commands.Advance case.now) result }
 {
     Event::Advance {
-        case: case_number(case),
+        case: case.case_number(),
     }
 }
 

@@ -3,7 +3,7 @@ ghost use Rattle.std.specs.Prelude.{◌≡◌, ◌<◌, None, IfOk, IfSome, Matc
 ghost use Rattle.yw_breaks.specs.Finds.{FindsNet};
 ghost use Rattle.yw_breaks.specs.Nets.{IsTaskNamed, IsWithinHere};
 ghost use Rattle.yw_breaks.specs.Tables.{net_front};
-ghost use Rattle.yw_known.specs.Held.{IsHeld};
+ghost use Rattle.yw_library.specs.Held.{IsHeld};
 ghost use Rattle.yw_known.specs.Here.{IsNetHere};
 ghost use Rattle.yw_state.specs.Nets.{task_number};
 ghost use Rattle.yw_state.specs.State.{State, net_part};

@@ -17,7 +17,7 @@ use Rattle.yw_cases.specs.declared.standing.Standing.{Standing}
 use Rattle.yw_expr.specs.Meaning.{val}
 use Rattle.yw_expr.specs.Tree.{Tree}
 use Rattle.yw_known.specs.Here.{IsNetHere, as_net_at}
-use Rattle.yw_known.specs.Names.{names_of}
+use Rattle.yw_library.specs.Names.{names_of}
 use Rattle.yw_known.specs.declared.here.NetHere.{NetHere}
 use Rattle.yw_known.specs.declared.known.KnownNet.{KnownNet}
 use Rattle.yw_spec.specs.declared.task.Many.{Many}

@@ -2,7 +2,7 @@
 use Rattle.std.proofs.Common.{ap, subst, sym, ◌∙◌}
 use Rattle.std.proofs.lemmas.Bool.{and_from}
 use Rattle.std.specs.Prelude.{Bool, IsSome, List, MatchOption, None, Option, Some, false, is_none, is_some, refl, true, ℕ, ◌&&◌, ◌||◌, ◌∷◌, ◌≡◌}
-use Rattle.yw_base.specs.Identity.{is_identity}
+use Rattle.yw_base.specs.Identity.{is_identity, parent}
 use Rattle.yw_cases.proofs.Allows.{free}
 use Rattle.yw_cases.proofs.HereLaw.{no_item}
 use Rattle.yw_cases.proofs.Trying.{done, fails, leads_plainly, placed, stands_well, words_of}
@@ -12,7 +12,7 @@ use Rattle.yw_cases.specs.Tried.{IsDone, LeadsNowhere, LeadsOn, TellsLeads}
 use Rattle.yw_cases.specs.declared.standing.Standing.{Standing}
 use Rattle.yw_invariant.proofs.Tasks.{atomic_has_no_child}
 use Rattle.yw_known.specs.Here.{IsItemHere, as_item_at, as_net_at}
-use Rattle.yw_known.specs.Names.{names_of}
+use Rattle.yw_library.specs.Names.{names_of}
 use Rattle.yw_known.specs.declared.here.ItemHere.{ItemHere}
 use Rattle.yw_model.specs.Texts.{reader}
 use Rattle.yw_nest.proofs.FromState.{item_stands}
@@ -22,7 +22,7 @@ use Rattle.yw_state.proofs.Tests.{and_left, and_right, by_option, never, there_a
 use Rattle.yw_state.specs.Allowed.{Allowed, allows, may_complete}
 use Rattle.yw_state.specs.Broken.{Check, First, test_at}
 use Rattle.yw_state.specs.Events.{Leads}
-use Rattle.yw_state.specs.Identity.{Ident, parent}
+use Rattle.yw_state.specs.Identity.{Ident}
 use Rattle.yw_state.specs.Judged.{task_place}
 use Rattle.yw_state.specs.Nets.{child_net, is_atomic}
 use Rattle.yw_state.specs.Options.{is_some_and}

@@ -15,7 +15,7 @@ use Rattle.yw_cases.specs.Tried.{IsDone, LeadsOn}
 use Rattle.yw_cases.specs.declared.standing.Standing.{Standing}
 use Rattle.yw_invariant.proofs.Levels.{net_is_short}
 use Rattle.yw_known.specs.Here.{as_net_at}
-use Rattle.yw_known.specs.Names.{names_of}
+use Rattle.yw_library.specs.Names.{names_of}
 use Rattle.yw_known.specs.declared.known.KnownNet.{KnownNet}
 use Rattle.yw_mark.specs.Tokens.{HasMarks}
 use Rattle.yw_mark.specs.declared.join.Taken.{Taken}

@@ -16,7 +16,7 @@ use Rattle.yw_cases.specs.declared.standing.Standing.{Standing}
 use Rattle.yw_enabled.specs.Entered.{MayEnter, MayNotEnter, item_count}
 use Rattle.yw_enabled.specs.Free.{MayDraw}
 use Rattle.yw_known.specs.Here.{IsNetHere}
-use Rattle.yw_known.specs.Names.{names_of}
+use Rattle.yw_library.specs.Names.{names_of}
 use Rattle.yw_known.specs.declared.here.NetHere.{NetHere}
 use Rattle.yw_mark.specs.declared.join.Taken.{Taken}
 use Rattle.yw_model.specs.Texts.{reader}

@@ -16,7 +16,7 @@ use Rattle.yw_cases.specs.declared.standing.Standing.{Standing}
 use Rattle.yw_enabled.specs.Free.{StandsFree}
 use Rattle.yw_enabled.specs.Left.{IsLeavingAs}
 use Rattle.yw_known.specs.Here.{IsNetHere, as_net_at}
-use Rattle.yw_known.specs.Names.{names_of}
+use Rattle.yw_library.specs.Names.{names_of}
 use Rattle.yw_known.specs.declared.here.NetHere.{NetHere}
 use Rattle.yw_known.specs.declared.known.KnownNet.{KnownNet}
 use Rattle.yw_model.specs.Texts.{reader}

@@ -2,15 +2,15 @@
 use Rattle.std.proofs.Common.{ap, subst, sym, ◌∙◌}
 use Rattle.std.specs.Borrow.{Bor}
 use Rattle.std.specs.Prelude.{MatchOption, None, Option, Some, false, is_some, option_and_then, option_map, true, ◌≡◌}
-use Rattle.yw_base.specs.Identity.{is_identity}
+use Rattle.yw_base.specs.Identity.{is_identity, parent}
 use Rattle.yw_cases.specs.Here.{IsNetKnown}
 use Rattle.yw_known.proofs.Standing.{net_is_here, numbered}
-use Rattle.yw_known.specs.Held.{IsHeld}
+use Rattle.yw_library.specs.Held.{IsHeld}
 use Rattle.yw_known.specs.Known.{IsKnownNet, net_numbered}
 use Rattle.yw_library.specs.Holdings.{AreNamed, Holdings}
 use Rattle.yw_known.specs.declared.known.KnownNet.{KnownNet}
 use Rattle.yw_state.proofs.Tests.{by_option, never}
-use Rattle.yw_state.specs.Identity.{Ident, parent}
+use Rattle.yw_state.specs.Identity.{Ident}
 use Rattle.yw_state.specs.Joins.{at_output, marked}
 use Rattle.yw_state.specs.Options.{is_some_and}
 use Rattle.yw_state.specs.State.{ItemAt, ItemPart, NetAt, NetPart, State, TaskAt, is_item, item_at, item_part, net_at, net_of, net_part, task_in}

@@ -9,7 +9,7 @@ use Rattle.yw_cases.specs.State.{MayStand, state_of}
 use Rattle.yw_cases.specs.Tried.{IsDone, LeadsNowhere, LeadsOn, TellsLeads}
 use Rattle.yw_cases.specs.declared.standing.Standing.{Standing}
 use Rattle.yw_known.proofs.Standing.{kept_called, kept_named, kept_within, specs_are}
-use Rattle.yw_known.specs.Names.{names_of}
+use Rattle.yw_library.specs.Names.{names_of}
 use Rattle.yw_library.specs.Holdings as library
 use Rattle.yw_library.specs.Holdings.{IsKept}
 use Rattle.yw_nest.proofs.FromState.{case_begins}

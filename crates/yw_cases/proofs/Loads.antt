@@ -12,7 +12,7 @@ use Rattle.yw_cases.specs.Tried.{IsDone, LeadsNowhere, LeadsOn, TellsLeads}
 use Rattle.yw_cases.specs.declared.standing.Standing.{Standing}
 use Rattle.yw_known.proofs.Names.{load_keeps_sites}
 use Rattle.yw_known.proofs.Standing.{specs_are}
-use Rattle.yw_known.specs.Names.{names_of}
+use Rattle.yw_library.specs.Names.{names_of}
 use Rattle.yw_library.specs.Always.{AlwaysBreaks, AlwaysLeads, IsTried}
 use Rattle.yw_library.specs.Holdings as library
 use Rattle.yw_library.specs.Holdings.{AddsSpec, Holdings, IsKept, nothing as nothing_held, with_library, with_person}

@@ -6,7 +6,7 @@ use Rattle.yw_cases.specs.Rested.{StandsRested}
 use Rattle.yw_cases.specs.State.{state_of}
 use Rattle.yw_cases.specs.Tried.{IsDone}
 use Rattle.yw_cases.specs.declared.standing.Standing.{Standing}
-use Rattle.yw_known.specs.Held.{IsHeld}
+use Rattle.yw_library.specs.Held.{IsHeld}
 use Rattle.yw_library.specs.Holdings.{Holdings}
 use Rattle.yw_loose.proofs.Counting.{followed_right}
 use Rattle.yw_loose.proofs.Following.{leaves_follows}

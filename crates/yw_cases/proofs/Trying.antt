@@ -8,7 +8,7 @@ use Rattle.yw_cases.specs.Tried.{IsDone, LeadsNowhere, LeadsOn}
 use Rattle.yw_cases.specs.declared.standing.Standing.{Standing}
 use Rattle.yw_invariant.proofs.EventsWell.{event_keeps_well}
 use Rattle.yw_invariant.proofs.FromOpening.{opening_is_well}
-use Rattle.yw_known.specs.Names.{names_of}
+use Rattle.yw_library.specs.Names.{names_of}
 use Rattle.yw_library.specs.Holdings as library
 use Rattle.yw_library.specs.Holdings.{Holdings, with_library}
 use Rattle.yw_model.specs.Texts.{reader}

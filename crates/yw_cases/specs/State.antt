@@ -1,18 +1,14 @@
 -- The state that what is kept stands for, and what is so of it.
-use Rattle.yw_library.specs.Ended.{ended_of}
 use Rattle.yw_cases.specs.declared.standing.Standing.{Standing}
-use Rattle.yw_known.specs.Held.{IsHeld}
-use Rattle.yw_known.specs.Names.{names_of}
-use Rattle.yw_library.specs.Holdings.{with_library}
+use Rattle.yw_library.specs.Held.{IsHeld}
+use Rattle.yw_library.specs.Parts as parts
 use Rattle.yw_library.specs.declared.parts.Parts.{Parts}
 use Rattle.yw_plain.specs.Plain.{IsPlain}
 use Rattle.yw_plain.specs.Worklets.{HasNoWorklet}
-use Rattle.yw_state.specs.State.{State, opening}
-use Rattle.yw_tree.specs.Forest.{sites_of}
+use Rattle.yw_state.specs.State.{State}
 
--- No tree has a rule.
 abbrev pub state_of : Standing → State
-state_of h = with_library (record opening { next = h.next; sites = sites_of (names_of h.known) h.forest; ended = ended_of h.ended }) h.known
+state_of h = parts.state_of (record { library = h.known; forest = h.forest; next = h.next; ended = h.ended })
 
 -- what these parts hold
 abbrev pub standing_of : Parts → Standing

@@ -2,7 +2,7 @@
 ghost use Rattle.std.specs.Prelude.{◌≡◌, ◌+◌, ◌==◌, ◌&&◌, None, MatchOption, nat_le};
 ghost use Rattle.yw_base.specs.Identity.{number_end};
 ghost use Rattle.yw_cases.specs.Here.{IsNetKnown};
-ghost use Rattle.yw_known.specs.Held.{IsHeld};
+ghost use Rattle.yw_library.specs.Held.{IsHeld};
 ghost use Rattle.yw_state.specs.Joins.{at_output};
 ghost use Rattle.yw_state.specs.State.{State, net_part};
 

@@ -5,8 +5,8 @@ ghost use Rattle.yw_cases.specs.Items.{item_suits, suits};
 ghost use Rattle.yw_cases.specs.State.{MayStand, state_of};
 ghost use Rattle.yw_cases.specs.declared.items.ItemEvent.TheVariants.{CompleteSub};
 ghost use Rattle.yw_cases.specs.Tried.{IsDone, LeadsOn, TellsLeads};
-ghost use Rattle.yw_known.specs.Held.{IsHeld};
-ghost use Rattle.yw_state.specs.Identity.{parent};
+ghost use Rattle.yw_library.specs.Held.{IsHeld};
+ghost use Rattle.yw_base.specs.Identity.{parent};
 ghost use Rattle.yw_state.specs.Joins.{at_output};
 ghost use Rattle.yw_state.specs.State.{State, item_at};
 ghost use Rattle.yw_state.specs.declared.event.Event.TheVariants as events;
@@ -16,7 +16,6 @@ use crate::standing::Standing;
 use crate::whole::NO_CHECKS;
 use std::alloc::{AllocError, Global};
 use yw_base::{Ident, Name};
-use yw_idents::parent;
 use yw_known::{Known, KnownNet, item_here};
 use yw_spec::{Kind, Task};
 use yw_state::Stage;
@@ -69,7 +68,11 @@ pub fn outer_net<'a>(
     ensures { IfOk result (λ net. (s : State) → IsHeld known.now forest.now s
         → MatchOption net (item_at s j.now ≡ None) (IsNetKnown known.now forest.now s (parent j.now))) }
 {
-    match parent(alloc, j)? {
+    let numbers = j.numbers();
+    if numbers.is_empty() {
+        unreachable!();
+    }
+    match j.parent(alloc)? {
         Some(at) => Ok(known_net(known, forest, &at)),
         None => Ok(None),
     }

@@ -4,7 +4,7 @@ use Rattle.std.proofs.lemmas.Bool.{and_from, and_parts, eq-eqb}
 use Rattle.std.specs.Cmp.Lexicographic.{pointwise}
 use Rattle.std.specs.List.{list_all}
 use Rattle.std.specs.Prelude.{filter, nat_eq, nat_le, nat_lt, not, unwrap_or, ◌==◌, ◌&&◌}
-use Rattle.yw_base.specs.Identity.{number_end}
+use Rattle.yw_base.specs.Identity.{number_end, case_number}
 use Rattle.yw_base.specs.declared.gate.Gate.{Gate}
 use Rattle.yw_base.specs.declared.gate.Gate.TheVariants.{And, Or, Xor}
 use Rattle.yw_enabled.proofs.LeaveLaw.{among_after}
@@ -15,7 +15,7 @@ use Rattle.yw_mark.specs.Taking.{taken_places}
 use Rattle.yw_mark.specs.declared.join.Taken.{Taken}
 use Rattle.yw_state.proofs.Tests.{never, same_numbers, some_same, there_and}
 use Rattle.yw_state.specs.Allowed.{Allowed, allows, exit_values, has_room_for, may_exit, may_leave, place_numbers, puts_on}
-use Rattle.yw_state.specs.Identity.{Ident, case_number}
+use Rattle.yw_state.specs.Identity.{Ident}
 use Rattle.yw_state.specs.Joins.{NoWait, has_tokens, joins, marked}
 use Rattle.yw_state.specs.Judged.{is_manual}
 use Rattle.yw_state.specs.Nets.{is_among}

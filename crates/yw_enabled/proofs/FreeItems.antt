@@ -20,7 +20,8 @@ use Rattle.yw_task.proofs.ItemLaw.{its_busy, its_site}
 use Rattle.yw_task.specs.Standing.{ItemStands}
 use Rattle.yw_tree.proofs.FindLaw.{item_shown}
 use Rattle.yw_tree.proofs.ItemThere.{item_there, its_child}
-use Rattle.yw_tree.proofs.Parents.{identity_long, identity_short}
+use Rattle.yw_tree.proofs.Parents.{identity_short}
+use Rattle.yw_base.proofs.Parents.{identity_long}
 use Rattle.yw_tree.specs.Entries.{item_part_of, item_site}
 use Rattle.yw_tree.specs.Forest.{IsForest, item_of, sites_of}
 use Rattle.yw_tree.specs.Places.{net_at}

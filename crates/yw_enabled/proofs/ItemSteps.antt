@@ -28,7 +28,8 @@ use Rattle.yw_task.proofs.ItemLaw.{its_busy, known_part}
 use Rattle.yw_task.specs.Standing.{NetStands}
 use Rattle.yw_tree.proofs.BusyLaw.{busy_is}
 use Rattle.yw_tree.proofs.CaseLaw.{case_stands}
-use Rattle.yw_tree.proofs.Parents.{identity_long, identity_short}
+use Rattle.yw_tree.proofs.Parents.{identity_short}
+use Rattle.yw_base.proofs.Parents.{identity_long}
 use Rattle.yw_tree.specs.Entries.{case_site, item_part_of}
 use Rattle.yw_tree.specs.declared.Case.{Case}
 use Rattle.yw_tree.specs.declared.Forest.{Forest}

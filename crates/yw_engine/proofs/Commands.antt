@@ -15,7 +15,7 @@ use Rattle.yw_cases.specs.Tried.{LeadsOn}
 use Rattle.yw_cases.specs.declared.standing.Standing.{Standing}
 use Rattle.yw_engine.specs.Decides.{BreaksNow, Makes}
 use Rattle.yw_engine.proofs.Parts.{held_by, next_of}
-use Rattle.yw_known.specs.Held.{IsHeld}
+use Rattle.yw_library.specs.Held.{IsHeld}
 use Rattle.yw_library.specs.Holdings.{Holdings}
 use Rattle.yw_model.specs.Texts.{reader}
 use Rattle.yw_spec.specs.declared.spec.Net.{Net}
@@ -25,7 +25,8 @@ use Rattle.yw_state.specs.Automatic.{case_of}
 use Rattle.yw_state.specs.Broken.{checks}
 use Rattle.yw_state.specs.Events.{Leads}
 use Rattle.yw_state.specs.Given.{element_value, launch_values}
-use Rattle.yw_state.specs.Identity.{Ident, case_number}
+use Rattle.yw_state.specs.Identity.{Ident}
+use Rattle.yw_base.specs.Identity.{case_number}
 use Rattle.yw_state.specs.Legal.{IsAsked}
 use Rattle.yw_state.specs.State.{TaskAt, task_at, top_called}
 use Rattle.yw_state.specs.declared.command.Command.{Command}

@@ -14,14 +14,15 @@ use Rattle.yw_cases.specs.declared.standing.Standing.{Standing}
 use Rattle.yw_engine.proofs.Commands.{as_asked, of_kind}
 use Rattle.yw_engine.specs.Decides.{Makes}
 use Rattle.yw_known.specs.Here.{IsItemHere, SaysItem, as_item_at, as_net_at}
-use Rattle.yw_known.specs.Names.{names_of}
+use Rattle.yw_library.specs.Names.{names_of}
 use Rattle.yw_known.specs.declared.here.ItemHere.{ItemHere}
 use Rattle.yw_model.specs.Texts.{reader}
 use Rattle.yw_state.proofs.Tests.{map_some, some_same}
 use Rattle.yw_state.specs.Automatic.{case_of}
 use Rattle.yw_state.specs.Broken.{First}
 use Rattle.yw_state.specs.Given.{made_values, misfit}
-use Rattle.yw_state.specs.Identity.{Ident, case_number, parent}
+use Rattle.yw_state.specs.Identity.{Ident}
+use Rattle.yw_base.specs.Identity.{case_number, parent}
 use Rattle.yw_state.specs.Legal.{IsAsked}
 use Rattle.yw_state.specs.State.{ItemAt, State, item_at}
 use Rattle.yw_state.specs.Values.{Row}

@@ -14,7 +14,8 @@ use Rattle.yw_state.specs.Allowed.{Allowed}
 use Rattle.yw_state.specs.Automatic.{case_of}
 use Rattle.yw_state.specs.Broken.{entry_count}
 use Rattle.yw_state.specs.Events.{Leads, after}
-use Rattle.yw_state.specs.Identity.{Ident, case_number}
+use Rattle.yw_state.specs.Identity.{Ident}
+use Rattle.yw_base.specs.Identity.{case_number}
 use Rattle.yw_state.specs.Legal.{IsAsked}
 use Rattle.yw_state.specs.State.{TaskAt, task_at}
 use Rattle.yw_state.specs.Texts.{nothing}

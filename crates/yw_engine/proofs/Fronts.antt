@@ -10,7 +10,8 @@ use Rattle.yw_engine.specs.declared.fault.EngineFault.{EngineFault}
 use Rattle.yw_engine.specs.declared.fault.EngineFault.TheVariants as faults
 use Rattle.yw_model.specs.Texts.{reader}
 use Rattle.yw_state.specs.Broken.{Check, First, placeless}
-use Rattle.yw_state.specs.Identity.{Ident, case_number}
+use Rattle.yw_state.specs.Identity.{Ident}
+use Rattle.yw_base.specs.Identity.{case_number}
 use Rattle.yw_state.specs.declared.command.Command.{Command}
 use Rattle.yw_state.specs.declared.rule.Refusal.{Refusal}
 use Rattle.yw_state.specs.declared.rule.Rule.{Rule}

@@ -13,7 +13,6 @@ use crate::work::Work;
 use crate::{Decided, EngineFault};
 use yw_base::{Ident, Name, Value};
 use yw_breaks::{add_event, add_rest, net_front};
-use yw_idents::case_number;
 use yw_known::NetHere;
 use yw_state::Event;
 
@@ -31,7 +30,7 @@ fn add_here(
     requires front { First (add_front (state_of work.now.standing) who.now net) None }
     ensures { Makes work.now.standing (commands.Add who.now net task value) result }
 {
-    if let Some(refusal) = breaks_quiet(work, case_number(&net))? {
+    if let Some(refusal) = breaks_quiet(work, net.case_number())? {
         return Err(EngineFault::Refused(refusal));
     }
     let standing = &work.standing;
@@ -74,7 +73,7 @@ pub fn decide_add(
     requires { MayStand work.old.standing }
     ensures { Decides work.old.standing (commands.Add who.now net task value) result work.new.standing }
 {
-    let case = case_number(&net);
+    let case = net.case_number();
     let event = add_made(work, who, net, task, value)?;
     Ok(begin(work, event, Some(case))?)
 }

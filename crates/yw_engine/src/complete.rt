@@ -13,7 +13,6 @@ use crate::work::Work;
 use crate::{Decided, EngineFault};
 use yw_base::{Ident, Name};
 use yw_breaks::{complete_most, complete_values, item_front};
-use yw_idents::case_number;
 use yw_known::ItemHere;
 use yw_state::{Event, GivenList};
 use yw_steps::ask_complete;
@@ -31,7 +30,7 @@ fn complete_here(
     requires front { First (complete_front (state_of work.now.standing) who.now item given.now) None }
     ensures { Makes work.now.standing (commands.Complete who.now item given.now) result }
 {
-    if let Some(refusal) = breaks_quiet(work, case_number(&item))? {
+    if let Some(refusal) = breaks_quiet(work, item.case_number())? {
         return Err(EngineFault::Refused(refusal));
     }
     if let Some(refusal) = complete_most(work.alloc, here, who, given)? {
@@ -74,7 +73,7 @@ pub fn decide_complete(
     requires { MayStand work.old.standing }
     ensures { Decides work.old.standing (commands.Complete who item out.now) result work.new.standing }
 {
-    let case = case_number(&item);
+    let case = item.case_number();
     let event = complete_made(work, &who, item, out)?;
     Ok(begin(work, event, Some(case))?)
 }

@@ -14,7 +14,6 @@ use crate::whole::{decide_advance, decide_cancel};
 use crate::work::Work;
 use crate::{Decided, EngineFault};
 use std::alloc::AllocError;
-use yw_idents::case_number;
 use yw_state::Command;
 
 /// Looks at the case of a command that wants it to be quiet: so it is looked at whole once, and neither behind the command's event again,
@@ -24,9 +23,9 @@ fn look_at(work: &mut Work, command: &Command) -> Result<(), AllocError>
     ensures { work.new.standing ≡ work.old.standing }
 {
     match command {
-        Command::Enter { case, .. } | Command::Add { case, .. } => work.look(case_number(case)),
+        Command::Enter { case, .. } | Command::Add { case, .. } => work.look(case.case_number()),
         Command::Start { item, .. } | Command::Complete { item, .. } => {
-            work.look(case_number(item))
+            work.look(item.case_number())
         }
         _ => Ok(()),
     }

@@ -11,7 +11,6 @@ use crate::{Decided, EngineFault};
 use std::alloc::AllocError;
 use yw_base::{Ident, Name};
 use yw_breaks::{enter_rest, net_front};
-use yw_idents::case_number;
 use yw_state::Refusal;
 
 /// The first rule that an entry breaks.
@@ -28,7 +27,7 @@ fn enter_breaks(
     let known = standing.known();
     match net_front(known, standing.forest(), who, at) {
         Err(rule) => Ok(Some(placeless(work.alloc, rule))),
-        Ok(here) => match breaks_quiet(work, case_number(at))? {
+        Ok(here) => match breaks_quiet(work, at.case_number())? {
             Some(refusal) => Ok(Some(refusal)),
             None => enter_rest(work.alloc, known, &here, standing.next(), who, task),
         },
@@ -51,5 +50,5 @@ pub fn decide_enter(
     let Some(event) = work.standing.entry_event(net, task)? else {
         unreachable!();
     };
-    Ok(begin(work, event, Some(case_number(net)))?)
+    Ok(begin(work, event, Some(net.case_number()))?)
 }

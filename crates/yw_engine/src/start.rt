@@ -11,7 +11,6 @@ use crate::{Decided, EngineFault};
 use std::alloc::AllocError;
 use yw_base::{Ident, Name};
 use yw_breaks::{item_front, start_rest};
-use yw_idents::case_number;
 use yw_state::{Event, Refusal};
 
 /// The first rule that a start breaks.
@@ -23,7 +22,7 @@ fn start_breaks(work: &Work, who: &Name, item: &Ident) -> Result<Option<Refusal>
     let known = standing.known();
     match item_front(known, standing.forest(), who, item) {
         Err(rule) => Ok(Some(placeless(work.alloc, rule))),
-        Ok(here) => match breaks_quiet(work, case_number(item))? {
+        Ok(here) => match breaks_quiet(work, item.case_number())? {
             Some(refusal) => Ok(Some(refusal)),
             None => Ok(start_rest(work.alloc, known, &here, who)),
         },
@@ -38,6 +37,6 @@ pub fn decide_start(work: &mut Work, who: Name, item: Ident) -> Result<Decided, 
     if let Some(refusal) = start_breaks(work, &who, &item)? {
         return Err(EngineFault::Refused(refusal));
     }
-    let case = case_number(&item);
+    let case = item.case_number();
     Ok(begin(work, Event::Start { item, who }, Some(case))?)
 }

@@ -9,7 +9,6 @@ use crate::work::Work;
 use crate::{Decided, EngineFault};
 use yw_base::Ident;
 use yw_breaks::{advance_breaks, cancel_breaks};
-use yw_idents::case_number;
 use yw_state::Event;
 
 /// A case is cancelled.
@@ -20,7 +19,7 @@ pub fn decide_cancel(work: &mut Work, at: &Ident) -> Result<Decided, EngineFault
     if let Some(rule) = cancel_breaks(work.standing.forest(), at) {
         return Err(EngineFault::Refused(placeless(work.alloc, rule)));
     }
-    let case = case_number(at);
+    let case = at.case_number();
     Ok(begin(work, Event::Cancel { case }, Some(case))?)
 }
 
@@ -32,6 +31,6 @@ pub fn decide_advance(work: &mut Work, at: &Ident) -> Result<Decided, EngineFaul
     if let Some(rule) = advance_breaks(work.standing.forest(), at) {
         return Err(EngineFault::Refused(placeless(work.alloc, rule)));
     }
-    let case = case_number(at);
+    let case = at.case_number();
     Ok(begin(work, Event::Advance { case }, Some(case))?)
 }

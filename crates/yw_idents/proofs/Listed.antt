@@ -5,7 +5,7 @@ use Rattle.std.specs.FinMap.Entries.{is_sorted}
 use Rattle.std.specs.List.{All, Contains}
 use Rattle.std.specs.Ordering.{eq_by_cmp, nat_cmp}
 use Rattle.std.specs.Prelude.{T}
-use Rattle.yw_base.specs.Identity.{under}
+use Rattle.yw_base.specs.Identity.{under, case_number}
 use Rattle.yw_idents.specs.Idents.{AreAllIn, idents_of}
 use Rattle.yw_sites.proofs.Each.{Each-front, each_rest}
 use Rattle.yw_sites.proofs.Prefix.{under_refl}
@@ -15,7 +15,7 @@ use Rattle.yw_sites.specs.Idents.{Each}
 use Rattle.yw_state.proofs.MapEntries.{get-of_entries}
 use Rattle.yw_state.proofs.MapLemmas.{by_name, tied}
 use Rattle.yw_state.proofs.Tests.{by_test, nowhere}
-use Rattle.yw_state.specs.Identity.{Ident, case_ident, case_number}
+use Rattle.yw_state.specs.Identity.{Ident, case_ident}
 use Rattle.yw_state.specs.Map.{get, lexical}
 use Rattle.yw_state.specs.State.{Site, State}
 use Rattle.yw_state.specs.Well.{Stands}

@@ -2,7 +2,8 @@
 //! nothing.
 ghost use Rattle.std.specs.Prelude.{◌≡◌, ℕ, List, None, Some};
 ghost use Rattle.yw_idents.specs.Idents.{AreAllIn, idents_of};
-ghost use Rattle.yw_state.specs.Identity.{Ident, case_number};
+ghost use Rattle.yw_state.specs.Identity.{Ident};
+ghost use Rattle.yw_base.specs.Identity.{case_number};
 ghost use Rattle.yw_state.specs.State.{Site, State};
 ghost use Rattle.yw_state.specs.Well.{Stands};
 ghost use Rattle.yw_tree.specs.Cases.{case_at};

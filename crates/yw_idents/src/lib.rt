@@ -2,9 +2,7 @@
 //! clause proves what.
 #![tactic(auto)]
 
-mod above;
 pub mod laws;
 mod listing;
 
-pub use above::{case_number, parent};
 pub use listing::idents_in;

@@ -4,12 +4,12 @@ use Rattle.std.specs.Ordering.{eq_by_cmp}
 use Rattle.std.proofs.Common.{sym, ◌∙◌, ap, subst, inl, inr, arith}
 use Rattle.std.proofs.lemmas.Bool.{and_parts, cases_lt, eq-eqb, ltb-true}
 use Rattle.std.specs.List.{list_all}
-use Rattle.yw_base.specs.Identity.{is_number, most_numbers}
+use Rattle.yw_base.specs.Identity.{is_number, most_numbers, case_number, parent}
 use Rattle.yw_invariant.proofs.Places.{case_of_parent, deep_is_no_case, is_its_case, longer_below, parent_below, shorter, strictly_under_other}
 use Rattle.yw_state.proofs.Alike.{has_part, item_in, net_by}
 use Rattle.yw_state.proofs.MapLemmas.{by_name, by_option, by_test, never, nowhere, tied, tied_self}
 use Rattle.yw_state.proofs.Tests.{there}
-use Rattle.yw_state.specs.Identity.{Ident, case_ident, case_number, is_case_ident, parent, strictly_under}
+use Rattle.yw_state.specs.Identity.{Ident, case_ident, is_case_ident, strictly_under}
 use Rattle.yw_state.specs.Map.{get, lexical}
 use Rattle.yw_state.specs.State.{State, Site, ItemPart, RunPart, is_case, is_target, item_part, net_part, run_part}
 use Rattle.yw_state.specs.Texts.{Reader}

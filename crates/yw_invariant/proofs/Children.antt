@@ -4,10 +4,10 @@ use Rattle.std.specs.List.{list_all}
 use Rattle.std.proofs.Common.{◌∙◌, ap, arith, length-append}
 use Rattle.std.proofs.lemmas.Bool.{and_from, and_parts, and_right, eqb-true, le-leb, le-ltb, leb-true, lt-ltb, ltb-true}
 use Rattle.std.proofs.lemmas.List.Folds.{list_all-append}
-use Rattle.yw_base.specs.Identity.{is_identity, is_number, most_numbers, number_end}
+use Rattle.yw_base.specs.Identity.{is_identity, is_number, most_numbers, number_end, case_number, child, parent}
 use Rattle.yw_state.proofs.Alike.{all_weaker}
 use Rattle.yw_state.proofs.MapLemmas.{never}
-use Rattle.yw_state.specs.Identity.{Ident, case_number, child, parent}
+use Rattle.yw_state.specs.Identity.{Ident}
 use Rattle.yw_state.specs.Map.{get}
 use Rattle.yw_state.specs.State.{State, Site}
 use Rattle.yw_state.specs.Well.{NumbersFit, Stands, is_drawn}

@@ -20,7 +20,8 @@ use Rattle.yw_state.specs.After.{change, new_net, stands, where_some, where_spec
 use Rattle.yw_state.specs.Allowed.{depth_end}
 use Rattle.yw_state.specs.ByName.{Valuation, first_values, given_named, source_at, var_named}
 use Rattle.yw_state.specs.Exlets.{end_if_over, is_over, taken_first}
-use Rattle.yw_state.specs.Identity.{Ident, is_case_ident, parent}
+use Rattle.yw_state.specs.Identity.{Ident, is_case_ident}
+use Rattle.yw_base.specs.Identity.{parent}
 use Rattle.yw_state.specs.Map as Map
 use Rattle.yw_state.specs.Map.{get, update}
 use Rattle.yw_state.specs.Nets.{top_net}

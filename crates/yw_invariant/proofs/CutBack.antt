@@ -17,7 +17,8 @@ use Rattle.yw_state.proofs.Tests.{or_cases}
 use Rattle.yw_state.proofs.Updated.{renewed}
 use Rattle.yw_state.specs.After.{change, completed, make_due, make_select_due, with_item, with_sites}
 use Rattle.yw_state.specs.ByName.{made_of_given}
-use Rattle.yw_state.specs.Identity.{Ident, parent, same, strictly_under}
+use Rattle.yw_state.specs.Identity.{Ident, same, strictly_under}
+use Rattle.yw_base.specs.Identity.{parent}
 use Rattle.yw_state.specs.Judged.{task_place}
 use Rattle.yw_state.specs.Map.{get, retain, update}
 use Rattle.yw_state.specs.Nets.{is_atomic}

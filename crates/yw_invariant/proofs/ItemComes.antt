@@ -4,7 +4,7 @@ use Rattle.std.specs.List.{cons_option, list_all}
 use Rattle.std.specs.Ordering.{eq_by_cmp}
 use Rattle.std.proofs.Common.{sym, ◌∙◌, ap, subst, arith}
 use Rattle.std.proofs.lemmas.Bool.{eqb-true, lt-ltb, ltb-true}
-use Rattle.yw_base.specs.Identity.{is_identity}
+use Rattle.yw_base.specs.Identity.{is_identity, case_number, parent}
 use Rattle.yw_spec.specs.declared.task.Task.{Task}
 use Rattle.yw_invariant.proofs.Children.{IsNew}
 use Rattle.yw_invariant.proofs.EntryComes.{length-insert_new}
@@ -15,7 +15,7 @@ use Rattle.yw_state.proofs.TreePlaces.{item_has_rule, item_is_target}
 use Rattle.yw_state.proofs.NetLevels.{deep_as_before}
 use Rattle.yw_state.proofs.Unchanged.{content_stays}
 use Rattle.yw_state.specs.After.{new_item, put, with_next}
-use Rattle.yw_state.specs.Identity.{Ident, case_number, is_case_ident, is_child, parent}
+use Rattle.yw_state.specs.Identity.{Ident, is_case_ident, is_child}
 use Rattle.yw_state.specs.Judged.{has_rule, has_rules, task_place}
 use Rattle.yw_state.specs.Map.{get, insert, lexical}
 use Rattle.yw_state.specs.Options.{is_some_and}

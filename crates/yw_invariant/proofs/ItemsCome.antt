@@ -4,7 +4,7 @@ use Rattle.std.specs.List.{All, range_with_len, zip}
 use Rattle.std.proofs.Common.{sym, ◌∙◌, ap, subst, arith}
 use Rattle.std.proofs.lemmas.Bool.{and_parts, ltb-true}
 use Rattle.std.proofs.lemmas.List.Elements.{All-head, All-tail}
-use Rattle.yw_base.specs.Identity.{most_numbers, number_end}
+use Rattle.yw_base.specs.Identity.{most_numbers, number_end, child}
 use Rattle.yw_base.specs.Values.{may_hold}
 use Rattle.yw_base.specs.declared.value.Value.{Value}
 use Rattle.yw_spec.specs.declared.task.Many.{Many}
@@ -21,7 +21,7 @@ use Rattle.yw_state.proofs.Standing.{Standing, at_net}
 use Rattle.yw_state.specs.After.{add, add_item, item_checks, where_some, with_next}
 use Rattle.yw_state.specs.Allowed.{Allowed, allows, element_param, is_next}
 use Rattle.yw_state.specs.Events.{after}
-use Rattle.yw_state.specs.Identity.{Ident, child}
+use Rattle.yw_state.specs.Identity.{Ident}
 use Rattle.yw_state.specs.Judged.{has_rules, task_place}
 use Rattle.yw_state.specs.Nets.{is_atomic}
 use Rattle.yw_state.specs.Options.{is_some_and}

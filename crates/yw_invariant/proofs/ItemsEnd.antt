@@ -21,7 +21,8 @@ use Rattle.yw_state.specs.After.{change, complete, completed, end_net, where_som
 use Rattle.yw_state.specs.Allowed.{Allowed, allows}
 use Rattle.yw_state.specs.ByName.{made_by_child}
 use Rattle.yw_state.specs.Events.{after}
-use Rattle.yw_state.specs.Identity.{Ident, parent}
+use Rattle.yw_state.specs.Identity.{Ident}
+use Rattle.yw_base.specs.Identity.{parent}
 use Rattle.yw_state.specs.Joins.{at_output}
 use Rattle.yw_state.specs.Map.{get}
 use Rattle.yw_state.specs.Nets.{child_net, is_empty}

@@ -13,7 +13,8 @@ use Rattle.yw_sound.specs.Sound.{HasChild, ReadsSound}
 use Rattle.yw_state.proofs.MapLemmas.{by_option, by_test, never, some_same}
 use Rattle.yw_state.proofs.NetLevels.{level_nested, level_outer}
 use Rattle.yw_state.proofs.Tests.{there_and, then_some}
-use Rattle.yw_state.specs.Identity.{Ident, is_case_ident, parent}
+use Rattle.yw_state.specs.Identity.{Ident, is_case_ident}
+use Rattle.yw_base.specs.Identity.{parent}
 use Rattle.yw_state.specs.Nets.{child_net}
 use Rattle.yw_state.specs.Options.{is_some_and}
 use Rattle.yw_state.specs.State.{State, ItemAt, NetAt, NetPart, item_at, item_part, net_at, net_part, run_part, spec_called}

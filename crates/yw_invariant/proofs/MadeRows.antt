@@ -10,7 +10,8 @@ use Rattle.yw_state.proofs.Alike.{item_in}
 use Rattle.yw_state.proofs.Entries.{IsIn, find-entry}
 use Rattle.yw_state.proofs.MapLemmas.{by_name, by_test, nowhere, some_same}
 use Rattle.yw_state.proofs.Tests.{then_some}
-use Rattle.yw_state.specs.Identity.{Ident, is_child, parent}
+use Rattle.yw_state.specs.Identity.{Ident, is_child}
+use Rattle.yw_base.specs.Identity.{parent}
 use Rattle.yw_state.specs.Passing.{made_rows, row_fits}
 use Rattle.yw_state.specs.State.{State, Site, ItemPart, NetAt, item_at, item_of_task, item_part, items_of, net_at}
 use Rattle.yw_state.specs.Texts.{Reader}

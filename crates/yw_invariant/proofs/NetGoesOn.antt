@@ -16,7 +16,8 @@ use Rattle.yw_state.proofs.NetLevels.{deep_alike}
 use Rattle.yw_state.proofs.Unchanged.{content_stays}
 use Rattle.yw_state.proofs.Updated.{made_here, marks_kept, numbers_kept, parents_kept, some_mapped, stands_right}
 use Rattle.yw_state.specs.After.{change, with_net}
-use Rattle.yw_state.specs.Identity.{Ident, is_case_ident, parent}
+use Rattle.yw_state.specs.Identity.{Ident, is_case_ident}
+use Rattle.yw_base.specs.Identity.{parent}
 use Rattle.yw_state.specs.Judged.{has_rule, rules_at}
 use Rattle.yw_state.specs.Map.{get, lexical, update}
 use Rattle.yw_state.specs.Nets.{child_net}

@@ -22,7 +22,8 @@ use Rattle.yw_state.specs.After.{begin_at, begun, new_net, stands, start_sub, wh
 use Rattle.yw_state.specs.Allowed.{Allowed, allows, most_tokens}
 use Rattle.yw_state.specs.ByName.{Valuation, first_values, given_named}
 use Rattle.yw_state.specs.Events.{after}
-use Rattle.yw_state.specs.Identity.{Ident, parent}
+use Rattle.yw_state.specs.Identity.{Ident}
+use Rattle.yw_base.specs.Identity.{parent}
 use Rattle.yw_state.specs.Map.{get}
 use Rattle.yw_state.specs.Nets.{child_net}
 use Rattle.yw_state.specs.Options.{is_some_and}

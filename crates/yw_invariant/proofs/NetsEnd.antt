@@ -3,7 +3,7 @@ use Rattle.std.specs.Prelude.{◌≡◌, ◌&&◌, Bool, true, false, not, cond,
 use Rattle.std.specs.Ordering.{eq_by_cmp}
 use Rattle.std.proofs.Common.{sym, ◌∙◌, ap, subst, arith}
 use Rattle.std.proofs.lemmas.Bool.{and_parts, or_left, or_right}
-use Rattle.yw_base.specs.Identity.{under}
+use Rattle.yw_base.specs.Identity.{under, case_number, parent}
 use Rattle.yw_invariant.proofs.ReadyItems as items
 use Rattle.yw_invariant.proofs.RunsGoOn.{some_left}
 use Rattle.yw_invariant.proofs.Turning.{Turns, item_here, turned_is_well, same_option}
@@ -21,7 +21,7 @@ use Rattle.yw_state.specs.Allowed.{Allowed, allows}
 use Rattle.yw_state.specs.ByName.{made_by_worklet}
 use Rattle.yw_state.specs.Events.{after}
 use Rattle.yw_state.specs.Exlets.{end_compensation, end_if_over, going_on, is_over}
-use Rattle.yw_state.specs.Identity.{Ident, case_number, parent, strictly_under}
+use Rattle.yw_state.specs.Identity.{Ident, strictly_under}
 use Rattle.yw_state.specs.Judged.{task_place}
 use Rattle.yw_state.specs.Map.{get, lexical, remove, retain}
 use Rattle.yw_state.specs.Options.{is_some_and}

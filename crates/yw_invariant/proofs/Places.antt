@@ -3,11 +3,11 @@ use Rattle.std.specs.Prelude.{◌≡◌, ◌≤◌, ◌+◌, ◌==◌, ◌&&◌,
 use Rattle.std.proofs.Common.{sym, ◌∙◌, ap, inl, inr, arith}
 use Rattle.std.proofs.lemmas.Bool.{and_from, and_parts, eq-eqb, cases_lt, eqb-true, false_from_ne_true, not-true, not_from_false}
 use Rattle.std.proofs.lemmas.Slice.Eq.{bytes_eq-Decides}
-use Rattle.yw_base.specs.Identity.{under}
+use Rattle.yw_base.specs.Identity.{under, case_number, parent}
 use Rattle.yw_state.proofs.MapLemmas.{never}
 use Rattle.yw_state.proofs.Under as below
 pub use Rattle.yw_state.proofs.Under.{shorter}
-use Rattle.yw_state.specs.Identity.{Ident, case_ident, case_number, is_case_ident, is_child, parent, same, strictly_under}
+use Rattle.yw_state.specs.Identity.{Ident, case_ident, is_case_ident, is_child, same, strictly_under}
 
 pub under_parent : (k : Ident) → under k (parent k) ≡ true
 under_parent [] = refl

@@ -3,7 +3,7 @@ use Rattle.std.specs.Prelude.{◌≡◌, ◌≤◌, ◌||◌, ℕ, Bool, true, f
 use Rattle.std.proofs.Common.{sym, ◌∙◌, ap, subst, arith}
 use Rattle.std.proofs.lemmas.Bool.{and_parts, not-true, or_left, or_right}
 use Rattle.std.proofs.lemmas.Slice.Eq.{bytes_eq-Decides}
-use Rattle.yw_base.specs.Identity.{under}
+use Rattle.yw_base.specs.Identity.{under, case_number, parent}
 use Rattle.yw_invariant.proofs.Ancestors as ancestors
 use Rattle.yw_invariant.proofs.Changes.{dropped_is_well, retain_update, updates_swap}
 use Rattle.yw_invariant.proofs.CompensationBegins.{compensated_is_well}
@@ -24,7 +24,7 @@ use Rattle.yw_state.specs.Allowed.{Allowed, allows}
 use Rattle.yw_state.specs.ByName.{made_of_given}
 use Rattle.yw_state.specs.Events.{after}
 use Rattle.yw_state.specs.Exlets.{end_if_over, is_over, take_primitive, taken_first}
-use Rattle.yw_state.specs.Identity.{Ident, case_ident, case_number, parent, same, strictly_under}
+use Rattle.yw_state.specs.Identity.{Ident, case_ident, same, strictly_under}
 use Rattle.yw_state.specs.Judged.{has_rules, task_place}
 use Rattle.yw_state.specs.Map as Map
 use Rattle.yw_state.specs.Map.{get, insert, update}

@@ -5,7 +5,7 @@ use Rattle.std.proofs.Common.{sym, ◌∙◌, ap, subst, arith}
 use Rattle.std.proofs.lemmas.Bool.{and_from, and_parts, eq-eqb, eqb-true, leb-true, lt-ltb, ltb-true, not-true}
 use Rattle.std.proofs.lemmas.List.Elements.{All-get_or}
 use Rattle.std.proofs.lemmas.Option.{get_or_from_slice_get, slice_get_within}
-use Rattle.yw_base.specs.Identity.{most_numbers}
+use Rattle.yw_base.specs.Identity.{most_numbers, child, parent}
 use Rattle.yw_invariant.proofs.Children.{IsNew, child_is_new, draws_next, parent_child}
 use Rattle.yw_invariant.proofs.Places.{shorter, under_parent}
 use Rattle.yw_state.proofs.Alike.{case_asks, item_asks, item_in, net_by, nothing_due}
@@ -19,7 +19,7 @@ use Rattle.yw_state.proofs.TreePlaces.{one_place}
 use Rattle.yw_state.specs.After.{begin_run, new_run, pass, primitives_of, without_check}
 use Rattle.yw_state.specs.Allowed.{Allowed, allows, begins_exlet, comes_next, concludes, is_next, is_raised}
 use Rattle.yw_state.specs.Events.{after}
-use Rattle.yw_state.specs.Identity.{Ident, child, is_case_ident, is_child, parent}
+use Rattle.yw_state.specs.Identity.{Ident, is_case_ident, is_child}
 use Rattle.yw_state.specs.Judged.{Question, case_place, conclusion_at, is_select, item_values, judged, place_key, question, rules_at, task_place}
 use Rattle.yw_state.specs.Map.{get}
 use Rattle.yw_state.specs.NewRule.{are_fit, may_conclude, most_primitives}

@@ -5,7 +5,8 @@ use Rattle.std.proofs.lemmas.Bool.{and_parts}
 use Rattle.yw_invariant.proofs.Ancestors as ancestors
 use Rattle.yw_state.proofs.Alike.{item_in}
 use Rattle.yw_state.proofs.MapLemmas.{by_option, never, nowhere, some_same}
-use Rattle.yw_state.specs.Identity.{Ident, parent}
+use Rattle.yw_state.specs.Identity.{Ident}
+use Rattle.yw_base.specs.Identity.{parent}
 use Rattle.yw_state.specs.State.{State, ItemAt, ItemPart, item_at, item_part, net_at, net_part, run_part}
 use Rattle.yw_state.specs.Texts.{Reader}
 use Rattle.yw_state.specs.Well.{IsWell, is_child_of, is_composite, is_top, wants_net}

@@ -2,7 +2,7 @@
 use Rattle.std.specs.Prelude.{◌≡◌, ◌<◌, ◌==◌, ◌&&◌, ℕ, Bool, true, false, not, length, Option, option_and_then, if◌then◌else◌}
 use Rattle.std.proofs.Common.{sym, ◌∙◌, ap, arith}
 use Rattle.std.proofs.lemmas.Bool.{and_parts, eqb-true}
-use Rattle.yw_base.specs.Identity.{most_numbers}
+use Rattle.yw_base.specs.Identity.{most_numbers, parent}
 use Rattle.yw_invariant.proofs.Levels as levels
 use Rattle.yw_invariant.proofs.Places.{shorter}
 use Rattle.yw_invariant.proofs.RaiseWell as raising
@@ -13,7 +13,7 @@ use Rattle.yw_state.proofs.Alike.{case_asks, item_asks}
 use Rattle.yw_state.proofs.MapLemmas.{by_option, by_test, never}
 use Rattle.yw_state.specs.Allowed.{Allowed, allows, begins_exlet, comes_next, concludes, is_next, is_raised}
 use Rattle.yw_state.specs.Events.{after}
-use Rattle.yw_state.specs.Identity.{Ident, is_case_ident, parent}
+use Rattle.yw_state.specs.Identity.{Ident, is_case_ident}
 use Rattle.yw_state.specs.Judged.{Question}
 use Rattle.yw_state.specs.Options.{is_some_and}
 use Rattle.yw_state.specs.RuleTree.{concluded}

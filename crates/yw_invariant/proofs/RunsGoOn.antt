@@ -3,7 +3,7 @@ use Rattle.std.specs.Prelude.{◌≡◌, ◌≤◌, ℕ, ◌==◌, ◌&&◌, ◌
 use Rattle.std.specs.List.{list_all}
 use Rattle.std.proofs.Common.{sym, ◌∙◌, ap, subst, arith, le_trans}
 use Rattle.std.proofs.lemmas.Bool.{and_from, and_parts, eqb-false, lt-ltb, or_right}
-use Rattle.yw_base.specs.Identity.{under}
+use Rattle.yw_base.specs.Identity.{under, parent}
 use Rattle.yw_invariant.proofs.Ancestors as ancestors
 use Rattle.yw_invariant.proofs.Changes.{at_each, dropped_is_well}
 use Rattle.yw_invariant.proofs.Places.{deep_is_no_case, strictly_under_other, under_itself}
@@ -12,7 +12,7 @@ use Rattle.yw_state.proofs.Alike.{due_test, item_in}
 use Rattle.yw_state.proofs.MapLemmas.{by_name, by_option, by_test, get-remove_other, get-remove_same, get-retain, get-retain_gone, get-update_other, get-update_same, never, nowhere, same_map, some_same}
 use Rattle.yw_state.specs.After.{change, with_run, with_sites}
 use Rattle.yw_state.specs.Exlets.{end_if_over, is_over, taken_first, without_first}
-use Rattle.yw_state.specs.Identity.{Ident, is_case_ident, parent}
+use Rattle.yw_state.specs.Identity.{Ident, is_case_ident}
 use Rattle.yw_state.specs.Map.{get, remove}
 use Rattle.yw_state.specs.NewRule.{are_fit, is_known, is_of_item, is_removal, removes_last}
 use Rattle.yw_state.specs.Options.{is_some_and}

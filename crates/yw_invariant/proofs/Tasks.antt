@@ -12,7 +12,8 @@ use Rattle.yw_state.proofs.Alike.{net_by}
 use Rattle.yw_state.proofs.MapLemmas.{by_option, never, some_same}
 use Rattle.yw_state.proofs.Tests.{map_some, or_cases, then_some}
 use Rattle.yw_state.proofs.TreePlaces.{item_has_rule, one_place}
-use Rattle.yw_state.specs.Identity.{Ident, parent}
+use Rattle.yw_state.specs.Identity.{Ident}
+use Rattle.yw_base.specs.Identity.{parent}
 use Rattle.yw_state.specs.Judged.{has_rule, has_rules, is_tree_place, place_key, task_place}
 use Rattle.yw_state.specs.Map.{get}
 use Rattle.yw_state.specs.Nets.{child_net, is_atomic, is_empty, task_called, task_number}

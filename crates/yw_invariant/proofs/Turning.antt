@@ -13,7 +13,8 @@ use Rattle.yw_state.proofs.NetLevels.{deep_alike}
 use Rattle.yw_state.proofs.Unchanged.{content_stays}
 use Rattle.yw_state.proofs.Updated.{Renews, asked_same, has_item_same, made_here, marks_kept, nested_same, numbers_kept, renewed, renewed_here, same_in, stands_right, there_same, was_there}
 use Rattle.yw_state.specs.After.{change}
-use Rattle.yw_state.specs.Identity.{Ident, is_case_ident, is_child, parent}
+use Rattle.yw_state.specs.Identity.{Ident, is_case_ident, is_child}
+use Rattle.yw_base.specs.Identity.{parent}
 use Rattle.yw_state.specs.Judged.{has_rule}
 use Rattle.yw_state.specs.NewRule.{are_fit, most_primitives}
 use Rattle.yw_state.specs.Map.{get, lexical, update}

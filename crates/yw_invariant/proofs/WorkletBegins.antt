@@ -22,7 +22,8 @@ use Rattle.yw_state.specs.After.{begin_at, begun, new_net, pass, stands, substit
 use Rattle.yw_state.specs.Allowed.{Allowed, allows, comes_next, depth_end}
 use Rattle.yw_state.specs.ByName.{first_values, given_named}
 use Rattle.yw_state.specs.Events.{after}
-use Rattle.yw_state.specs.Identity.{Ident, parent}
+use Rattle.yw_state.specs.Identity.{Ident}
+use Rattle.yw_base.specs.Identity.{parent}
 use Rattle.yw_state.specs.Map.{get}
 use Rattle.yw_state.specs.Nets.{is_atomic, top_net}
 use Rattle.yw_state.specs.Options.{is_some_and}

@@ -4,7 +4,7 @@ use Rattle.std.specs.List.{list_any}
 use Rattle.std.proofs.Common.{sym, ◌∙◌, ap}
 use Rattle.std.proofs.lemmas.Bool.{or_parts, not-false}
 use Rattle.std.proofs.lemmas.Slice.Eq.{bytes_eq-Decides}
-use Rattle.yw_base.specs.Identity.{under}
+use Rattle.yw_base.specs.Identity.{under, parent}
 use Rattle.yw_spec.specs.declared.spec.Net.{Net}
 use Rattle.yw_spec.specs.declared.spec.Place.{Place}
 use Rattle.yw_spec.specs.declared.spec.Spec.{Spec}
@@ -19,7 +19,7 @@ use Rattle.yw_state.specs.ByName.{made_by_child, made_by_worklet, made_of_given}
 use Rattle.yw_state.specs.Events.{after}
 use Rattle.yw_state.specs.Exlets.{case_above, cut_back, end_compensation, end_if_over, primitive, restarted, take_primitive}
 use Rattle.yw_state.specs.Gone.{cut_back_removes, primitive_removes, removes, under_item}
-use Rattle.yw_state.specs.Identity.{Ident, case_ident, is_child, parent, same, strictly_under}
+use Rattle.yw_state.specs.Identity.{Ident, case_ident, is_child, same, strictly_under}
 use Rattle.yw_state.specs.Judged.{case_place}
 use Rattle.yw_state.specs.Map.{entries, get, retain}
 use Rattle.yw_state.specs.Options.{is_some_and}

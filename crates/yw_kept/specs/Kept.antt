@@ -2,7 +2,8 @@
 -- paper's for exits and ends of nets. The list is our own.
 use Rattle.std.specs.Prelude.{◌||◌, Bool, true, false}
 use Rattle.yw_state.specs.Exlets.{case_above}
-use Rattle.yw_state.specs.Identity.{Ident, parent, same}
+use Rattle.yw_state.specs.Identity.{Ident, same}
+use Rattle.yw_base.specs.Identity.{parent}
 use Rattle.yw_state.specs.declared.event.Event.{Event}
 use Rattle.yw_state.specs.declared.event.Event.TheVariants as events
 use Rattle.yw_state.specs.declared.tree.Primitive.{Primitive}

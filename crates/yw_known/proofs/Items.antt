@@ -2,10 +2,10 @@
 use Rattle.std.proofs.Common.{List, None, Option, Some, [], ap, arith, false, length, refl, sym, true, ℕ, ◌<◌, ◌∙◌, ◌∷◌, ◌≡◌, ◌≤◌, Bor, get_or}
 use Rattle.std.specs.Option.{option_copied}
 use Rattle.std.specs.Prelude.{is_some, option_and_then, option_map, slice_get}
-use Rattle.yw_base.specs.Identity.{is_identity}
-use Rattle.yw_known.specs.Held.{IsHeld}
+use Rattle.yw_base.specs.Identity.{is_identity, parent}
+use Rattle.yw_library.specs.Held.{IsHeld}
 use Rattle.yw_known.specs.Here.{IsItemHere, IsNetHere, as_net_at}
-use Rattle.yw_known.specs.Names.{names_of}
+use Rattle.yw_library.specs.Names.{names_of}
 use Rattle.yw_known.specs.declared.here.ItemHere.{ItemHere}
 use Rattle.yw_known.specs.declared.here.NetHere.{NetHere}
 use Rattle.yw_library.specs.Holdings.{Holdings}
@@ -14,7 +14,7 @@ use Rattle.yw_nest.proofs.Outer.{parent_identity}
 use Rattle.yw_spec.specs.declared.task.Task.{Task}
 use Rattle.yw_state.proofs.Standing.{at_item_part}
 use Rattle.yw_state.proofs.Tests.{by_option, by_test, never, there}
-use Rattle.yw_state.specs.Identity.{Ident, parent}
+use Rattle.yw_state.specs.Identity.{Ident}
 use Rattle.yw_state.specs.Map.{get}
 use Rattle.yw_state.specs.State.{ItemAt, ItemPart, NetAt, Site, State, TaskAt, is_case, is_item, item_at, item_part, net_at, task_in}
 use Rattle.yw_tree.proofs.AbsentLaw.{item_is}

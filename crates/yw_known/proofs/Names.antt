@@ -7,8 +7,8 @@ use Rattle.yw_accepted.proofs.Loaded.{accepted_are_within}
 use Rattle.yw_base.specs.Spelling.{is_name}
 use Rattle.yw_known.proofs.Lists.{at_front}
 use Rattle.yw_known.proofs.Renamed.{EntryHasName, HasName, same_sites}
-use Rattle.yw_known.specs.Held.{IsHeld}
-use Rattle.yw_known.specs.Names.{name_in, names_of}
+use Rattle.yw_library.specs.Held.{IsHeld}
+use Rattle.yw_library.specs.Names.{name_in, names_of}
 use Rattle.yw_library.specs.Holdings.{AddsSpec, Holdings, with_library, with_spec}
 use Rattle.yw_model.specs.Texts.{reader}
 use Rattle.yw_sites.specs.Entries.{Entries, Entry, Unique}

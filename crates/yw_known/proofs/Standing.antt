@@ -4,10 +4,10 @@ use Rattle.std.specs.Prelude.{option_and_then, option_map, slice_get}
 use Rattle.yw_accepted.proofs.Loaded.{accepted_are_within}
 use Rattle.yw_base.specs.Identity.{is_identity}
 use Rattle.yw_known.proofs.Names.{spec_behind}
-use Rattle.yw_known.specs.Held.{IsHeld}
+use Rattle.yw_library.specs.Held.{IsHeld}
 use Rattle.yw_known.specs.Here.{IsNetHere}
 use Rattle.yw_known.specs.Known.{IsKnownNet, net_numbered}
-use Rattle.yw_known.specs.Names.{name_in, names_of}
+use Rattle.yw_library.specs.Names.{name_in, names_of}
 use Rattle.yw_library.specs.Holdings.{AreNamed, Holdings, IsKept, state_of, with_library}
 use Rattle.yw_known.specs.declared.here.NetHere.{NetHere}
 use Rattle.yw_nest.proofs.Known.{net_known, part_known}
@@ -19,7 +19,7 @@ use Rattle.yw_state.specs.Identity.{Ident}
 use Rattle.yw_state.specs.Map.{get}
 use Rattle.yw_state.specs.State.{NetPart, State, net_part, spec_called}
 use Rattle.yw_state.specs.declared.loaded.Loaded.{Loaded}
-use Rattle.yw_tree.proofs.Parents.{identity_long}
+use Rattle.yw_base.proofs.Parents.{identity_long}
 use Rattle.yw_tree.specs.Entries.{net_part as its_part}
 use Rattle.yw_tree.specs.Places.{net_at as net_found}
 use Rattle.yw_tree.specs.declared.Forest.{Forest}

@@ -1,13 +1,14 @@
 -- What stands at an identity, with what the specification says of it.
 use Rattle.std.specs.Prelude.{◌≡◌, Some, slice_get}
-use Rattle.yw_known.specs.Held.{IsHeld}
-use Rattle.yw_known.specs.Names.{names_of}
+use Rattle.yw_library.specs.Held.{IsHeld}
+use Rattle.yw_library.specs.Names.{names_of}
 use Rattle.yw_known.specs.declared.here.ItemHere.{ItemHere}
 use Rattle.yw_known.specs.declared.here.NetHere.{NetHere}
 use Rattle.yw_library.specs.Holdings.{Holdings}
 use Rattle.yw_nest.specs.Items.{IsNetOf, IsOfTask}
 use Rattle.yw_path.specs.Upstream.{IsUpstreamOf}
-use Rattle.yw_state.specs.Identity.{Ident, parent}
+use Rattle.yw_state.specs.Identity.{Ident}
+use Rattle.yw_base.specs.Identity.{parent}
 use Rattle.yw_state.specs.State.{ItemAt, NetAt, State, TaskAt, item_at, net_at}
 use Rattle.yw_task.specs.Standing.{ItemStands, NetStands}
 use Rattle.yw_tree.specs.Entries.{item_part_of, net_part}

@@ -1,6 +1,6 @@
 // What stands at an identity of a forest, with the net and the task that its specification has of it.
 ghost use Rattle.std.specs.Prelude.{◌≡◌, None, false, IfOk, MatchOption};
-ghost use Rattle.yw_known.specs.Held.{IsHeld};
+ghost use Rattle.yw_library.specs.Held.{IsHeld};
 ghost use Rattle.yw_known.specs.Here.{IsItemHere, IsNetHere};
 ghost use Rattle.yw_library.specs.Holdings.{Holdings};
 ghost use Rattle.yw_state.specs.Nets.{task_number};

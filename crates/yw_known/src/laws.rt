@@ -1,8 +1,8 @@
 //! What is so of each state that is held. Each law is the contract of a function that does nothing.
 ghost use Rattle.std.specs.Prelude.{◌≡◌, List, ℕ, Some, option_and_then};
-ghost use Rattle.yw_known.specs.Held.{IsHeld};
+ghost use Rattle.yw_library.specs.Held.{IsHeld};
 ghost use Rattle.yw_known.specs.Here.{IsNetHere, as_net_at};
-ghost use Rattle.yw_known.specs.Names.{names_of};
+ghost use Rattle.yw_library.specs.Names.{names_of};
 ghost use Rattle.yw_known.specs.declared.here.NetHere.{NetHere};
 ghost use Rattle.yw_library.specs.Holdings.{AddsSpec, Holdings, IsKept, with_library, with_spec};
 ghost use Rattle.yw_model.specs.Texts.{reader};

@@ -3,4 +3,6 @@ pub mod Accepts
 pub mod Holdings
 pub mod Always
 pub mod Ended
+pub mod Names
+pub mod Held
 pub mod Parts

@@ -2,11 +2,10 @@
 use Rattle.std.specs.Prelude.{ℕ, List, [], ◌∷◌, ◌++◌, map, fold, codes}
 use Rattle.std.specs.Fmt.{decimal}
 use Rattle.std.specs.List.{range_with_len, join_with_byte}
-use Rattle.yw_base.specs.Identity.{dotted}
+use Rattle.yw_base.specs.Identity.{dotted, child}
 use Rattle.yw_lines.specs.Kinds.{kind_text}
 use Rattle.yw_lines.specs.Primitives.{primitive_text}
 use Rattle.yw_spec.specs.Net.{place_text}
-use Rattle.yw_state.specs.Identity.{child}
 use Rattle.yw_state.specs.declared.event.Event.{Event}
 use Rattle.yw_state.specs.declared.event.Event.TheVariants as events
 

@@ -10,8 +10,8 @@ use Rattle.yw_enabled.specs.Free.{StandsFree}
 use Rattle.yw_enabled.specs.Left.{TellsNet, TellsRight, done_count, told_of}
 use Rattle.yw_known.proofs.Items.{no_item_here}
 use Rattle.yw_known.proofs.Names.{spec_behind}
-use Rattle.yw_known.specs.Held.{IsHeld}
-use Rattle.yw_known.specs.Names.{names_of}
+use Rattle.yw_library.specs.Held.{IsHeld}
+use Rattle.yw_library.specs.Names.{names_of}
 use Rattle.yw_library.specs.Holdings.{Holdings}
 use Rattle.yw_loose.specs.Counts.{AreRight, Exits, Follows, Puts, RightBehind, counts_at, is_of_task}
 use Rattle.yw_loose.specs.declared.counts.Counts.{Counts}
@@ -39,7 +39,7 @@ use Rattle.yw_state.specs.declared.loaded.Loaded.{Loaded}
 use Rattle.yw_task.proofs.EnterAsk.{its_active}
 use Rattle.yw_task.specs.Asked.{is_active}
 use Rattle.yw_tree.proofs.FindLaw.{item_shown}
-use Rattle.yw_tree.proofs.Parents.{identity_long}
+use Rattle.yw_base.proofs.Parents.{identity_long}
 use Rattle.yw_tree.specs.Entries.{net_part as its_part}
 use Rattle.yw_tree.specs.Forest.{item_of}
 use Rattle.yw_tree.specs.Places.{net_at}

@@ -7,7 +7,7 @@ use Rattle.std.proofs.Math.Bool.{and-false}
 use Rattle.std.proofs.lemmas.Bool.{eq-eqb, eqb-true, false_from_ne_true}
 use Rattle.std.proofs.lemmas.List.{length-set}
 use Rattle.std.proofs.lemmas.Option.{slice_get_within}
-use Rattle.yw_base.specs.Identity.{is_identity}
+use Rattle.yw_base.specs.Identity.{is_identity, parent}
 use Rattle.yw_loose.specs.Counts.{AreLeft, AreMore, CountsOne, Exits, Follows, Leaves, Puts, counts_at, is_of_task}
 use Rattle.yw_loose.specs.declared.counts.Counts.{Counts}
 use Rattle.yw_moved.proofs.Parents.{is_same, parent_of_child}
@@ -15,12 +15,13 @@ use Rattle.yw_progress.specs.Progress.{completed_by}
 use Rattle.yw_sites.proofs.Prefix.{is_child_of}
 use Rattle.yw_state.proofs.MapLemmas.{by_name, tied, tied_self}
 use Rattle.yw_state.proofs.Tests.{by_test, never, nowhere, some_same}
-use Rattle.yw_state.specs.Identity.{Ident, is_child, parent, same}
+use Rattle.yw_state.specs.Identity.{Ident, is_child, same}
 use Rattle.yw_state.specs.Map.{lexical}
 use Rattle.yw_state.specs.Options.{is_some_and}
 use Rattle.yw_state.specs.declared.event.Event.{Event}
 use Rattle.yw_tree.proofs.OneList.{get_set, get_set_other}
-use Rattle.yw_tree.proofs.Parents.{identity_long, parent_child, parent_length}
+use Rattle.yw_tree.proofs.Parents.{parent_child, parent_length}
+use Rattle.yw_base.proofs.Parents.{identity_long}
 use Rattle.yw_task.specs.Asked.{is_active}
 use Rattle.yw_tree.specs.Forest.{item_of}
 use Rattle.yw_tree.specs.Places.{net_at}

@@ -16,7 +16,8 @@ use Rattle.yw_loose.specs.Loose.{Gains, HasAll, HasCase, IsRested, IsSame, is_lo
 use Rattle.yw_loose.specs.declared.loose.Loose.{Loose}
 use Rattle.yw_state.proofs.MapLemmas.{by_number, tied}
 use Rattle.yw_state.proofs.Tests.{by_test, never, or_cases}
-use Rattle.yw_state.specs.Identity.{Ident, case_number, same}
+use Rattle.yw_state.specs.Identity.{Ident, same}
+use Rattle.yw_base.specs.Identity.{case_number}
 use Rattle.yw_state.specs.State.{State}
 use Rattle.yw_tree.specs.Cases.{case_at}
 use Rattle.yw_tree.specs.Entries.{case_entries}

@@ -9,7 +9,8 @@ use Rattle.yw_loose.specs.Loose.{Forgets, is_known}
 use Rattle.yw_loose.specs.Next.{FindsCounted, FindsLoose, StaysRested, StaysRight}
 use Rattle.yw_loose.specs.declared.counts.Counts.{Counts}
 use Rattle.yw_loose.specs.declared.loose.Loose.{Loose}
-use Rattle.yw_state.specs.Identity.{Ident, case_number}
+use Rattle.yw_state.specs.Identity.{Ident}
+use Rattle.yw_base.specs.Identity.{case_number}
 use Rattle.yw_state.specs.Map.{lexical}
 use Rattle.yw_state.specs.State.{State}
 use Rattle.yw_state.specs.declared.event.Event.{Event}

@@ -8,7 +8,7 @@ use Rattle.std.proofs.lemmas.Bool.{and_parts, ltb-true}
 use Rattle.std.proofs.lemmas.List.Folds.{list_all-append, list_any-append}
 use Rattle.std.proofs.lemmas.List.FromFn.{map-range_with_len_more}
 use Rattle.std.proofs.lemmas.Slice.Eq.{bytes_eq-Decides}
-use Rattle.yw_base.specs.Identity.{is_identity, is_number, number_end}
+use Rattle.yw_base.specs.Identity.{is_identity, is_number, number_end, case_number, child, parent}
 use Rattle.yw_loose.specs.Counts.{AreRight}
 use Rattle.yw_loose.specs.Loose.{Forgets, Gains, IsRested, Loosens, is_known, is_loose}
 use Rattle.yw_loose.specs.declared.counts.Counts.{Counts}
@@ -19,7 +19,7 @@ use Rattle.yw_moved.specs.Moved.{done_at, is_moved, made_by}
 use Rattle.yw_plain.specs.Plain.{IsPlain, is_plain_event}
 use Rattle.yw_state.proofs.Tests.{by_test, never, nowhere, or_cases, some_same}
 use Rattle.yw_state.specs.Events.{Leads, after}
-use Rattle.yw_state.specs.Identity.{Ident, case_ident, case_number, child, parent, same}
+use Rattle.yw_state.specs.Identity.{Ident, case_ident, same}
 use Rattle.yw_state.specs.Options.{is_some_and}
 use Rattle.yw_state.specs.Map.{lexical}
 use Rattle.yw_state.specs.State.{State}

@@ -14,7 +14,8 @@ use Rattle.yw_loose.specs.declared.counts.Counts.{Counts}
 use Rattle.yw_loose.specs.declared.loose.Loose.{Loose}
 use Rattle.yw_state.proofs.Tests.{by_test, never}
 use Rattle.yw_state.specs.Automatic.{IsQuiet}
-use Rattle.yw_state.specs.Identity.{Ident, case_number, same}
+use Rattle.yw_state.specs.Identity.{Ident, same}
+use Rattle.yw_base.specs.Identity.{case_number}
 use Rattle.yw_state.specs.Map.{lexical}
 use Rattle.yw_state.specs.State.{State}
 use Rattle.yw_still.proofs.Quiet.{quiet}

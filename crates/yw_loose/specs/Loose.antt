@@ -3,11 +3,11 @@ use Rattle.std.specs.BTreeSet.{contains}
 use Rattle.std.specs.List.{All}
 use Rattle.std.specs.Ordering.{nat_cmp}
 use Rattle.std.specs.Prelude.{◌≡◌, ◌≢◌, ◌==◌, ◌&&◌, ◌||◌, ℕ, Bool, List, length, false, true}
-use Rattle.yw_base.specs.Identity.{is_identity}
+use Rattle.yw_base.specs.Identity.{is_identity, case_number}
 use Rattle.yw_idents.specs.Idents.{AreAllIn}
 use Rattle.yw_loose.specs.Counts.{AreRight}
 use Rattle.yw_loose.specs.declared.loose.Loose.{Loose}
-use Rattle.yw_state.specs.Identity.{Ident, case_number, same}
+use Rattle.yw_state.specs.Identity.{Ident, same}
 use Rattle.yw_state.specs.Map.{lexical}
 use Rattle.yw_state.specs.State.{Site, State}
 use Rattle.yw_state.specs.Well.{Stands}

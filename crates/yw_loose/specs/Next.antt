@@ -6,7 +6,8 @@ use Rattle.yw_loose.specs.Loose.{IsRested}
 use Rattle.yw_loose.specs.declared.counts.Counts.{Counts}
 use Rattle.yw_loose.specs.declared.loose.Loose.{Loose}
 use Rattle.yw_state.specs.Automatic.{IsQuiet}
-use Rattle.yw_state.specs.Identity.{Ident, case_number}
+use Rattle.yw_state.specs.Identity.{Ident}
+use Rattle.yw_base.specs.Identity.{case_number}
 use Rattle.yw_state.specs.State.{State}
 use Rattle.yw_state.specs.declared.event.Event.{Event}
 use Rattle.yw_still.specs.Still.{IsStill}

@@ -17,7 +17,6 @@ use std::alloc::{AllocError, Global};
 use std::collections::BTreeMap;
 use yw_base::Ident;
 use yw_enabled::done_counts;
-use yw_idents::parent;
 use yw_state::Event;
 use yw_task::is_active;
 use yw_tree::{Forest, NetState};
@@ -181,7 +180,7 @@ impl Counts {
         let Some(node) = forest.item(item) else {
             return Ok(());
         };
-        let Some(net) = parent(alloc, item)? else {
+        let Some(net) = item.parent(alloc)? else {
             return Ok(());
         };
         let Some(counts) = self.nets.remove(&net) else {

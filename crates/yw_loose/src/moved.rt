@@ -1,22 +1,21 @@
 // What an event may have set moving.
 ghost use Rattle.std.specs.List.{list_any, range_with_len};
 ghost use Rattle.std.specs.Prelude.{◌≡◌, ◌+◌, ◌||◌, IfOk, OnOk, Some, SomeIff, map, option_copied, true};
-ghost use Rattle.yw_base.specs.Identity.{is_identity};
-ghost use Rattle.yw_known.specs.Held.{IsHeld};
+ghost use Rattle.yw_base.specs.Identity.{is_identity, child, parent};
+ghost use Rattle.yw_library.specs.Held.{IsHeld};
 ghost use Rattle.yw_library.specs.Holdings.{Holdings};
 ghost use Rattle.yw_loose.specs.Loose.{IsRested, Loosens};
 ghost use Rattle.yw_model.specs.Texts.{reader};
 ghost use Rattle.yw_moved.specs.Moved.{done_at, is_moved, made_by};
 ghost use Rattle.yw_plain.specs.Plain.{IsPlain, is_plain_event};
 ghost use Rattle.yw_state.specs.Events.{Leads};
-ghost use Rattle.yw_state.specs.Identity.{Ident, child, parent, same};
+ghost use Rattle.yw_state.specs.Identity.{Ident, same};
 ghost use Rattle.yw_state.specs.State.{State};
 ghost use Rattle.yw_state.specs.Well.{IsWell};
 
 use crate::Loose;
 use std::alloc::{AllocError, Global};
 use yw_base::Ident;
-use yw_idents::{case_number, parent};
 use yw_state::Event;
 use yw_tree::Forest;
 
@@ -62,7 +61,7 @@ impl Loose {
         ensures { OnOk result (Loosens self.old self.new (λ j. same j at.now || same j (parent at.now))) }
     {
         self.add(at.copy(alloc)?)?;
-        self.add_found(parent(alloc, at)?)
+        self.add_found(at.parent(alloc)?)
     }
 
     /// Something may come of itself at one item of a net, whose number is so many after the first.
@@ -119,7 +118,7 @@ impl Loose {
     {
         // No work is done here: it says that it is an identity.
         let _ = at.numbers();
-        if !self.known.contains(&case_number(at)) {
+        if !self.known.contains(&at.case_number()) {
             return Ok(());
         }
         self.add_around(alloc, at)?;

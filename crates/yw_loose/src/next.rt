@@ -7,7 +7,6 @@ use crate::Loose;
 use crate::counts::Counts;
 use std::alloc::{AllocError, Global};
 use yw_base::Ident;
-use yw_idents::case_number;
 use yw_known::Known;
 use yw_state::Event;
 use yw_tree::Forest;
@@ -48,7 +47,7 @@ impl Loose {
         ensures rested { StaysRested known.now forest.now next self.old self.new }
     {
         'idents: while let Some(id) = self.idents.first() {
-            let case = case_number(id);
+            let case = id.case_number();
             if case != n {
                 self.forget_case(case);
                 self.idents.pop_first();

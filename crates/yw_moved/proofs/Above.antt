@@ -5,7 +5,7 @@ use Rattle.std.proofs.Common.{sym, ◌∙◌, ap, subst, arith, inl, inr}
 use Rattle.std.proofs.lemmas.Bool.{and_from, and_parts, and_right, false_from_ne_true, le-ltb}
 use Rattle.std.proofs.lemmas.List.Elements.{All-head, All-tail}
 use Rattle.std.proofs.lemmas.List.Folds.{list_all-append}
-use Rattle.yw_base.specs.Identity.{under}
+use Rattle.yw_base.specs.Identity.{under, child, parent}
 use Rattle.yw_moved.proofs.Parents.{is_same, not_under_child, under_itself}
 use Rattle.yw_moved.proofs.Sites.{added-same, enter-same, left_alone}
 use Rattle.yw_moved.specs.Moved.{done_at, made_by}
@@ -21,7 +21,7 @@ use Rattle.yw_state.specs.After.{change, complete, completed, enter, exit, ident
 use Rattle.yw_state.specs.Allowed.{Allowed, allows, place_numbers}
 use Rattle.yw_state.specs.Events.{after}
 use Rattle.yw_state.specs.Gone.{removes}
-use Rattle.yw_state.specs.Identity.{Ident, child, is_child, parent, same}
+use Rattle.yw_state.specs.Identity.{Ident, is_child, same}
 use Rattle.yw_state.specs.Judged.{case_place}
 use Rattle.yw_state.specs.Map.{get}
 use Rattle.yw_state.specs.Options.{is_some_and}

@@ -4,7 +4,7 @@ use Rattle.std.specs.List.{All, list_any, range_with_len}
 use Rattle.std.proofs.Common.{sym, ◌∙◌, ap, subst, inl, inr}
 use Rattle.std.proofs.lemmas.Bool.{and_from, and_parts, false_from_ne_true, or_left, or_right}
 use Rattle.std.proofs.lemmas.List.Elements.{All-head, All-tail}
-use Rattle.yw_base.specs.Identity.{under}
+use Rattle.yw_base.specs.Identity.{under, child, parent}
 use Rattle.yw_moved.proofs.Parents.{is_same, itself_or_above, parent_child, parent_of_child, same_itself}
 use Rattle.yw_moved.specs.Moved.{done_at, is_moved, made_by}
 use Rattle.yw_plain.specs.Plain.{is_plain_event}
@@ -13,7 +13,7 @@ use Rattle.yw_state.proofs.Entries.{IsIn, passes, passing}
 use Rattle.yw_state.proofs.Tests.{by_test, never, or_cases, there_and}
 use Rattle.yw_state.proofs.Under.{under_parent}
 use Rattle.yw_state.specs.Gone.{exit_removes, removes, under_item}
-use Rattle.yw_state.specs.Identity.{Ident, case_ident, child, is_child, parent, same}
+use Rattle.yw_state.specs.Identity.{Ident, case_ident, is_child, same}
 use Rattle.yw_state.specs.Options.{is_some_and}
 use Rattle.yw_state.specs.State.{State, ItemPart, items_of, task_at}
 use Rattle.yw_state.specs.declared.event.Event.{Event}

@@ -5,7 +5,8 @@ use Rattle.std.proofs.Common.{sym, ◌∙◌, ap}
 use Rattle.yw_plain.specs.Plain.{PlainWords}
 use Rattle.yw_state.proofs.MapLemmas.{by_name, get-retain, same_list}
 use Rattle.yw_state.proofs.Tests.{by_test}
-use Rattle.yw_state.specs.Identity.{Ident, case_number, is_child}
+use Rattle.yw_state.specs.Identity.{Ident, is_child}
+use Rattle.yw_base.specs.Identity.{case_number}
 use Rattle.yw_state.specs.Map.{entries, get, retain}
 use Rattle.yw_state.specs.State.{State, Site, if_of_task, item_of_task, items_of, net_at}
 use Rattle.yw_still.proofs.OtherCases.{mapped_kept}

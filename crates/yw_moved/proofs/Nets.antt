@@ -14,7 +14,8 @@ use Rattle.yw_state.proofs.Tests.{and_right, by_option, is_not, never, nowhere}
 use Rattle.yw_state.specs.Allowed.{Allowed, allows}
 use Rattle.yw_state.specs.Automatic.{case_of}
 use Rattle.yw_state.specs.Events.{after}
-use Rattle.yw_state.specs.Identity.{Ident, parent}
+use Rattle.yw_state.specs.Identity.{Ident}
+use Rattle.yw_base.specs.Identity.{parent}
 use Rattle.yw_state.specs.Map.{get, has_key}
 use Rattle.yw_state.specs.State.{State, ItemAt, ItemPart, NetAt, NetPart, item_part, net_at, net_part, spec_called}
 use Rattle.yw_state.specs.Texts.{Said, a_spec}

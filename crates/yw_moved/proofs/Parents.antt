@@ -3,9 +3,9 @@ use Rattle.std.specs.Prelude.{◌≡◌, ◌≤◌, ◌⊎◌, ℕ, ◌+◌, ◌
 use Rattle.std.proofs.Common.{sym, ◌∙◌, ap, inl, inr, arith}
 use Rattle.std.proofs.lemmas.Bool.{and_from, and_parts, eq-eqb, eqb-true, false_from_ne_true}
 use Rattle.std.proofs.lemmas.Slice.Eq.{bytes_eq-Decides}
-use Rattle.yw_base.specs.Identity.{under}
+use Rattle.yw_base.specs.Identity.{under, child, parent}
 use Rattle.yw_state.proofs.Tests.{never}
-use Rattle.yw_state.specs.Identity.{Ident, child, is_child, parent, same}
+use Rattle.yw_state.specs.Identity.{Ident, is_child, same}
 
 pub same_itself : (j : Ident) → same j j ≡ true
 same_itself j = (bytes_eq-Decides j j).1 refl

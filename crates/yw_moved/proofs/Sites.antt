@@ -16,7 +16,8 @@ use Rattle.yw_state.specs.After.{add, add_item, add_items, change, complete, com
 use Rattle.yw_state.specs.Allowed.{Allowed, allows, place_numbers}
 use Rattle.yw_state.specs.Events.{after}
 use Rattle.yw_state.specs.Gone.{removes}
-use Rattle.yw_state.specs.Identity.{Ident, case_ident, child, same}
+use Rattle.yw_state.specs.Identity.{Ident, case_ident, same}
+use Rattle.yw_base.specs.Identity.{child}
 use Rattle.yw_state.specs.Map.{get}
 use Rattle.yw_state.specs.Options.{is_some_and}
 use Rattle.yw_state.specs.Passing.{entry_values, given_values}

@@ -2,7 +2,7 @@
 use Rattle.std.specs.Prelude.{◌≡◌, false, true, [], Some, option_and_then}
 use Rattle.std.proofs.Common.{sym, ◌∙◌, ap}
 use Rattle.std.proofs.lemmas.Bool.{false_from_ne_true}
-use Rattle.yw_base.specs.Identity.{is_identity}
+use Rattle.yw_base.specs.Identity.{is_identity, parent}
 use Rattle.yw_moved.proofs.Around.{not_done, not_done_below, not_made, not_made_below, stays_above, stays_below}
 use Rattle.yw_moved.proofs.Above.{above_kind, kind_at}
 use Rattle.yw_moved.proofs.Looking.{StandsSame, looks_same}
@@ -18,7 +18,7 @@ use Rattle.yw_state.proofs.Tests.{never, nowhere, then_some, there}
 use Rattle.yw_state.specs.Allowed.{Allowed}
 use Rattle.yw_state.specs.Events.{after}
 use Rattle.yw_state.specs.Gone.{removes}
-use Rattle.yw_state.specs.Identity.{Ident, is_child, parent}
+use Rattle.yw_state.specs.Identity.{Ident, is_child}
 use Rattle.yw_state.specs.Map.{get}
 use Rattle.yw_state.specs.State.{State, Site, ItemPart, NetPart, item_part, net_at, net_part}
 use Rattle.yw_state.specs.Texts.{Reader, Said}

@@ -2,7 +2,8 @@
 -- neither a rule tree nor an exlet. Our own.
 use Rattle.std.specs.Prelude.{◌||◌, Bool, List, [], ◌∷◌, map, Option, Some, None}
 use Rattle.std.specs.List.{list_any, range_with_len}
-use Rattle.yw_state.specs.Identity.{Ident, case_ident, child, parent, same}
+use Rattle.yw_state.specs.Identity.{Ident, case_ident, same}
+use Rattle.yw_base.specs.Identity.{child, parent}
 use Rattle.yw_state.specs.Options.{is_some_and}
 use Rattle.yw_state.specs.State.{State, Site}
 use Rattle.yw_state.specs.Well.{Stands}

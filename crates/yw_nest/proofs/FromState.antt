@@ -3,7 +3,7 @@ use Rattle.std.proofs.Common.{Bool, List, Option, Some, ap, arith, refl, subst, 
 use Rattle.std.proofs.lemmas.Bool.{and_from, and_parts, eqb-true, leb-true, lt-ltb, ltb-true}
 use Rattle.std.specs.Prelude.{IsSome, is_some, nat_le, nat_lt, option_and_then, option_map, slice_get, ◌==◌, if◌then◌else◌}
 use Rattle.std.specs.Str.{bytes_eq}
-use Rattle.yw_base.specs.Identity.{is_identity, number_end}
+use Rattle.yw_base.specs.Identity.{is_identity, number_end, parent}
 use Rattle.yw_nest.proofs.Known.{part_known}
 use Rattle.yw_nest.proofs.NetFound.{item_there, net_there}
 use Rattle.yw_nest.specs.Cases.{CaseMayBegin}
@@ -16,7 +16,7 @@ use Rattle.yw_spec.specs.declared.task.Task.{Task}
 use Rattle.yw_state.proofs.Standing.{at_item, at_net}
 use Rattle.yw_state.proofs.Tests.{and_left, and_right, by_option, map_some, never, then_some, there_and}
 use Rattle.yw_state.specs.Allowed.{Allowed, allows, launch_fits}
-use Rattle.yw_state.specs.Identity.{Ident, case_ident, parent}
+use Rattle.yw_state.specs.Identity.{Ident, case_ident}
 use Rattle.yw_state.specs.Map.{get}
 use Rattle.yw_state.specs.Nets.{child_net}
 use Rattle.yw_state.specs.Options.{is_some_and}
@@ -29,7 +29,7 @@ use Rattle.yw_state.specs.declared.event.Event.TheVariants as events
 use Rattle.yw_state.specs.declared.part.Stage.{Stage}
 use Rattle.yw_state.specs.declared.part.Stage.TheVariants.{Completed, Executing, Ready}
 use Rattle.yw_tree.proofs.FindLaw.{case_shown}
-use Rattle.yw_tree.proofs.Parents.{identity_long}
+use Rattle.yw_base.proofs.Parents.{identity_long}
 use Rattle.yw_tree.specs.Cases.{case_at}
 use Rattle.yw_tree.specs.Entries.{case_site, net_part as its_part}
 use Rattle.yw_tree.specs.Forest.{item_of}

@@ -1,19 +1,20 @@
 -- What a state says of an item and its nets, by the forest.
 use Rattle.std.proofs.Common.{Bool, List, None, Option, Some, ap, cond, length, sym, true, ℕ, ◌∙◌, ◌≡◌, ◌≤◌}
 use Rattle.std.specs.Prelude.{is_some, option_and_then, option_map, slice_get}
-use Rattle.yw_base.specs.Identity.{is_identity}
+use Rattle.yw_base.specs.Identity.{is_identity, case_number, parent}
 use Rattle.yw_nest.specs.Items.{IsNetOf}
 use Rattle.yw_spec.specs.declared.spec.Net.{Net}
 use Rattle.yw_spec.specs.declared.spec.Spec.{Spec}
 use Rattle.yw_spec.specs.declared.task.Task.{Task}
-use Rattle.yw_state.specs.Identity.{Ident, case_number, parent}
+use Rattle.yw_state.specs.Identity.{Ident}
 use Rattle.yw_state.specs.Map.{get}
 use Rattle.yw_state.specs.State.{ItemAt, ItemPart, NetAt, NetPart, Site, State, TaskAt, item_at, item_part, net_at, net_of, net_part, spec_called, task_in}
 use Rattle.yw_tree.proofs.Attached.{no_net}
 use Rattle.yw_tree.proofs.FindLaw.{item_shown}
 pub use Rattle.yw_tree.proofs.ItemWith.{no_case}
 use Rattle.yw_tree.proofs.NetAt.{net_here}
-use Rattle.yw_tree.proofs.Parents.{identity_long, parent_there}
+use Rattle.yw_tree.proofs.Parents.{parent_there}
+use Rattle.yw_base.proofs.Parents.{identity_long}
 use Rattle.yw_tree.specs.Entries.{item_part_of, item_site, net_part as its_part}
 use Rattle.yw_tree.specs.Forest.{IsForest, item_of, sites_of, top_of}
 use Rattle.yw_tree.specs.Places.{net_at as net_found, net_of_run, run_of}

@@ -2,17 +2,18 @@
 use Rattle.std.proofs.Common.{Bool, List, None, Option, Some, ap, arith, cond, false, length, refl, sym, true, ℕ, ◌∙◌, ◌≡◌, ◌≤◌}
 use Rattle.std.specs.Prelude.{Box, is_some, option_and_then, option_map}
 use Rattle.std.specs.declared.alloc.Global.{Global}
-use Rattle.yw_base.specs.Identity.{is_identity}
+use Rattle.yw_base.specs.Identity.{is_identity, case_number}
 use Rattle.yw_nest.proofs.Known.{part_known}
 use Rattle.yw_state.proofs.Tests.{by_option, by_test, map_some, nowhere, some_same}
-use Rattle.yw_state.specs.Identity.{Ident, case_number, is_case_ident}
+use Rattle.yw_state.specs.Identity.{Ident, is_case_ident}
 use Rattle.yw_state.specs.Map.{get}
 use Rattle.yw_state.specs.State.{ItemPart, NetPart, Site, State, item_part, net_part}
 use Rattle.yw_tree.proofs.AbsentLaw.{item_is}
 use Rattle.yw_tree.proofs.Attached.{no_net}
 use Rattle.yw_tree.proofs.FindLaw.{find_is}
 use Rattle.yw_tree.proofs.ForestLaw.{identity_in_case}
-use Rattle.yw_tree.proofs.Parents.{identity_long, identity_short}
+use Rattle.yw_tree.proofs.Parents.{identity_short}
+use Rattle.yw_base.proofs.Parents.{identity_long}
 use Rattle.yw_tree.specs.Cases.{case_at}
 use Rattle.yw_tree.specs.Entries.{item_part_of, net_part as its_part, net_part_of}
 use Rattle.yw_tree.specs.Forest.{IsForest, item_of, sites_of, top_of}

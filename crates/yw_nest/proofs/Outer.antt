@@ -3,9 +3,10 @@ use Rattle.std.proofs.Common.{Bool, List, [], arith, false, length, refl, subst,
 use Rattle.std.proofs.lemmas.Bool.{and_from, and_parts, le-leb, lt-ltb}
 use Rattle.std.specs.List.{list_all}
 use Rattle.std.specs.Prelude.{nat_le, nat_lt, ◌&&◌}
-use Rattle.yw_base.specs.Identity.{is_identity, is_number, most_numbers}
-use Rattle.yw_state.specs.Identity.{Ident, is_case_ident, parent}
-use Rattle.yw_tree.proofs.Parents.{identity_long, identity_short, parent_is, parent_length, parent_there}
+use Rattle.yw_base.specs.Identity.{is_identity, is_number, most_numbers, parent}
+use Rattle.yw_state.specs.Identity.{Ident, is_case_ident}
+use Rattle.yw_tree.proofs.Parents.{identity_short, parent_length, parent_there}
+use Rattle.yw_base.proofs.Parents.{identity_long, parent_is}
 
 all_taken : {A : Type 0} (p : A → Bool) (k : ℕ) (xs : List A) → list_all p xs ≡ true → list_all p (take k xs) ≡ true
 all_taken p zero [] h = refl

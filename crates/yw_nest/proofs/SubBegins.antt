@@ -2,7 +2,7 @@
 use Rattle.std.proofs.Common.{List, None, Some, [], ap, subst, sym, true, ℕ, ◌++◌, ◌∙◌, ◌≡◌}
 use Rattle.std.specs.Prelude.{Box, option_and_then, option_map, slice_get}
 use Rattle.std.specs.declared.alloc.Global.{Global}
-use Rattle.yw_base.specs.Identity.{is_identity}
+use Rattle.yw_base.specs.Identity.{is_identity, parent}
 use Rattle.yw_nest.proofs.Known.{item_known, its_item, no_case, spec_known}
 use Rattle.yw_nest.specs.Items.{BeginsChild, IsNetOf, StartsSub}
 use Rattle.yw_sites.specs.Idents.{AreChildren}
@@ -11,7 +11,7 @@ use Rattle.yw_spec.specs.declared.spec.Spec.{Spec}
 use Rattle.yw_state.specs.After.{begun, net_numbered, new_net, stands, start_sub, where_some, with_item, with_sites}
 use Rattle.yw_state.specs.ByName.{first_values, given_named}
 use Rattle.yw_state.specs.Events.{after}
-use Rattle.yw_state.specs.Identity.{Ident, parent}
+use Rattle.yw_state.specs.Identity.{Ident}
 use Rattle.yw_state.specs.Map.{update}
 use Rattle.yw_state.specs.State.{ItemAt, NetPart, Site, State, item_at, spec_called}
 use Rattle.yw_state.specs.declared.part.Stage.TheVariants.{Executing}
@@ -21,7 +21,8 @@ use Rattle.yw_tree.proofs.Induct.{below_every_node}
 use Rattle.yw_tree.proofs.Keys.{ids_are, kids}
 use Rattle.yw_tree.proofs.Made.{made_node}
 use Rattle.yw_tree.proofs.NetLaw.{item_own, site_open}
-use Rattle.yw_tree.proofs.Parents.{identity_long, parent_there}
+use Rattle.yw_tree.proofs.Parents.{parent_there}
+use Rattle.yw_base.proofs.Parents.{identity_long}
 use Rattle.yw_tree.specs.Boxed.{AtNet, AtNode, AtRun, IsBoxedNode, head, ids, net_ids, run_ids}
 use Rattle.yw_tree.specs.Entries.{below_net, below_run, flat, item_site, net_entries, node_entries, nodes}
 use Rattle.yw_tree.specs.Forest.{IsForest, item_replaced, sites_of}

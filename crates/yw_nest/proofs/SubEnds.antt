@@ -23,7 +23,8 @@ use Rattle.yw_tree.proofs.AbsentLaw.{item_is}
 use Rattle.yw_tree.proofs.ForestLaw.{identity_in_case}
 use Rattle.yw_tree.proofs.NetLaw.{site_open}
 use Rattle.yw_tree.proofs.OwnChange.{own_changed}
-use Rattle.yw_tree.proofs.Parents.{identity_long, identity_short}
+use Rattle.yw_tree.proofs.Parents.{identity_short}
+use Rattle.yw_base.proofs.Parents.{identity_long}
 use Rattle.yw_tree.specs.Becomes.{Bares}
 use Rattle.yw_tree.specs.Entries.{item_part_of, item_site, net_part as its_part}
 use Rattle.yw_tree.specs.Forest.{IsForest, item_of, item_replaced, sites_of}

@@ -7,7 +7,8 @@ use Rattle.yw_spec.specs.declared.spec.Net.{Net}
 use Rattle.yw_spec.specs.declared.spec.Spec.{Spec}
 use Rattle.yw_spec.specs.declared.task.Task.{Task}
 use Rattle.yw_state.specs.ByName.{first_values, param_value}
-use Rattle.yw_state.specs.Identity.{Ident, parent}
+use Rattle.yw_state.specs.Identity.{Ident}
+use Rattle.yw_base.specs.Identity.{parent}
 use Rattle.yw_state.specs.Judged.{has_rules, task_place}
 use Rattle.yw_state.specs.Nets.{child_net}
 use Rattle.yw_state.specs.State.{ItemAt, NetPart, State, item_at, net_part, spec_called}

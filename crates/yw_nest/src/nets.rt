@@ -1,7 +1,8 @@
 // What nets are as they begin, and where they are found.
 ghost use Rattle.std.specs.Prelude.{◌≡◌, ◌<◌, IfOk, IsSome, Some, false, length, slice_get};
 ghost use Rattle.yw_nest.specs.Cases.{first_tokens};
-ghost use Rattle.yw_state.specs.Identity.{is_case_ident, parent};
+ghost use Rattle.yw_state.specs.Identity.{is_case_ident};
+ghost use Rattle.yw_base.specs.Identity.{parent};
 ghost use Rattle.yw_state.specs.Nets.{child_net};
 ghost use Rattle.yw_tree.specs.Begins.{BeginsNet};
 ghost use Rattle.yw_tree.specs.Forest.{item_of};

@@ -18,7 +18,8 @@ use Rattle.yw_state.proofs.Tests.{and_left, and_right, by_option, map_some, neve
 use Rattle.yw_state.specs.After.{begun, completed}
 use Rattle.yw_state.specs.Allowed.{Allowed, allows, composite_is}
 use Rattle.yw_state.specs.Events.{after}
-use Rattle.yw_state.specs.Identity.{Ident, case_ident, parent}
+use Rattle.yw_state.specs.Identity.{Ident, case_ident}
+use Rattle.yw_base.specs.Identity.{parent}
 use Rattle.yw_state.specs.Map.{Map, get, has_key, lexical, lexical_each}
 use Rattle.yw_state.specs.Nets.{child_net, is_atomic}
 use Rattle.yw_state.specs.Options.{is_some_and}

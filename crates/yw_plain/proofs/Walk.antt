@@ -15,7 +15,8 @@ use Rattle.yw_state.specs.After
 use Rattle.yw_state.specs.Allowed.{place_numbers}
 use Rattle.yw_state.specs.ByName.{made_by_child}
 use Rattle.yw_state.specs.Events.{after}
-use Rattle.yw_state.specs.Identity.{Ident, case_ident, child}
+use Rattle.yw_state.specs.Identity.{Ident, case_ident}
+use Rattle.yw_base.specs.Identity.{child}
 use Rattle.yw_state.specs.Judged.{case_place, has_rules, task_place}
 use Rattle.yw_state.specs.Map.{Map, get, insert, lexical, lexical_each, retain, update}
 use Rattle.yw_state.specs.Passing.{entry_values, given_values}

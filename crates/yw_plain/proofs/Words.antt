@@ -1,13 +1,13 @@
 -- What the words of a plain state say.
 use Rattle.std.specs.Prelude.{◌≡◌, ◌==◌, ◌&&◌, ◌||◌, ℕ, Bool, true, false, not, List, [], length, Option, Some, None, is_some, nat_lt, option_map, option_and_then, unwrap_or, refl}
 use Rattle.std.proofs.Common.{sym, ◌∙◌, ap}
-use Rattle.yw_base.specs.Identity.{under}
+use Rattle.yw_base.specs.Identity.{under, case_number}
 use Rattle.yw_plain.specs.Plain.{IsPlain, PlainWords}
 use Rattle.yw_state.proofs.Entries.{find-entry, passing}
 use Rattle.yw_state.proofs.MapLemmas.{by_name}
 use Rattle.yw_state.proofs.Tests.{by_option, by_test, never}
 use Rattle.yw_state.specs.After.{case_checks, item_checks}
-use Rattle.yw_state.specs.Identity.{Ident, case_number, is_child, strictly_under}
+use Rattle.yw_state.specs.Identity.{Ident, is_child, strictly_under}
 use Rattle.yw_state.specs.Judged.{case_place, has_rules, is_manual, place_key, rules_at, task_place}
 use Rattle.yw_state.specs.Map.{empty, entries, get}
 use Rattle.yw_state.specs.Nets.{is_atomic}

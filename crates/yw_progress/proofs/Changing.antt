@@ -12,11 +12,11 @@ use Rattle.yw_state.proofs.Absent.{part-kept}
 use Rattle.yw_state.proofs.Elsewhere.{children}
 use Rattle.yw_state.proofs.MapLemmas.{by_name, get-insert, get-retain_kept, get-update_same}
 use Rattle.yw_state.proofs.Tests.{by_test}
-use Rattle.yw_base.specs.Identity.{under}
+use Rattle.yw_base.specs.Identity.{under, child}
 use Rattle.yw_state.specs.After.{add_item, add_items, begin_at, begun, change, complete, completed, exit, idents, items_gone, make_due, net_numbered, new_item, new_net, produce, region_emptied, stands, start_sub, values_assigned, where_some, wipe, with_item, with_net, with_sites, without_items}
 use Rattle.yw_state.specs.Allowed.{place_numbers}
 use Rattle.yw_state.specs.ByName.{first_values, given_named}
-use Rattle.yw_state.specs.Identity.{Ident, child, is_child, same, strictly_under}
+use Rattle.yw_state.specs.Identity.{Ident, is_child, same, strictly_under}
 use Rattle.yw_state.specs.Judged.{case_place}
 use Rattle.yw_state.specs.Map.{get, insert, lexical, retain}
 use Rattle.yw_state.specs.State.{State, Site, Sites, ItemAt, ItemPart, NetPart, TaskAt, bare, drop, drop_all, item_part, items_of, spec_called, without_net}

@@ -22,7 +22,8 @@ use Rattle.yw_state.specs.After.{begun, change, complete, completed, end_net, en
 use Rattle.yw_state.specs.Allowed.{Allowed, allows, place_numbers}
 use Rattle.yw_state.specs.ByName.{made_by_child}
 use Rattle.yw_state.specs.Events.{after}
-use Rattle.yw_state.specs.Identity.{Ident, is_child, parent, same}
+use Rattle.yw_state.specs.Identity.{Ident, is_child, same}
+use Rattle.yw_base.specs.Identity.{parent}
 use Rattle.yw_state.specs.Map.{get, lexical}
 use Rattle.yw_state.specs.Options.{is_some_and}
 use Rattle.yw_state.specs.State.{State, ItemAt, ItemPart, TaskAt, bare, item_at, item_part, net_at, net_part, task_at, task_in}

@@ -4,7 +4,7 @@ use Rattle.std.specs.Prelude.{◌≡◌, ◌||◌, ℕ, Bool, true, false, not, 
 use Rattle.std.proofs.Common.{sym, ◌∙◌, ap, inl, inr, subst}
 use Rattle.std.proofs.lemmas.Bool.{and_from, and_parts, false_from_ne_true}
 use Rattle.std.proofs.lemmas.List.Elements.{All-head, All-tail}
-use Rattle.yw_base.specs.Identity.{is_identity, under}
+use Rattle.yw_base.specs.Identity.{is_identity, under, parent}
 use Rattle.yw_moved.proofs.Above.{made_undrawn}
 use Rattle.yw_moved.proofs.Parents.{is_same, itself_or_above, parent_of_child, same_itself}
 use Rattle.yw_moved.proofs.Sites.{left_alone}
@@ -21,7 +21,7 @@ use Rattle.yw_state.specs.After.{change, complete, completed, new_item, take, wh
 use Rattle.yw_state.specs.Allowed.{Allowed, allows, place_numbers}
 use Rattle.yw_state.specs.Events.{after}
 use Rattle.yw_state.specs.Gone.{exit_removes, removes, under_item}
-use Rattle.yw_state.specs.Identity.{Ident, case_ident, is_child, parent, same}
+use Rattle.yw_state.specs.Identity.{Ident, case_ident, is_child, same}
 use Rattle.yw_state.specs.Map.{get}
 use Rattle.yw_state.specs.Options.{is_some_and}
 use Rattle.yw_state.specs.Passing.{entry_values, given_values}

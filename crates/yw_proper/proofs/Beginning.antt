@@ -16,7 +16,8 @@ use Rattle.yw_spec.specs.declared.spec.Spec.{Spec}
 use Rattle.yw_state.proofs.MapLemmas.{by_name, get-insert_other, get-insert_same, get-update_other, get-update_same}
 use Rattle.yw_state.proofs.Tests.{by_test, nowhere, some_same}
 use Rattle.yw_state.specs.After.{change, count_on, put, stands, with_next}
-use Rattle.yw_state.specs.Identity.{Ident, parent}
+use Rattle.yw_state.specs.Identity.{Ident}
+use Rattle.yw_base.specs.Identity.{parent}
 use Rattle.yw_state.specs.Map.{get}
 use Rattle.yw_state.specs.State.{State, Site, NetPart, ItemPart, item_part, net_part, spec_called, tokens_on}
 use Rattle.yw_state.specs.Words.{active}

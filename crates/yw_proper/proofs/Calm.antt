@@ -1,13 +1,13 @@
 -- Events by which neither a net nor an item comes, and no token: each net and each item that stands then stood before.
 use Rattle.std.specs.Prelude.{◌≡◌, ℕ, Bool, true, false, not, List, ◌||◌, refl}
 use Rattle.std.proofs.Common.{sym}
-use Rattle.yw_base.specs.Identity.{under}
+use Rattle.yw_base.specs.Identity.{under, child}
 use Rattle.yw_proper.proofs.Lighter.{Leaves, item_itself, item_mapped, leaves-change, leaves-if, leaves-put, leaves-retain, leaves-same, leaves-some, leaves-then, net_gone, net_itself}
 use Rattle.yw_state.proofs.Tests.{never}
 use Rattle.yw_state.specs.After.{add_rule, begin_run, change, complete, completed, end_case, end_net, make_due, make_select_due, pass, with_item, with_run, with_sites}
 use Rattle.yw_state.specs.ByName.{made_of_given}
 use Rattle.yw_state.specs.Exlets.{case_above, continue_at, cut_back, end_compensation, end_if_over, going_on, is_over, primitive, restarted, suspend}
-use Rattle.yw_state.specs.Identity.{Ident, case_ident, child, same, strictly_under}
+use Rattle.yw_state.specs.Identity.{Ident, case_ident, same, strictly_under}
 use Rattle.yw_state.specs.Judged.{task_place}
 use Rattle.yw_state.specs.Map.{insert, remove, retain}
 use Rattle.yw_state.specs.Nets.{is_atomic}

@@ -31,7 +31,8 @@ use Rattle.yw_state.proofs.Tests.{by_test, never, same_numbers, some_same, then_
 use Rattle.yw_state.proofs.Updated.{made_here}
 use Rattle.yw_state.specs.After.{add, add_item, add_items, count_on, enter, item_checks, new_item, one_less, take, where_some, with_net}
 use Rattle.yw_state.specs.Allowed.{Allowed, allows, makes, may_add, may_enter, place_numbers, takes_from}
-use Rattle.yw_state.specs.Identity.{Ident, child, parent}
+use Rattle.yw_state.specs.Identity.{Ident}
+use Rattle.yw_base.specs.Identity.{child, parent}
 use Rattle.yw_state.specs.Joins.{joins, marked}
 use Rattle.yw_state.specs.Map.{get, lexical}
 use Rattle.yw_state.specs.Nets.{is_among}

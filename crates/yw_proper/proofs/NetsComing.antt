@@ -18,7 +18,8 @@ use Rattle.yw_state.specs.After.{begin_at, begin_case, begun, launch, net_number
 use Rattle.yw_state.specs.Allowed.{Allowed, allows, comes_next, is_first, launch_fits}
 use Rattle.yw_state.specs.ByName.{first_values, given_named, source_at}
 use Rattle.yw_state.specs.Exlets.{begin_compensation, compensate, primitive, take_primitive, taken_first, waiting}
-use Rattle.yw_state.specs.Identity.{Ident, case_ident, parent}
+use Rattle.yw_state.specs.Identity.{Ident, case_ident}
+use Rattle.yw_base.specs.Identity.{parent}
 use Rattle.yw_state.specs.Map.{get}
 use Rattle.yw_state.specs.Nets.{child_net, top_net}
 use Rattle.yw_state.specs.Options.{is_some_and}

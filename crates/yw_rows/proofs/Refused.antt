@@ -10,7 +10,8 @@ use Rattle.yw_spec.specs.declared.spec.Place.{Place}
 use Rattle.yw_state.specs.Allowed.{Allowed, allows}
 use Rattle.yw_state.specs.Automatic.{Comes}
 use Rattle.yw_state.specs.Broken.{Check, First, checks, fact, fact_at, fault, placed, placeless, test, test_at}
-use Rattle.yw_state.specs.Identity.{Ident, case_number}
+use Rattle.yw_state.specs.Identity.{Ident}
+use Rattle.yw_base.specs.Identity.{case_number}
 use Rattle.yw_state.specs.Joins.{Waits}
 use Rattle.yw_base.specs.Gates.{is_or}
 use Rattle.yw_state.specs.Options.{is_some_and}

@@ -13,7 +13,8 @@ use Rattle.yw_spec.specs.declared.spec.Spec.{Spec}
 use Rattle.yw_spec.specs.declared.task.Many.{Many}
 use Rattle.yw_spec.specs.declared.task.Task.{Task}
 use Rattle.yw_state.specs.Allowed.{may_leave}
-use Rattle.yw_state.specs.Identity.{Ident, is_child, parent}
+use Rattle.yw_state.specs.Identity.{Ident, is_child}
+use Rattle.yw_base.specs.Identity.{parent}
 use Rattle.yw_state.specs.Joins.{at_output, marked}
 use Rattle.yw_state.specs.Map.{entries, get, lexical}
 use Rattle.yw_state.specs.Nets.{is_atomic, task_number}

@@ -12,7 +12,8 @@ use Rattle.yw_state.proofs.Entries.{IsIn, entry-found, find-entry, mapped_in}
 use Rattle.yw_state.proofs.MapLemmas.{by_name, by_test, never, nowhere, some_same}
 use Rattle.yw_state.proofs.Standing.{at_net}
 use Rattle.yw_state.specs.Answers.{IsShown, IsTokenList, IsTokenRow, of_case, rises, token_before}
-use Rattle.yw_state.specs.Identity.{Ident, case_number}
+use Rattle.yw_state.specs.Identity.{Ident}
+use Rattle.yw_base.specs.Identity.{case_number}
 use Rattle.yw_state.specs.Map.{entries, get, lexical}
 use Rattle.yw_state.specs.State.{State, Site, NetAt, net_at}
 use Rattle.yw_state.specs.declared.answer.Shown.{Shown}

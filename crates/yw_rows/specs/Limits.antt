@@ -9,7 +9,8 @@ use Rattle.yw_rows.specs.Written.{load, net, person, plain, rule, spec, task, tr
 use Rattle.yw_spec.specs.declared.spec.Place.TheVariants.{Between, Named}
 use Rattle.yw_spec.specs.declared.spec.Spec.{Spec}
 use Rattle.yw_state.specs.After.{change, with_net}
-use Rattle.yw_state.specs.Identity.{Ident, child}
+use Rattle.yw_state.specs.Identity.{Ident}
+use Rattle.yw_base.specs.Identity.{child}
 use Rattle.yw_state.specs.State.{State}
 use Rattle.yw_state.specs.declared.event.Event.{Event}
 use Rattle.yw_state.specs.declared.event.Event.TheVariants as events

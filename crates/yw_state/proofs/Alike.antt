@@ -8,7 +8,8 @@ use Rattle.yw_spec.specs.declared.spec.Spec.{Spec}
 use Rattle.yw_state.proofs.NetLevels.{deep_alike}
 use Rattle.yw_state.proofs.MapLemmas.{by_option, nowhere, never}
 use Rattle.yw_state.specs.Allowed.{are_roles}
-use Rattle.yw_state.specs.Identity.{Ident, is_case_ident, parent}
+use Rattle.yw_state.specs.Identity.{Ident, is_case_ident}
+use Rattle.yw_base.specs.Identity.{parent}
 use Rattle.yw_state.specs.Judged.{Question, case_place, has_rule, has_rules, item_values, rules_at, task_place}
 use Rattle.yw_state.specs.Map.{Map, lexical, lexical_each, get, has_key}
 use Rattle.yw_state.specs.NewRule.{are_fit, is_known, may_conclude}

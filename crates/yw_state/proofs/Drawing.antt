@@ -2,7 +2,7 @@
 use Rattle.std.specs.Prelude.{ℕ, ◌≡◌, ◌≤◌, ◌+◌, ◌==◌, ◌&&◌, Bool, true, false, List, [], ◌∷◌, fold, length, nat_le, nat_lt, Option, Some, None, refl, if◌then◌else◌, is_some, option_and_then, unwrap_or, IsTrue}
 use Rattle.std.proofs.Common.{sym, ◌∙◌, ap, subst, arith}
 use Rattle.std.proofs.lemmas.Bool.{eqb-true, leb-true}
-use Rattle.yw_base.specs.Identity.{number_end}
+use Rattle.yw_base.specs.Identity.{number_end, parent}
 use Rattle.yw_spec.specs.declared.spec.Net.{Net}
 use Rattle.yw_spec.specs.declared.spec.Place.{Place}
 use Rattle.yw_spec.specs.declared.spec.Spec.{Spec}
@@ -11,7 +11,7 @@ use Rattle.yw_state.specs.Allowed.{allows, depth_end}
 use Rattle.yw_state.specs.Drawn.{first_drawn, count_drawn}
 use Rattle.yw_state.specs.Events.{after}
 use Rattle.yw_state.specs.Exlets
-use Rattle.yw_state.specs.Identity.{Ident, parent}
+use Rattle.yw_state.specs.Identity.{Ident}
 use Rattle.yw_state.specs.Nets.{is_atomic, top_net}
 use Rattle.yw_state.specs.Options.{is_some_and}
 use Rattle.yw_state.specs.Passing.{entry_values, given_values}

@@ -4,7 +4,7 @@ use Rattle.std.specs.List.{All, filter_map, cons_option, range_with_len, zip}
 use Rattle.std.proofs.Common.{sym, ◌∙◌, ap, subst, arith}
 use Rattle.std.proofs.lemmas.Bool.{eqb-true}
 use Rattle.std.proofs.lemmas.List.Elements.{All-nil, All-cons, All-head, All-tail, All-map, All-weaker}
-use Rattle.yw_base.specs.Identity.{under}
+use Rattle.yw_base.specs.Identity.{under, child, parent, case_number}
 use Rattle.yw_base.specs.declared.value.Value.{Value}
 use Rattle.yw_spec.specs.declared.spec.Net.{Net}
 use Rattle.yw_spec.specs.declared.spec.Place.{Place}
@@ -17,7 +17,7 @@ use Rattle.yw_state.specs.Automatic.{case_of}
 use Rattle.yw_state.specs.ByName.{made_by_child, made_by_worklet}
 use Rattle.yw_state.specs.Events.{after}
 use Rattle.yw_state.specs.Exlets
-use Rattle.yw_state.specs.Identity.{Ident, same, child, is_child, parent, case_number, case_ident}
+use Rattle.yw_state.specs.Identity.{Ident, same, is_child, case_ident}
 use Rattle.yw_state.specs.Map.{entries, get, remove}
 use Rattle.yw_state.specs.State.{State, Site, Sites, ItemPart, NetAt, ItemAt, TaskAt, bare, bare_but, drop, drop_all, item_of_task, item_at, items_of, net_at, spec_called, task_at, top_called}
 use Rattle.yw_state.specs.Nets.{is_atomic}

@@ -3,7 +3,7 @@ use Rattle.std.specs.Prelude.{◌≡◌, ◌≤◌, ◌<◌, ◌⊎◌, ℕ, ◌
 use Rattle.std.specs.List.{list_all}
 use Rattle.std.proofs.Common.{sym, ◌∙◌, ap, subst, inl, inr, arith}
 use Rattle.std.proofs.lemmas.Bool.{and_parts, ltb-true}
-use Rattle.yw_base.specs.Identity.{is_number, most_numbers, number_end, under}
+use Rattle.yw_base.specs.Identity.{is_number, most_numbers, number_end, under, case_number}
 use Rattle.yw_state.proofs.Alike.{net_by}
 use Rattle.yw_state.proofs.MapLemmas.{by_number, by_name, by_option, get-insert_other, insert_stands, never, retain_stands}
 use Rattle.yw_state.proofs.RetainWell.{retained_is_well}
@@ -11,7 +11,7 @@ use Rattle.yw_state.proofs.Under.{other_case, outside}
 use Rattle.yw_state.specs.After.{end_case}
 use Rattle.yw_state.specs.Allowed.{Allowed, allows}
 use Rattle.yw_state.specs.Events.{after}
-use Rattle.yw_state.specs.Identity.{Ident, case_ident, case_number}
+use Rattle.yw_state.specs.Identity.{Ident, case_ident}
 use Rattle.yw_state.specs.Joins.{at_output, marked}
 use Rattle.yw_state.specs.Map.{get, insert}
 use Rattle.yw_state.specs.Options.{is_some_and}

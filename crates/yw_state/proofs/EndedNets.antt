@@ -7,7 +7,8 @@ use Rattle.yw_state.specs.ByName.{made_by_child, made_by_worklet, made_of_given}
 use Rattle.yw_state.specs.Events.{after}
 use Rattle.yw_state.specs.Exlets.{end_compensation, end_if_over, primitive, take_primitive}
 use Rattle.yw_state.specs.Gone.{net_ended, primitive_ends}
-use Rattle.yw_state.specs.Identity.{Ident, parent}
+use Rattle.yw_state.specs.Identity.{Ident}
+use Rattle.yw_base.specs.Identity.{parent}
 use Rattle.yw_state.specs.Map.{get, retain, update}
 use Rattle.yw_state.specs.Options.{is_some_and}
 use Rattle.yw_state.specs.State.{ItemAt, ItemPart, NetAt, Site, State, TaskAt, bare, bare_but, item_at, net_at, net_part, no_checks}

@@ -4,7 +4,7 @@ use Rattle.std.specs.List.{list_all}
 use Rattle.std.specs.Ordering.{eq_by_cmp}
 use Rattle.std.proofs.Common.{sym, ◌∙◌, ap, subst, arith}
 use Rattle.std.proofs.lemmas.Bool.{and_parts, eqb-true, false_from_ne_true, lt-ltb, ltb-true, or_left}
-use Rattle.yw_base.specs.Identity.{is_identity, number_end, under}
+use Rattle.yw_base.specs.Identity.{is_identity, number_end, under, case_number, parent}
 use Rattle.yw_state.proofs.Alike.{all_weaker, asked_of, item_in, net_by}
 use Rattle.yw_state.proofs.EntryCounts.{length-insert_other, length-none}
 use Rattle.yw_state.proofs.MapLemmas.{by_name, by_option, by_test, get-insert_other, get-insert_same, never, nowhere, some_same, tied, tied_self}
@@ -13,7 +13,7 @@ use Rattle.yw_state.proofs.Under.{all_above, all_parent}
 use Rattle.yw_state.proofs.NetLevels.{deep_alike}
 use Rattle.yw_state.proofs.Unchanged.{content_stays}
 use Rattle.yw_state.specs.After.{put, with_next}
-use Rattle.yw_state.specs.Identity.{Ident, case_number, is_case_ident, is_child, parent}
+use Rattle.yw_state.specs.Identity.{Ident, is_case_ident, is_child}
 use Rattle.yw_state.specs.Judged.{case_place, has_rule, has_rules, is_select}
 use Rattle.yw_state.specs.Map.{get, insert, lexical}
 use Rattle.yw_state.specs.NewRule.{are_fit, most_primitives}

@@ -1,7 +1,7 @@
 -- Behind an event that removes an identity, nothing stands under it.
 use Rattle.std.specs.Prelude.{◌≡◌, ℕ, ◌&&◌, ◌||◌, Bool, true, false, not, List, [], Option, Some, None, is_some, fold, slice_set, unwrap_or, refl}
 use Rattle.std.proofs.Common.{◌∙◌, ap, inl, inr}
-use Rattle.yw_base.specs.Identity.{under}
+use Rattle.yw_base.specs.Identity.{under, parent}
 use Rattle.yw_spec.specs.declared.spec.Place.{Place}
 use Rattle.yw_state.specs.After.{change, complete, completed, end_net, exit, items_gone, make_due, produce, region_emptied, values_assigned, where_some, wipe, with_item, with_run, with_sites}
 use Rattle.yw_state.specs.Allowed.{Allowed, allows, exit_values, place_numbers}
@@ -9,7 +9,7 @@ use Rattle.yw_state.specs.ByName.{made_of_given, made_by_child, made_by_worklet}
 use Rattle.yw_state.specs.Events.{after}
 use Rattle.yw_state.specs.Exlets.{case_above, end_compensation, primitive, take_primitive, taken_first}
 use Rattle.yw_state.specs.Gone.{cut_back_removes, exit_removes, primitive_removes, removes}
-use Rattle.yw_state.specs.Identity.{Ident, case_ident, parent, same, strictly_under}
+use Rattle.yw_state.specs.Identity.{Ident, case_ident, same, strictly_under}
 use Rattle.yw_state.specs.Judged.{case_place}
 use Rattle.yw_state.specs.Map.{get, retain}
 use Rattle.yw_state.specs.Options.{is_some_and}

@@ -9,7 +9,8 @@ use Rattle.yw_state.proofs.Unchanged.{content_stays}
 use Rattle.yw_state.proofs.MapLemmas.{by_option, nowhere, some_same}
 use Rattle.yw_state.proofs.Updated.{Renews, asked_same, has_item_same, marks_kept, nested_same, numbers_kept, parents_kept, renewed, renewed_here, renewed_or_same, stands_right, there_same}
 use Rattle.yw_state.specs.After.{change}
-use Rattle.yw_state.specs.Identity.{Ident, is_case_ident, parent}
+use Rattle.yw_state.specs.Identity.{Ident, is_case_ident}
+use Rattle.yw_base.specs.Identity.{parent}
 use Rattle.yw_state.specs.Judged.{has_rule}
 use Rattle.yw_state.specs.Map.{update}
 use Rattle.yw_state.specs.Options.{is_some_and}

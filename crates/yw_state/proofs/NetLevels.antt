@@ -3,7 +3,8 @@ use Rattle.std.specs.Prelude.{◌≡◌, ◌≤◌, ℕ, ◌+◌, zero, suc, tru
 use Rattle.std.proofs.Common.{sym, ◌∙◌, ap, subst, arith, append_assoc}
 use Rattle.yw_state.proofs.MapLemmas.{by_test}
 use Rattle.yw_state.proofs.Under.{shorter}
-use Rattle.yw_state.specs.Identity.{Ident, child, parent}
+use Rattle.yw_state.specs.Identity.{Ident}
+use Rattle.yw_base.specs.Identity.{child, parent}
 use Rattle.yw_state.specs.State.{State}
 use Rattle.yw_state.specs.Well.{is_nested, level_from, net_level}
 

@@ -7,7 +7,8 @@ use Rattle.yw_state.proofs.Alike.{asked_of, due_test, item_in, net_by}
 use Rattle.yw_state.proofs.MapLemmas.{by_name, by_test, get-retain_gone, get-retain_kept, never, nowhere, retain_stands}
 use Rattle.yw_state.proofs.NetLevels.{deep_as_before}
 use Rattle.yw_state.proofs.Unchanged.{content_stays}
-use Rattle.yw_state.specs.Identity.{Ident, is_case_ident, parent}
+use Rattle.yw_state.specs.Identity.{Ident, is_case_ident}
+use Rattle.yw_base.specs.Identity.{parent}
 use Rattle.yw_state.specs.Judged.{has_rule}
 use Rattle.yw_state.specs.Map.{Map, get, retain}
 use Rattle.yw_state.specs.Options.{is_some_and}

@@ -14,7 +14,8 @@ use Rattle.yw_state.proofs.Updated.{renewed}
 use Rattle.yw_state.specs.After.{begun, change, complete, completed, where_some, with_item}
 use Rattle.yw_state.specs.Allowed.{Allowed, allows, may_complete}
 use Rattle.yw_state.specs.Events.{after}
-use Rattle.yw_state.specs.Identity.{Ident, parent}
+use Rattle.yw_state.specs.Identity.{Ident}
+use Rattle.yw_base.specs.Identity.{parent}
 use Rattle.yw_state.specs.Nets.{child_net, is_atomic}
 use Rattle.yw_state.specs.Options.{is_some_and}
 use Rattle.yw_state.specs.State.{State, Site, ItemAt, is_target, item_at, items_of, net_part}

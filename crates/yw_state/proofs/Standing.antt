@@ -3,10 +3,10 @@ use Rattle.std.specs.Prelude.{ℕ, ◌≡◌, ◌≤◌, ◌⊎◌, Bool, true, 
 use Rattle.std.specs.List.{list_all}
 use Rattle.std.proofs.Common.{sym, ◌∙◌, ap, subst, inl, inr}
 use Rattle.std.proofs.lemmas.Bool.{eqb-true, ltb-true}
-use Rattle.yw_base.specs.Identity.{is_identity, is_number}
+use Rattle.yw_base.specs.Identity.{is_identity, is_number, case_number}
 use Rattle.yw_state.specs.Allowed.{allows}
 use Rattle.yw_state.specs.Automatic.{case_of}
-use Rattle.yw_state.specs.Identity.{Ident, case_ident, case_number, is_case_ident}
+use Rattle.yw_state.specs.Identity.{Ident, case_ident, is_case_ident}
 use Rattle.yw_state.specs.Joins.{at_output}
 use Rattle.yw_state.specs.Map.{get}
 use Rattle.yw_state.specs.Options.{is_some_and}

@@ -2,7 +2,8 @@
 use Rattle.std.specs.Ordering.{nat_cmp}
 use Rattle.std.specs.Prelude.{◌≡◌, ◌≤◌, ℕ, List, Some, IsSome, IsTrue, length, slice_get}
 use Rattle.yw_spec.specs.declared.task.Task.{Task}
-use Rattle.yw_state.specs.Identity.{Ident, is_case_ident, parent}
+use Rattle.yw_state.specs.Identity.{Ident, is_case_ident}
+use Rattle.yw_base.specs.Identity.{parent}
 use Rattle.yw_state.specs.Map.{Map}
 use Rattle.yw_state.specs.NewRule.{are_fit, most_primitives}
 use Rattle.yw_state.specs.RuleTree.{TreeRule}

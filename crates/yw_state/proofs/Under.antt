@@ -3,9 +3,9 @@ use Rattle.std.specs.Prelude.{◌≡◌, ◌≤◌, ℕ, ◌+◌, ◌==◌, Bool
 use Rattle.std.specs.List.{list_all}
 use Rattle.std.proofs.Common.{sym, ◌∙◌, ap, arith}
 use Rattle.std.proofs.lemmas.Bool.{and_from, and_parts, eq-eqb, eqb-true, false_from_ne_true, not-true, not_from_false}
-use Rattle.yw_base.specs.Identity.{is_identity, under}
+use Rattle.yw_base.specs.Identity.{is_identity, under, case_number, parent}
 use Rattle.yw_state.proofs.MapLemmas.{never}
-use Rattle.yw_state.specs.Identity.{Ident, case_ident, case_number, parent}
+use Rattle.yw_state.specs.Identity.{Ident, case_ident}
 
 pub shorter : (k : Ident) → 1 ≤ length k → length k ≡ length (parent k) + 1
 shorter [] some = absurd (omega arith)

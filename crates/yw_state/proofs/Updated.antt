@@ -6,7 +6,8 @@ use Rattle.yw_state.proofs.ChangeWell.{changed_or_same, passed_before}
 use Rattle.yw_state.proofs.ItemsAlike.{composite_alike}
 use Rattle.yw_state.proofs.MapLemmas.{by_name, by_option, get-update_same, never, update_stands}
 use Rattle.yw_state.specs.After.{change}
-use Rattle.yw_state.specs.Identity.{Ident, parent}
+use Rattle.yw_state.specs.Identity.{Ident}
+use Rattle.yw_base.specs.Identity.{parent}
 use Rattle.yw_state.specs.Judged.{has_rule}
 use Rattle.yw_state.specs.Map.{get}
 use Rattle.yw_state.specs.Options.{is_some_and}

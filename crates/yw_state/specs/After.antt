@@ -10,7 +10,8 @@ use Rattle.yw_spec.specs.declared.spec.Spec.{Spec}
 use Rattle.yw_spec.specs.declared.task.Task.{Task}
 use Rattle.yw_state.specs.Allowed.{exit_values, place_numbers}
 use Rattle.yw_state.specs.ByName.{Valuation, first_values, given_named}
-use Rattle.yw_state.specs.Identity.{Ident, case_ident, child, is_case_ident}
+use Rattle.yw_state.specs.Identity.{Ident, case_ident, is_case_ident}
+use Rattle.yw_base.specs.Identity.{child}
 use Rattle.yw_state.specs.Judged.{case_place, conclusion_at, has_rules, place_key, rules_at, task_place}
 use Rattle.yw_state.specs.Map.{insert, update}
 use Rattle.yw_state.specs.Nets.{child_net, is_among, is_atomic}

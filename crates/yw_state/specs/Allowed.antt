@@ -6,7 +6,7 @@ use Rattle.std.specs.Cmp.Lexicographic.{pointwise}
 use Rattle.std.specs.List.{list_all}
 use Rattle.std.specs.Str.{bytes_eq}
 use Rattle.yw_base.specs.Values.{may_hold}
-use Rattle.yw_base.specs.Identity.{number_end}
+use Rattle.yw_base.specs.Identity.{number_end, case_number, parent}
 use Rattle.yw_base.specs.Spelling.{are_distinct}
 use Rattle.yw_base.specs.declared.value.Value.{Value}
 use Rattle.yw_spec.specs.declared.spec.Net.{Net}
@@ -16,7 +16,7 @@ use Rattle.yw_spec.specs.declared.spec.Var.{Var}
 use Rattle.yw_spec.specs.declared.task.Many.{Many}
 use Rattle.yw_spec.specs.declared.task.Param.{Param}
 use Rattle.yw_spec.specs.declared.task.Task.{Task}
-use Rattle.yw_state.specs.Identity.{Ident, case_ident, case_number, parent}
+use Rattle.yw_state.specs.Identity.{Ident, case_ident}
 use Rattle.yw_state.specs.Joins.{NoWait, at_output, joins}
 use Rattle.yw_state.specs.Judged.{conclusion_at, is_select, is_tree_place, judged, rules_at}
 use Rattle.yw_state.specs.Map.{has_key}

@@ -6,7 +6,8 @@ use Rattle.yw_base.specs.declared.value.Value.{Value}
 use Rattle.yw_spec.specs.Net.{place_text}
 use Rattle.yw_spec.specs.declared.spec.Var.{Var}
 use Rattle.yw_state.specs.Broken.{Check, test, fact, test_at, fact_at, fault, First, enter_checks, start_checks, complete_checks}
-use Rattle.yw_state.specs.Identity.{Ident, case_number}
+use Rattle.yw_state.specs.Identity.{Ident}
+use Rattle.yw_base.specs.Identity.{case_number}
 use Rattle.yw_state.specs.Map.{lexical, entries, get, keys}
 use Rattle.yw_state.specs.State.{State, Site, NetAt, ItemAt, RunPart, item_at, net_at}
 use Rattle.yw_state.specs.declared.answer.DueRow.{DueRow}

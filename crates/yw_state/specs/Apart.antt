@@ -1,7 +1,8 @@
 -- States that are alike: in all but one case, or in all cases. That cases leave each other alone is the paper's; that it is said by
 -- what stands under their numbers is our own.
 use Rattle.std.specs.Prelude.{◌≡◌, ◌≢◌, ℕ}
-use Rattle.yw_state.specs.Identity.{Ident, case_number}
+use Rattle.yw_state.specs.Identity.{Ident}
+use Rattle.yw_base.specs.Identity.{case_number}
 use Rattle.yw_state.specs.Map.{get}
 use Rattle.yw_state.specs.State.{State}
 

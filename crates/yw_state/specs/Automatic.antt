@@ -3,7 +3,7 @@
 use Rattle.std.specs.Prelude.{◌≡◌, ℕ, Bool, true, false, not, List, [], ◌∷◌, Option, Some, None, IsTrue}
 use Rattle.yw_state.specs.Allowed.{Allowed}
 use Rattle.yw_state.specs.Events.{after}
-use Rattle.yw_state.specs.Identity.{case_number}
+use Rattle.yw_base.specs.Identity.{case_number}
 use Rattle.yw_state.specs.Judged.{is_manual}
 use Rattle.yw_state.specs.Options.{is_some_and}
 use Rattle.yw_state.specs.State.{State, task_at}

@@ -4,7 +4,7 @@ use Rattle.std.specs.Prelude.{◌≡◌, ◌⊎◌, ℕ, ◌+◌, ◌&&◌, ◌|
 use Rattle.std.specs.List.{list_any}
 use Rattle.std.specs.Option.{option_map_or}
 use Rattle.std.specs.Str.{bytes_eq}
-use Rattle.yw_base.specs.Identity.{number_end}
+use Rattle.yw_base.specs.Identity.{number_end, case_number, parent}
 use Rattle.yw_base.specs.declared.value.Value.{Value}
 use Rattle.yw_expr.specs.Meaning.{val}
 use Rattle.yw_spec.specs.declared.spec.Net.{Net}
@@ -15,7 +15,7 @@ use Rattle.yw_spec.specs.declared.task.Param.{Param}
 use Rattle.yw_spec.specs.declared.task.Task.{Task}
 use Rattle.yw_state.specs.Automatic.{Comes}
 use Rattle.yw_state.specs.Given.{element_value, made_values, misfit, unwanted}
-use Rattle.yw_state.specs.Identity.{Ident, case_number, is_case_ident, parent}
+use Rattle.yw_state.specs.Identity.{Ident, is_case_ident}
 use Rattle.yw_state.specs.Joins.{Waits, has_tokens}
 use Rattle.yw_state.specs.Judged.{has_rule, is_manual, is_tree_place, judged, rules_at}
 use Rattle.yw_state.specs.Map.{get, has_key}

@@ -5,7 +5,8 @@ use Rattle.yw_spec.specs.declared.spec.Spec.{Spec}
 use Rattle.yw_state.specs.After.{change, completed, end_case, make_select_due, new_net, stands, where_some, where_spec, with_item, with_run, with_sites}
 use Rattle.yw_state.specs.Allowed.{depth_end}
 use Rattle.yw_state.specs.ByName.{first_values, made_of_given, source_at}
-use Rattle.yw_state.specs.Identity.{Ident, case_ident, case_number, parent}
+use Rattle.yw_state.specs.Identity.{Ident, case_ident}
+use Rattle.yw_base.specs.Identity.{case_number, parent}
 use Rattle.yw_state.specs.Map.{remove}
 use Rattle.yw_state.specs.Options.{is_some_and}
 use Rattle.yw_state.specs.State.{State, ItemPart, ItemAt, RunPart, bare, bare_but, drop, item_at, no_checks, run_part}

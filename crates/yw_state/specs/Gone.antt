@@ -2,11 +2,11 @@
 -- takes the net below it is the paper's; what the primitives of an exlet remove is after the thesis. The list of it is our own.
 use Rattle.std.specs.Prelude.{ℕ, ◌&&◌, Bool, false, not, List, ◌∷◌, Option, Some, None, is_some, if◌then◌else◌}
 use Rattle.std.specs.List.{list_any}
-use Rattle.yw_base.specs.Identity.{under}
+use Rattle.yw_base.specs.Identity.{under, parent}
 use Rattle.yw_spec.specs.declared.spec.Place.{Place}
 use Rattle.yw_state.specs.Allowed.{place_numbers}
 use Rattle.yw_state.specs.Exlets.{case_above}
-use Rattle.yw_state.specs.Identity.{Ident, same, strictly_under, case_ident, parent}
+use Rattle.yw_state.specs.Identity.{Ident, same, strictly_under, case_ident}
 use Rattle.yw_state.specs.Nets.{is_among}
 use Rattle.yw_state.specs.Options.{is_some_and}
 use Rattle.yw_state.specs.State.{State, TaskAt, item_at, items_of, task_at}

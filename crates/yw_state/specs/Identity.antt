@@ -14,27 +14,9 @@ same = bytes_eq
 abbrev pub strictly_under : Ident → Ident → Bool
 strictly_under j i = under j i && not (same j i)
 
--- i with this number behind
-abbrev pub child : Ident → ℕ → Ident
-child i n = i ++ n ∷ []
-
 -- j is i with one number behind
 abbrev pub is_child : Ident → Ident → Bool
 is_child j i = under j i && length j == length i + 1
-
-abbrev but_last : ℕ → Ident → Ident
-but_last x [] = []
-but_last x (y ∷ ys) = x ∷ but_last y ys
-
--- without the last number
-abbrev pub parent : Ident → Ident
-parent [] = []
-parent (x ∷ xs) = but_last x xs
-
--- the number of the case in which it lies
-abbrev pub case_number : Ident → ℕ
-case_number [] = 0
-case_number (n ∷ j) = n
 
 abbrev pub case_ident : ℕ → Ident
 case_ident n = n ∷ []

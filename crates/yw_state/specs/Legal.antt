@@ -8,7 +8,7 @@ use Rattle.yw_state.specs.Automatic.{ComeAll, IsQuiet, after_each, case_of}
 use Rattle.yw_state.specs.Broken.{Breaks, entry_count}
 use Rattle.yw_state.specs.Events.{Leads}
 use Rattle.yw_state.specs.Given.{element_value, launch_values, made_values}
-use Rattle.yw_state.specs.Identity.{case_number}
+use Rattle.yw_base.specs.Identity.{case_number}
 use Rattle.yw_state.specs.Judged.{judged, rules_at}
 use Rattle.yw_state.specs.State.{State, item_at, task_at, top_called}
 use Rattle.yw_state.specs.Texts.{Reader}

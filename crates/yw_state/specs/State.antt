@@ -3,11 +3,11 @@
 -- the thesis's state of exlets; that both stand in one map under identities is our own.
 use Rattle.std.specs.Prelude.{ℕ, ◌==◌, ◌&&◌, ◌||◌, Bool, false, not, List, [], ◌∷◌, Option, Some, None, is_some, option_map, option_and_then, unwrap_or, slice_get, if◌then◌else◌}
 use Rattle.std.specs.List.{list_any, filter_map}
-use Rattle.yw_base.specs.Identity.{under}
+use Rattle.yw_base.specs.Identity.{under, parent}
 use Rattle.yw_spec.specs.declared.spec.Net.{Net}
 use Rattle.yw_spec.specs.declared.spec.Spec.{Spec}
 use Rattle.yw_spec.specs.declared.task.Task.{Task}
-use Rattle.yw_state.specs.Identity.{Ident, same, strictly_under, is_child, parent, is_case_ident}
+use Rattle.yw_state.specs.Identity.{Ident, same, strictly_under, is_child, is_case_ident}
 use Rattle.yw_state.specs.Map.{Map, lexical, lexical_each, empty, entries, get, of_entries, update, retain}
 use Rattle.std.specs.Ordering.{nat_cmp}
 use Rattle.yw_state.specs.Nets.{task_number, top_net}

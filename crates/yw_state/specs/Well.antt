@@ -6,13 +6,13 @@ use Rattle.std.specs.List.{list_all}
 use Rattle.std.specs.Option.{option_map_or}
 use Rattle.std.specs.Str.{bytes_eq}
 use Rattle.yw_base.specs.Values.{may_hold}
-use Rattle.yw_base.specs.Identity.{is_identity, number_end}
+use Rattle.yw_base.specs.Identity.{is_identity, number_end, case_number, child, parent}
 use Rattle.yw_spec.specs.declared.spec.Spec.{Spec}
 use Rattle.yw_spec.specs.declared.spec.Var.{Var}
 use Rattle.yw_spec.specs.declared.task.Many.{Many}
 use Rattle.yw_spec.specs.declared.task.Task.{Task}
 use Rattle.yw_state.specs.Allowed.{are_roles, most_tokens}
-use Rattle.yw_state.specs.Identity.{Ident, case_number, child, is_case_ident, parent}
+use Rattle.yw_state.specs.Identity.{Ident, is_case_ident}
 use Rattle.yw_state.specs.Judged.{has_rule, is_tree_place, place_key}
 use Rattle.yw_state.specs.Map.{get}
 use Rattle.yw_state.specs.Nets.{child_net, is_atomic}

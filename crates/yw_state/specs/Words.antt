@@ -1,8 +1,8 @@
 -- The words in which the state is spoken of. Active is the paper's: a task is active in a net while items of it stand there. Held,
 -- busy, urgent and clear say when an exlet holds work back; they are our own.
 use Rattle.std.specs.Prelude.{ℕ, ◌==◌, ◌&&◌, ◌||◌, Bool, true, false, not, length, Option, is_some, nat_lt}
-use Rattle.yw_base.specs.Identity.{under}
-use Rattle.yw_state.specs.Identity.{Ident, strictly_under, is_child, case_number}
+use Rattle.yw_base.specs.Identity.{under, case_number}
+use Rattle.yw_state.specs.Identity.{Ident, strictly_under, is_child}
 use Rattle.yw_state.specs.Options.{is_some_and}
 use Rattle.yw_state.specs.State.{State, ItemPart, RunPart, is_suspended, items_of, some_site}
 use Rattle.yw_state.specs.declared.part.Checks.{Checks}

@@ -4,7 +4,7 @@ use Rattle.std.proofs.lemmas.Bool.{eq-eqb}
 use Rattle.std.specs.List.{list_all}
 use Rattle.std.specs.Prelude.{is_some, option_and_then, option_map, slice_get, if◌then◌else◌}
 use Rattle.yw_asked.proofs.Fitting.{made_there}
-use Rattle.yw_base.specs.Identity.{is_identity}
+use Rattle.yw_base.specs.Identity.{is_identity, parent}
 use Rattle.yw_expr.specs.Meaning.{val}
 use Rattle.yw_nest.proofs.Known.{no_case}
 use Rattle.yw_nest.proofs.Outer.{parent_identity}
@@ -18,7 +18,7 @@ use Rattle.yw_state.specs.After.{due_where, with_sites}
 use Rattle.yw_state.specs.Broken.{First}
 use Rattle.yw_state.specs.Events.{after}
 use Rattle.yw_state.specs.Given.{made_values, misfit}
-use Rattle.yw_state.specs.Identity.{Ident, parent}
+use Rattle.yw_state.specs.Identity.{Ident}
 use Rattle.yw_state.specs.Map.{entries, get}
 use Rattle.yw_state.specs.Passing.{is_defined, made_rows_with, row_fits, set_row}
 use Rattle.yw_state.specs.State.{ItemAt, ItemPart, NetAt, NetPart, State, TaskAt, if_of_task, item_at, item_of_task, item_part, items_of, net_at, task_in}
@@ -40,7 +40,8 @@ use Rattle.yw_task.proofs.EnterAsk.{its_items}
 use Rattle.yw_task.proofs.ItemLaw.{its_site, known_part}
 use Rattle.yw_task.specs.Completes.{complete_rest, completion_fault, made_of, speaks_of}
 use Rattle.yw_task.specs.Standing.{ItemStands}
-use Rattle.yw_tree.proofs.Parents.{identity_long, parent_child}
+use Rattle.yw_tree.proofs.Parents.{parent_child}
+use Rattle.yw_base.proofs.Parents.{identity_long}
 use Rattle.yw_tree.specs.Entries.{item_part_of, item_site}
 use Rattle.yw_tree.specs.Forest.{IsForest, item_of, item_replaced, sites_of}
 use Rattle.yw_tree.specs.Shows.{items_in}

@@ -2,7 +2,7 @@
 use Rattle.std.proofs.Common.{Bool, List, Some, ap, cond, subst, sym, true, ℕ, ◌∙◌, ◌≡◌}
 use Rattle.std.proofs.lemmas.Bool.{and_parts}
 use Rattle.std.specs.Prelude.{slice_get, ◌&&◌}
-use Rattle.yw_base.specs.Identity.{is_identity}
+use Rattle.yw_base.specs.Identity.{is_identity, case_number}
 use Rattle.yw_spec.specs.declared.spec.Net.{Net}
 use Rattle.yw_spec.specs.declared.spec.Place.{Place}
 use Rattle.yw_spec.specs.declared.task.Task.{Task}
@@ -10,7 +10,7 @@ use Rattle.yw_state.proofs.Tests.{by_test, some_same}
 use Rattle.yw_state.specs.After.{make_due, post_at_output, with_sites}
 use Rattle.yw_state.specs.Allowed.{Allowed, allows}
 use Rattle.yw_state.specs.Events.{after}
-use Rattle.yw_state.specs.Identity.{Ident, case_number, is_case_ident}
+use Rattle.yw_state.specs.Identity.{Ident, is_case_ident}
 use Rattle.yw_state.specs.Judged.{case_place, has_rules}
 use Rattle.yw_state.specs.Map.{update}
 use Rattle.yw_state.specs.Nets.{is_among}

@@ -5,7 +5,7 @@ use Rattle.std.specs.FinMap.Entries.{find}
 use Rattle.std.specs.List.{list_all}
 use Rattle.std.specs.Prelude.{IsSome, Vec, is_some, nat_lt, option_and_then, option_map, slice_get}
 use Rattle.std.specs.declared.alloc.Global.{Global}
-use Rattle.yw_base.specs.Identity.{is_identity, most_numbers}
+use Rattle.yw_base.specs.Identity.{is_identity, most_numbers, child, parent}
 use Rattle.yw_nest.proofs.FromState.{item_stands}
 use Rattle.yw_nest.proofs.NetFound.{item_there, net_there}
 use Rattle.yw_nest.specs.Stands.{StandsWell}
@@ -18,7 +18,7 @@ use Rattle.yw_spec.specs.declared.task.Task.{Task}
 use Rattle.yw_state.proofs.Standing.{at_item, at_net}
 use Rattle.yw_state.proofs.Tests.{by_option, map_some, then_some, there, there_and}
 use Rattle.yw_state.specs.Allowed.{Allowed, allows}
-use Rattle.yw_state.specs.Identity.{Ident, child, parent}
+use Rattle.yw_state.specs.Identity.{Ident}
 use Rattle.yw_state.specs.Map.{get, lexical}
 use Rattle.yw_state.specs.State.{ItemAt, ItemPart, NetAt, NetPart, Sites, State, TaskAt, item_at, item_part, items_of, net_at, net_of, net_part, task_in}
 use Rattle.yw_state.specs.Texts.{Reader, Said}
@@ -31,7 +31,7 @@ use Rattle.yw_task.specs.Due.{AreDue}
 use Rattle.yw_task.specs.Items.{NothingFrom}
 use Rattle.yw_tree.proofs.Keys.{ids_are, kids, kids-append}
 use Rattle.yw_tree.proofs.NetAt.{net_here}
-use Rattle.yw_tree.proofs.Parents.{identity_long}
+use Rattle.yw_base.proofs.Parents.{identity_long}
 use Rattle.yw_tree.proofs.Removed.{within}
 use Rattle.yw_tree.proofs.Stand.{all_known, each_with}
 use Rattle.yw_tree.specs.Boxed.{ids}

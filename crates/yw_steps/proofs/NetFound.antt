@@ -9,7 +9,7 @@ use Rattle.yw_state.specs.Identity.{Ident}
 use Rattle.yw_state.specs.State.{NetAt, NetPart, State, net_at, net_of, net_part}
 use Rattle.yw_steps.specs.Stands.{NetIs}
 use Rattle.yw_task.specs.Standing.{NetStands}
-use Rattle.yw_tree.proofs.Parents.{identity_long}
+use Rattle.yw_base.proofs.Parents.{identity_long}
 use Rattle.yw_tree.specs.Entries.{net_part as part_of}
 use Rattle.yw_tree.specs.Forest.{IsForest, sites_of}
 use Rattle.yw_tree.specs.Places.{net_at as net_found}

@@ -12,7 +12,8 @@ use Rattle.yw_spec.specs.declared.task.Param.{Param}
 use Rattle.yw_spec.specs.declared.task.Task.{Task}
 use Rattle.yw_state.specs.Broken.{First}
 use Rattle.yw_state.specs.Given.{made_values, misfit}
-use Rattle.yw_state.specs.Identity.{Ident, parent, same}
+use Rattle.yw_state.specs.Identity.{Ident, same}
+use Rattle.yw_base.specs.Identity.{parent}
 use Rattle.yw_state.specs.Judged.{has_rules, task_place}
 use Rattle.yw_state.specs.Passing.{int_in, text_in}
 use Rattle.yw_state.specs.State.{ItemAt, State, item_at, items_of}

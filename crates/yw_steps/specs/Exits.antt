@@ -6,7 +6,8 @@ use Rattle.yw_spec.specs.declared.spec.Place.{Place}
 use Rattle.yw_spec.specs.declared.task.Task.{Task}
 use Rattle.yw_state.specs.After.{due_where}
 use Rattle.yw_state.specs.Allowed.{Allowed, place_numbers}
-use Rattle.yw_state.specs.Identity.{Ident, case_number, is_case_ident}
+use Rattle.yw_state.specs.Identity.{Ident, is_case_ident}
+use Rattle.yw_base.specs.Identity.{case_number}
 use Rattle.yw_state.specs.Judged.{case_place, has_rules}
 use Rattle.yw_state.specs.Nets.{is_among}
 use Rattle.yw_state.specs.State.{State}

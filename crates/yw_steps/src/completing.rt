@@ -5,7 +5,7 @@ ghost use Rattle.yw_expr.specs.Meaning.{val};
 ghost use Rattle.yw_spec.specs.declared.spec.Net.{Net};
 ghost use Rattle.yw_spec.specs.declared.task.Assign.{Assign};
 ghost use Rattle.yw_steps.specs.Completes.{CompleteBreaks, Completes, Finds, defined_once};
-ghost use Rattle.yw_state.specs.Identity.{parent};
+ghost use Rattle.yw_base.specs.Identity.{parent};
 ghost use Rattle.yw_task.specs.Completes.{made_of};
 ghost use Rattle.yw_tree.specs.Forest.{IsForest, item_of};
 ghost use Rattle.yw_tree.specs.Places.{net_at};

@@ -1,8 +1,8 @@
 // A task exits.
 ghost use Rattle.std.specs.Prelude.{◌≡◌, ◌<◌, ◌≤◌, ◌&&◌, IfOk, IsSome, OnErr, OnOk, length, true};
-ghost use Rattle.yw_base.specs.Identity.{is_identity};
+ghost use Rattle.yw_base.specs.Identity.{is_identity, case_number};
 ghost use Rattle.yw_state.specs.After.{due_where};
-ghost use Rattle.yw_state.specs.Identity.{case_number, is_case_ident};
+ghost use Rattle.yw_state.specs.Identity.{is_case_ident};
 ghost use Rattle.yw_state.specs.Nets.{is_among};
 ghost use Rattle.yw_state.specs.declared.tree.TreeKind.TheVariants.{Post};
 ghost use Rattle.yw_steps.specs.Exits.{Exits, NetLeaves, PutsOn, SplitsAt, case_with_post, judged};

@@ -4,7 +4,8 @@ use Rattle.std.proofs.Common.{◌∙◌, ap, arith, inl, inr}
 use Rattle.std.proofs.lemmas.Bool.{and_parts, and_from, eqb-true, or_cases}
 use Rattle.yw_state.proofs.Tests.{never, there_and}
 use Rattle.yw_state.specs.Allowed.{allows}
-use Rattle.yw_state.specs.Identity.{Ident, case_ident, case_number, is_case_ident}
+use Rattle.yw_state.specs.Identity.{Ident, case_ident, is_case_ident}
+use Rattle.yw_base.specs.Identity.{case_number}
 use Rattle.yw_state.specs.Joins.{at_output}
 use Rattle.yw_state.specs.Nets.{child_net, is_atomic, is_empty}
 use Rattle.yw_state.specs.Options.{is_some_and}

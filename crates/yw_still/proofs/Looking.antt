@@ -4,7 +4,7 @@ use Rattle.std.specs.List.{All, list_all, list_any}
 use Rattle.std.proofs.Common.{sym, ◌∙◌, ap, arith}
 use Rattle.std.proofs.lemmas.List.Elements.{All-head, All-tail}
 use Rattle.std.proofs.lemmas.Bool.{and_parts, and_from, le-leb, leb-true}
-use Rattle.yw_base.specs.Identity.{number_end}
+use Rattle.yw_base.specs.Identity.{number_end, case_number}
 use Rattle.yw_base.specs.declared.gate.Gate.{Gate}
 use Rattle.yw_base.specs.declared.gate.Gate.TheVariants.{And, Xor, Or}
 use Rattle.yw_spec.specs.Net.{Node, at_place, at_task}
@@ -13,7 +13,7 @@ use Rattle.yw_spec.specs.declared.task.Task.{Task}
 use Rattle.yw_state.proofs.Elsewhere.{children}
 use Rattle.yw_state.proofs.Tests.{there_and}
 use Rattle.yw_state.specs.Allowed.{exit_values, has_room_for, may_leave, most_tokens}
-use Rattle.yw_state.specs.Identity.{Ident, case_number, is_case_ident, is_child}
+use Rattle.yw_state.specs.Identity.{Ident, is_case_ident, is_child}
 use Rattle.yw_state.specs.Joins.{Waits, at_output, has_tokens, holds_token, marked}
 use Rattle.yw_state.specs.Judged.{is_manual}
 use Rattle.yw_state.specs.Nets.{child_net, is_among, is_atomic, is_empty}

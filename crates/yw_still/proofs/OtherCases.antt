@@ -3,7 +3,7 @@ use Rattle.std.specs.Prelude.{◌≡◌, ◌≢◌, ◌≤◌, ℕ, ◌==◌, �
 use Rattle.std.specs.List.{list_any, filter_map, cons_option}
 use Rattle.std.proofs.Common.{sym, ◌∙◌, ap, arith}
 use Rattle.std.proofs.lemmas.Bool.{eq-eqb, eqb-true, and_right, and_left}
-use Rattle.yw_base.specs.Identity.{under}
+use Rattle.yw_base.specs.Identity.{under, case_number, parent}
 use Rattle.yw_spec.specs.declared.spec.Net.{Net}
 use Rattle.yw_spec.specs.declared.spec.Spec.{Spec}
 use Rattle.yw_state.proofs.Apart.{leaves_other_cases}
@@ -16,7 +16,7 @@ use Rattle.yw_state.specs.Allowed.{Allowed}
 use Rattle.yw_state.specs.Apart.{SameElsewhere}
 use Rattle.yw_state.specs.Automatic.{case_of}
 use Rattle.yw_state.specs.Events.{after}
-use Rattle.yw_state.specs.Identity.{Ident, case_number, is_child, parent}
+use Rattle.yw_state.specs.Identity.{Ident, is_child}
 use Rattle.yw_state.specs.Judged.{place_key, task_place}
 use Rattle.yw_state.specs.Map.{Map, entries, get, lexical, retain}
 use Rattle.yw_state.specs.Nets.{is_atomic}
@@ -101,13 +101,13 @@ module _ (m : ℕ) (some : m ≢ 0) (s t : State) (same : SameElsewhere m s t) w
     not_above : (k : Ident) → case_number k ≡ m → under j k ≡ false
     not_above k here = not_under m j k some here out
 
-    busy_same : busy t j ≡ busy s j
+    pub busy_same : busy t j ≡ busy s j
     busy_same = site_same (λ r x. is_some x.run && is_child r j) (λ k x here. and_right (is_some x.run) (is_child k j) (not_child k here))
 
     shielded_same : (i : Ident) → shielded t j i ≡ shielded s j i
     shielded_same i = site_same _ (λ k x here. and_right _ (under j k) (not_above k here))
 
-    held_same : held t j ≡ held s j
+    pub held_same : held t j ≡ held s j
     held_same =
         any_alike (λ e. e.1.suspended && under j e.0 && not (shielded t j e.0)) (λ e. e.1.suspended && under j e.0 && not (shielded s j e.0))
         (λ e. ap (λ b. e.1.suspended && under j e.0 && not b) (shielded_same e.0)) (entries t.sites)
@@ -134,7 +134,7 @@ module _ (m : ℕ) (some : m ≢ 0) (s t : State) (same : SameElsewhere m s t) w
 
   -- ---- what stands
 
-  net_same : (i : Ident) → case_number i ≢ m → net_at t i ≡ net_at s i
+  pub net_same : (i : Ident) → case_number i ≢ m → net_at t i ≡ net_at s i
   net_same i out = ap (λ specs. net_in specs (net_part t i)) same.specs ∙ ap (λ o. net_in s.specs (option_and_then (λ (x : Site). x.net) o)) (same.sites i out)
 
   parent_out : (i : Ident) → case_number i ≢ m → case_number (parent i) ≢ m
@@ -142,7 +142,7 @@ module _ (m : ℕ) (some : m ≢ 0) (s t : State) (same : SameElsewhere m s t) w
   parent_out (x ∷ []) out e = some (sym e)
   parent_out (x ∷ y ∷ r) out e = out e
 
-  item_same : (j : Ident) → case_number j ≢ m → item_at t j ≡ item_at s j
+  pub item_same : (j : Ident) → case_number j ≢ m → item_at t j ≡ item_at s j
   item_same j out =
       ap (λ o. item_in o (net_at t (parent j))) (ap (option_and_then (λ (x : Site). x.item)) (same.sites j out)) ∙ ap (item_in (item_part s j)) (net_same (parent j) (parent_out j out))
 
@@ -155,7 +155,7 @@ module _ (m : ℕ) (some : m ≢ 0) (s t : State) (same : SameElsewhere m s t) w
         ap (λ b. is_completed x.stage && not b && not (is_suspended t i)) (busy_same i some_there elsewhere)
         ∙ ap (λ b. is_completed x.stage && not (busy s i) && not b) (suspended_same i some_there elsewhere)
 
-    items_same : (k : ℕ) → items_of t j k ≡ items_of s j k
+    pub items_same : (k : ℕ) → items_of t j k ≡ items_of s j k
     items_same k =
         mapped_kept (λ e. apart e.0) (λ e. item_of_task j k e.0 e.1) none (entries t.sites)
         ∙ ap (filter_map (λ e. item_of_task j k e.0 e.1)) kept_same

@@ -4,13 +4,13 @@ use Rattle.std.specs.List.{list_all}
 use Rattle.std.specs.Cmp.Lexicographic.{pointwise}
 use Rattle.std.proofs.Common.{sym, ◌∙◌, ap}
 use Rattle.std.proofs.lemmas.Bool.{and_parts, and_from, eqb-true, or_left, or_right}
-use Rattle.yw_base.specs.Identity.{number_end}
+use Rattle.yw_base.specs.Identity.{number_end, case_number}
 use Rattle.yw_spec.specs.declared.spec.Place.{Place}
 use Rattle.yw_state.proofs.Standing.{Standing, at_item, at_net, at_run_part, at_task}
 use Rattle.yw_state.proofs.Tests.{never, same_numbers, some_same, then_some, there_and}
 use Rattle.yw_state.specs.Allowed.{allows, exit_values, has_room_for, may_exit, may_leave, place_numbers}
 use Rattle.yw_state.specs.Automatic.{IsQuiet}
-use Rattle.yw_state.specs.Identity.{Ident, case_ident, case_number}
+use Rattle.yw_state.specs.Identity.{Ident, case_ident}
 use Rattle.yw_state.specs.Joins.{NoWait, at_output, joins}
 use Rattle.yw_state.specs.Judged.{is_manual}
 use Rattle.yw_state.specs.Map.{get}

@@ -6,14 +6,14 @@ use Rattle.std.proofs.lemmas.Bool.{and_parts, and_from, eq-eqb, eqb-false, eqb-t
 use Rattle.std.proofs.lemmas.List.Elements.{All-get_or}
 use Rattle.std.proofs.lemmas.Option.{get_or_from_slice_get, slice_get_within}
 use Rattle.std.proofs.lemmas.Slice.Eq.{bytes_eq-Decides}
-use Rattle.yw_base.specs.Identity.{number_end}
+use Rattle.yw_base.specs.Identity.{number_end, case_number}
 use Rattle.yw_state.proofs.Entries.{find-entry, passing}
 use Rattle.yw_state.proofs.MapLemmas.{by_name}
 use Rattle.yw_state.proofs.RuleNumbers.{rule_concluded}
 use Rattle.yw_state.proofs.Tests.{by_option, by_test, map_some, never, nowhere, then_some, there_and}
 use Rattle.yw_state.proofs.TreePlaces.{one_place}
 use Rattle.yw_state.specs.Allowed.{allows, begins_exlet, cannot_begin, comes_next, depth_end, is_first, is_next, is_too_deep, is_worklet, none_is_left, same_primitive}
-use Rattle.yw_state.specs.Identity.{Ident, case_number, is_case_ident}
+use Rattle.yw_state.specs.Identity.{Ident, is_case_ident}
 use Rattle.yw_state.specs.Judged.{Question, case_place, conclusion_at, is_select, item_values, judged, place_key, question, rules_at, task_place}
 use Rattle.yw_state.specs.Map.{entries, get}
 use Rattle.yw_state.specs.NewRule.{may_conclude}

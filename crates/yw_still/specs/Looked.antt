@@ -1,7 +1,8 @@
 -- What is looked at to see whether an identity is still. Our own.
 use Rattle.std.specs.Prelude.{◌≡◌, ◌≤◌, ℕ, Option, option_map, true}
 use Rattle.yw_spec.specs.declared.task.Task.{Task}
-use Rattle.yw_state.specs.Identity.{Ident, case_number, is_child}
+use Rattle.yw_state.specs.Identity.{Ident, is_child}
+use Rattle.yw_base.specs.Identity.{case_number}
 use Rattle.yw_state.specs.Judged.{is_manual}
 use Rattle.yw_state.specs.State.{State, ItemAt, ItemPart, TaskAt, due_at, item_at, items_of, net_at, net_part, run_part}
 use Rattle.yw_state.specs.Words.{busy, clear, done, urgent}

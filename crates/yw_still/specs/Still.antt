@@ -3,10 +3,10 @@
 use Rattle.std.specs.Prelude.{◌≡◌, ℕ, ◌+◌, ◌&&◌, ◌||◌, Bool, true, false, not, List, length, Option, Some, is_some, option_and_then, nat_le, IsTrue}
 use Rattle.std.specs.List.{list_all}
 use Rattle.yw_base.specs.Gates.{is_or}
-use Rattle.yw_base.specs.Identity.{number_end}
+use Rattle.yw_base.specs.Identity.{number_end, case_number}
 use Rattle.yw_state.specs.Allowed.{exit_values, has_room_for, may_leave}
 use Rattle.yw_state.specs.Automatic.{Comes}
-use Rattle.yw_state.specs.Identity.{Ident, case_number, is_case_ident}
+use Rattle.yw_state.specs.Identity.{Ident, is_case_ident}
 use Rattle.yw_state.specs.Joins.{Waits, at_output, has_tokens}
 use Rattle.yw_state.specs.Judged.{is_manual}
 use Rattle.yw_state.specs.Nets.{child_net, is_atomic, is_empty}

@@ -1,6 +1,7 @@
 // A test that passes at an identity or a task gives an event that comes of itself.
 ghost use Rattle.std.specs.Prelude.{◌≡◌, ℕ, Some, IsTrue};
-ghost use Rattle.yw_state.specs.Identity.{Ident, case_number};
+ghost use Rattle.yw_state.specs.Identity.{Ident};
+ghost use Rattle.yw_base.specs.Identity.{case_number};
 ghost use Rattle.yw_state.specs.Joins.{NoWait};
 ghost use Rattle.yw_state.specs.State.{State, TaskAt};
 ghost use Rattle.yw_state.specs.Well.{IsWell};

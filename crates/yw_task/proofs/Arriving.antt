@@ -10,7 +10,8 @@ use Rattle.yw_sites.proofs.Each.{Each-append}
 use Rattle.yw_sites.specs.Idents.{Each}
 use Rattle.yw_state.proofs.MapLemmas.{by_number}
 use Rattle.yw_state.proofs.Tests.{nowhere}
-use Rattle.yw_state.specs.Identity.{Ident, child}
+use Rattle.yw_state.specs.Identity.{Ident}
+use Rattle.yw_base.specs.Identity.{child}
 use Rattle.yw_state.specs.Map.{lexical}
 use Rattle.yw_state.specs.Values.{Row}
 use Rattle.yw_state.specs.declared.part.Checks.{Checks}

@@ -10,7 +10,8 @@ use Rattle.yw_state.specs.After.{change, complete, completed, due_where, where_s
 use Rattle.yw_state.specs.Broken.{First, placed, test, test_at}
 use Rattle.yw_state.specs.Events.{after}
 use Rattle.yw_state.specs.Given.{made_values, misfit}
-use Rattle.yw_state.specs.Identity.{Ident, parent}
+use Rattle.yw_state.specs.Identity.{Ident}
+use Rattle.yw_base.specs.Identity.{parent}
 use Rattle.yw_state.specs.Options.{is_some_and}
 use Rattle.yw_state.specs.Passing.{made_rows_with, set_row}
 use Rattle.yw_state.specs.State.{ItemAt, ItemPart, NetAt, Site, State, item_at, item_part, items_of, net_at, task_in}

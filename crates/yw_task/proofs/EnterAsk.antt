@@ -23,7 +23,7 @@ use Rattle.yw_task.specs.Asked.{AsksEnter, OrWaitsAs, is_active}
 use Rattle.yw_task.specs.Standing.{NetStands}
 use Rattle.yw_tree.proofs.NetAt.{net_here}
 use Rattle.yw_tree.proofs.NetHere.{NetHere}
-use Rattle.yw_tree.proofs.Parents.{identity_long}
+use Rattle.yw_base.proofs.Parents.{identity_long}
 use Rattle.yw_tree.proofs.Rows.{items_are, row_at, row_parts}
 use Rattle.yw_tree.specs.Boxed.{ids}
 use Rattle.yw_tree.specs.Entries.{net_part as part_of}

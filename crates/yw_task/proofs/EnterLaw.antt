@@ -3,7 +3,7 @@ use Rattle.std.proofs.Common.{List, Option, Some, [], ap, arith, false, length, 
 use Rattle.std.specs.Option.{option_map_or}
 use Rattle.std.specs.Prelude.{Vec, fold, nat_lt, option_map, slice_get, unwrap_or}
 use Rattle.std.specs.declared.alloc.Global.{Global}
-use Rattle.yw_base.specs.Identity.{under}
+use Rattle.yw_base.specs.Identity.{under, child}
 use Rattle.yw_mark.specs.Taking.{taken_places}
 use Rattle.yw_mark.specs.declared.join.Taken.{Taken}
 use Rattle.yw_sites.proofs.Prefix.{under_refl}
@@ -14,7 +14,7 @@ use Rattle.yw_state.proofs.MapLemmas.{by_name, get-update_other, get-update_same
 use Rattle.yw_state.proofs.Tests.{never, some_same}
 use Rattle.yw_state.specs.After.{enter, enter_with, one_less, where_some, with_net as with_part}
 use Rattle.yw_state.specs.Events.{after}
-use Rattle.yw_state.specs.Identity.{Ident, child}
+use Rattle.yw_state.specs.Identity.{Ident}
 use Rattle.yw_state.specs.Map.{get, update}
 use Rattle.yw_state.specs.State.{NetPart, Sites, State, TaskAt, task_at}
 use Rattle.yw_state.specs.Values.{Row}

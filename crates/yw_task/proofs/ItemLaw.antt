@@ -4,7 +4,8 @@ use Rattle.std.proofs.lemmas.Bool.{false_from_ne_true}
 use Rattle.std.specs.Prelude.{is_some, option_and_then, option_map, cond}
 use Rattle.yw_state.proofs.Tests.{map_some, nowhere, then_some}
 use Rattle.yw_state.specs.After.{change, with_sites}
-use Rattle.yw_state.specs.Identity.{Ident, case_number, is_case_ident, parent}
+use Rattle.yw_state.specs.Identity.{Ident, is_case_ident}
+use Rattle.yw_base.specs.Identity.{case_number, parent}
 use Rattle.yw_state.specs.Map.{get, update}
 use Rattle.yw_state.specs.State.{ItemAt, ItemPart, NetAt, Site, State, item_at, item_part, net_at, task_in}
 use Rattle.yw_state.specs.Words.{busy}
@@ -13,7 +14,8 @@ use Rattle.yw_tree.proofs.BusyLaw.{busy_is}
 use Rattle.yw_tree.proofs.FindLaw.{case_shown, item_shown}
 use Rattle.yw_tree.proofs.ForestLaw.{identity_in_case}
 use Rattle.yw_tree.proofs.OwnChange.{own_changed}
-use Rattle.yw_tree.proofs.Parents.{identity_long, identity_short}
+use Rattle.yw_tree.proofs.Parents.{identity_short}
+use Rattle.yw_base.proofs.Parents.{identity_long}
 use Rattle.yw_tree.specs.Cases.{case_at}
 use Rattle.yw_tree.specs.Entries.{item_part_of, item_site}
 use Rattle.yw_tree.specs.Forest.{item_of, item_of_case}

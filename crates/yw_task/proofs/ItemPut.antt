@@ -3,7 +3,8 @@ use Rattle.std.proofs.Common.{List, [], ap, arith, length, length-append, refl, 
 use Rattle.std.specs.List.{range_with_len, zip}
 use Rattle.std.specs.Prelude.{fold}
 use Rattle.yw_state.specs.After.{add_item, new_item, put, with_sites}
-use Rattle.yw_state.specs.Identity.{Ident, child}
+use Rattle.yw_state.specs.Identity.{Ident}
+use Rattle.yw_base.specs.Identity.{child}
 use Rattle.yw_state.specs.Map.{insert}
 use Rattle.yw_state.specs.State.{Site, Sites, State, TaskAt}
 use Rattle.yw_state.specs.Values.{Row}

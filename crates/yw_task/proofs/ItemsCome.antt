@@ -1,7 +1,7 @@
 -- Items come to a net in turn: what a map that shows the net then shows, and what may stand beside them.
 use Rattle.std.proofs.Common.{List, None, [], ap, arith, false, length, refl, subst, sym, ℕ, ◌++◌, ◌+◌, ◌∙◌, ◌∷◌, ◌≡◌, ◌≤◌}
 use Rattle.std.specs.Prelude.{IsTrue}
-use Rattle.yw_base.specs.Identity.{under}
+use Rattle.yw_base.specs.Identity.{under, child}
 use Rattle.yw_sites.proofs.Children.{ends_differ}
 use Rattle.yw_sites.proofs.Each.{Each-append, Each-back, Each-front}
 use Rattle.yw_sites.proofs.Prefix.{child_strictly, child_under, is_child_of}
@@ -10,7 +10,7 @@ use Rattle.yw_sites.specs.Idents.{AreChildren, Each, IsChild}
 use Rattle.yw_state.proofs.MapLemmas.{by_name, get-insert_other}
 use Rattle.yw_state.proofs.Tests.{never}
 use Rattle.yw_state.specs.After.{new_item}
-use Rattle.yw_state.specs.Identity.{Ident, child, strictly_under}
+use Rattle.yw_state.specs.Identity.{Ident, strictly_under}
 use Rattle.yw_state.specs.Map.{get, insert}
 use Rattle.yw_state.specs.State.{Site, Sites}
 use Rattle.yw_state.specs.Values.{Row}

@@ -3,7 +3,7 @@ use Rattle.std.proofs.Common.{List, [], ap, arith, false, length, refl, subst, s
 use Rattle.std.specs.FinMap.Entries.{find}
 use Rattle.std.specs.List.{range_with_len, zip}
 use Rattle.std.specs.Prelude.{fold, is_some, option_map}
-use Rattle.yw_base.specs.Identity.{under}
+use Rattle.yw_base.specs.Identity.{under, child}
 use Rattle.yw_sites.proofs.Children.{children_ends}
 use Rattle.yw_sites.proofs.Prefix.{child_strictly, is_child_of}
 use Rattle.yw_sites.specs.Entries.{Entries}
@@ -12,7 +12,7 @@ use Rattle.yw_spec.specs.declared.spec.Net.{Net}
 use Rattle.yw_spec.specs.declared.task.Task.{Task}
 use Rattle.yw_state.proofs.Tests.{never}
 use Rattle.yw_state.specs.After.{add_item, item_checks, with_net as with_part, with_next, with_sites}
-use Rattle.yw_state.specs.Identity.{Ident, child}
+use Rattle.yw_state.specs.Identity.{Ident}
 use Rattle.yw_state.specs.Map.{get, lexical}
 use Rattle.yw_state.specs.State.{Sites, State, TaskAt}
 use Rattle.yw_state.specs.Values.{Row}

@@ -9,7 +9,8 @@ use Rattle.yw_spec.specs.declared.task.Task.{Task}
 use Rattle.yw_state.specs.Broken.{Check, First, complete_checks, placed, placeless}
 use Rattle.yw_state.specs.Events.{after}
 use Rattle.yw_state.specs.Given.{made_values, misfit}
-use Rattle.yw_state.specs.Identity.{Ident, parent}
+use Rattle.yw_state.specs.Identity.{Ident}
+use Rattle.yw_base.specs.Identity.{parent}
 use Rattle.yw_state.specs.Judged.{has_rules, task_place}
 use Rattle.yw_state.specs.Passing.{made_rows_with, set_row}
 use Rattle.yw_state.specs.State.{ItemAt, State, item_at, items_of}

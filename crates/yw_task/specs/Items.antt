@@ -2,7 +2,8 @@
 use Rattle.std.specs.Prelude.{◌≡◌, ◌+◌, ◌<◌, ◌≤◌, ◌++◌, ℕ, List, [], ◌∷◌, None, fold, length, slice_get}
 use Rattle.yw_sites.specs.Idents.{Each}
 use Rattle.yw_state.specs.After.{new_item, one_less}
-use Rattle.yw_state.specs.Identity.{Ident, child}
+use Rattle.yw_state.specs.Identity.{Ident}
+use Rattle.yw_base.specs.Identity.{child}
 use Rattle.yw_state.specs.Map.{get}
 use Rattle.yw_state.specs.State.{Sites}
 use Rattle.yw_state.specs.Values.{Row}

@@ -1,9 +1,8 @@
 // Tokens go from a net, and items come to it.
 ghost use Rattle.std.specs.Prelude.{◌≡◌, ◌+◌, ◌<◌, ◌≤◌, ◌++◌, ◌∷◌, [], IfOk, None, OnOk, length, true};
-ghost use Rattle.yw_base.specs.Identity.{is_number, most_numbers, number_end};
+ghost use Rattle.yw_base.specs.Identity.{is_number, most_numbers, number_end, child};
 ghost use Rattle.yw_mark.specs.Taking.{taken_places};
 ghost use Rattle.yw_spec.specs.Net.{places_before};
-ghost use Rattle.yw_state.specs.Identity.{child};
 ghost use Rattle.yw_task.specs.Items.{AreBefore, GetsItems, IsReady, LosesTokens, PutsItem, row_of};
 ghost use Rattle.yw_task.specs.Room.{GetsListAndItems};
 ghost use Rattle.yw_tree.specs.Boxed.{IsBoxedNet};

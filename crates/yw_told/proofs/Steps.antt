@@ -5,7 +5,7 @@ use Rattle.std.proofs.Common.{sym, ◌∙◌, ap, subst}
 use Rattle.std.proofs.lemmas.Bool.{eqb-true}
 use Rattle.std.proofs.lemmas.List.{nil_from_length}
 use Rattle.std.proofs.lemmas.Slice.Eq.{bytes_eq-Decides}
-use Rattle.yw_base.specs.Identity.{dotted, is_identity}
+use Rattle.yw_base.specs.Identity.{dotted, is_identity, child}
 use Rattle.yw_base.specs.declared.gate.Gate.{Gate}
 use Rattle.yw_base.specs.declared.gate.Gate.TheVariants.{And, Xor, Or}
 use Rattle.yw_lines.specs.EventTexts.{item_idents, listed, step_text, words_text}
@@ -19,7 +19,7 @@ use Rattle.yw_state.proofs.Tests.{and_left, and_right, by_option, never, some_sa
 use Rattle.yw_state.specs.Allowed.{allows, exit_values, place_numbers}
 use Rattle.yw_state.specs.Automatic.{Comes}
 use Rattle.yw_state.specs.Broken.{entry_count}
-use Rattle.yw_state.specs.Identity.{Ident, child}
+use Rattle.yw_state.specs.Identity.{Ident}
 use Rattle.yw_state.specs.Joins.{joins, marked}
 use Rattle.yw_state.specs.Judged.{conclusion_at, judged}
 use Rattle.yw_state.specs.Map.{get}

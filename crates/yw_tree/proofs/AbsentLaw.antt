@@ -4,7 +4,7 @@ use Rattle.std.specs.FinMap.Entries.{find, is_sorted}
 use Rattle.std.specs.Ordering.{eq_by_cmp, nat_cmp}
 use Rattle.std.specs.Prelude.{Box, T, option_and_then, option_map}
 use Rattle.std.specs.declared.alloc.Global.{Global}
-use Rattle.yw_base.specs.Identity.{under}
+use Rattle.yw_base.specs.Identity.{under, case_number}
 use Rattle.yw_sites.proofs.Children.{children_front, others_off}
 use Rattle.yw_sites.proofs.Each.{Each-back, Each-front, each_mid, each_rest}
 use Rattle.yw_sites.proofs.Prefix.{under_refl}
@@ -13,7 +13,7 @@ use Rattle.yw_sites.specs.Idents.{AreChildren, Each, IsChild}
 use Rattle.yw_state.proofs.MapEntries.{get-of_entries}
 use Rattle.yw_state.proofs.MapLemmas.{by_name}
 use Rattle.yw_state.proofs.Tests.{by_option, by_test, never}
-use Rattle.yw_state.specs.Identity.{Ident, case_ident, case_number, same}
+use Rattle.yw_state.specs.Identity.{Ident, case_ident, same}
 use Rattle.yw_state.specs.Map.{get, lexical}
 use Rattle.yw_state.specs.State.{Site}
 use Rattle.yw_tree.proofs.Absent.{absent, in_run, item_there, none_net, none_run, not_tied}

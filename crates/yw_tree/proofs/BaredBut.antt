@@ -4,7 +4,8 @@ use Rattle.std.specs.Prelude.{Box, IsSome, IsSomeAnd, option_and_then}
 use Rattle.std.specs.declared.alloc.Global.{Global}
 use Rattle.yw_sites.proofs.Prefix.{same_true}
 use Rattle.yw_state.proofs.Tests.{by_option, by_test}
-use Rattle.yw_state.specs.Identity.{Ident, is_case_ident, parent, same}
+use Rattle.yw_state.specs.Identity.{Ident, is_case_ident, same}
+use Rattle.yw_base.specs.Identity.{parent}
 use Rattle.yw_state.specs.State.{bare_but}
 use Rattle.yw_tree.proofs.Bared.{bared_but}
 use Rattle.yw_tree.proofs.ForestLaw.{in_case}

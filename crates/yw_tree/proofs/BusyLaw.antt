@@ -10,7 +10,8 @@ use Rattle.yw_state.proofs.Clear.{some_stands}
 use Rattle.yw_state.proofs.Entries.{find-entry, passing}
 use Rattle.yw_state.proofs.MapLemmas.{by_name}
 use Rattle.yw_state.proofs.Tests.{by_option, by_test, never, nowhere}
-use Rattle.yw_state.specs.Identity.{Ident, case_number, is_case_ident, is_child, parent}
+use Rattle.yw_state.specs.Identity.{Ident, is_case_ident, is_child}
+use Rattle.yw_base.specs.Identity.{case_number, parent}
 use Rattle.yw_state.specs.Map.{entries, get}
 use Rattle.yw_state.specs.State.{RunPart, Site, State}
 use Rattle.yw_state.specs.Words.{busy}

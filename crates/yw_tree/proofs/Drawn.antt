@@ -7,7 +7,8 @@ use Rattle.std.specs.Ordering.{is_lt, ordering_then}
 use Rattle.std.specs.Prelude.{T, is_some, nat_lt}
 use Rattle.std.specs.declared.cmp.Ordering.TheVariants.{Equal, Less}
 use Rattle.yw_sites.proofs.Prefix.{child_length, child_of}
-use Rattle.yw_state.specs.Identity.{Ident, child}
+use Rattle.yw_state.specs.Identity.{Ident}
+use Rattle.yw_base.specs.Identity.{child}
 use Rattle.yw_state.specs.Map.{get, lexical}
 use Rattle.yw_tree.proofs.Stood.{found_in_map}
 use Rattle.yw_tree.specs.Coming.{AreDrawn, ComesAfter}

@@ -8,7 +8,8 @@ use Rattle.yw_sites.proofs.Swaps.{at_apart, old_at}
 use Rattle.yw_state.proofs.MapEntries.{get-of_entries}
 use Rattle.yw_state.proofs.MapLemmas.{by_name, tied_self}
 use Rattle.yw_state.proofs.Tests.{by_option, by_test}
-use Rattle.yw_state.specs.Identity.{Ident, case_number, is_case_ident}
+use Rattle.yw_state.specs.Identity.{Ident, is_case_ident}
+use Rattle.yw_base.specs.Identity.{case_number}
 use Rattle.yw_state.specs.Map.{get, lexical}
 use Rattle.yw_tree.proofs.CaseLaw.{case_stands}
 use Rattle.yw_tree.proofs.Equations.{run_entries_is}

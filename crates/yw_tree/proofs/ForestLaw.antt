@@ -3,7 +3,7 @@ use Rattle.std.proofs.Common.{Bool, List, None, Option, Some, [], ap, arith, con
 use Rattle.std.specs.FinMap.Entries.{find}
 use Rattle.std.specs.Prelude.{Box, option_and_then}
 use Rattle.std.specs.declared.alloc.Global.{Global}
-use Rattle.yw_base.specs.Identity.{is_identity, under}
+use Rattle.yw_base.specs.Identity.{is_identity, under, case_number}
 use Rattle.yw_sites.proofs.Children.{children_front, others_off, strictly}
 use Rattle.yw_sites.proofs.Each.{Each-back, Each-front, each_mid}
 use Rattle.yw_sites.proofs.Prefix.{under_refl}
@@ -13,7 +13,7 @@ use Rattle.yw_sites.specs.Idents.{AreChildren, Each, IsChild}
 use Rattle.yw_state.proofs.MapEntries.{get-of_entries}
 use Rattle.yw_state.proofs.MapLemmas.{by_name}
 use Rattle.yw_state.proofs.Tests.{by_option, by_test, never, nowhere, some_same, then_some}
-use Rattle.yw_state.specs.Identity.{Ident, case_ident, case_number}
+use Rattle.yw_state.specs.Identity.{Ident, case_ident}
 use Rattle.yw_state.specs.Map.{get, lexical}
 use Rattle.yw_state.specs.State.{NetPart}
 use Rattle.yw_tree.proofs.Found.{IsFound, boxed_in_run, found}

@@ -5,7 +5,7 @@ use Rattle.std.specs.FinMap.Entries.{is_sorted}
 use Rattle.std.specs.Ordering.{nat_cmp}
 use Rattle.std.specs.Prelude.{Box, IsTrue, T, is_some, not, ◌&&◌, ◌||◌}
 use Rattle.std.specs.declared.alloc.Global.{Global}
-use Rattle.yw_base.specs.Identity.{under}
+use Rattle.yw_base.specs.Identity.{under, case_number}
 use Rattle.yw_sites.proofs.Children.{children_front, others_off}
 use Rattle.yw_sites.proofs.Each.{Each-append, Each-back, Each-front, each_mid, each_rest}
 use Rattle.yw_sites.proofs.HeldAlong.{GoesDown, IsOff, along_is, any_same, down_before, down_behind, each_of, held_along, held_along-append, held_off, off_goes_down, shields}
@@ -15,7 +15,7 @@ use Rattle.yw_sites.proofs.Unique.{not_above}
 use Rattle.yw_sites.specs.Entries.{AllUnder, Entries, Entry}
 use Rattle.yw_sites.specs.Idents.{AreChildren, Each, IsChild}
 use Rattle.yw_state.proofs.Tests.{by_option, by_test, never}
-use Rattle.yw_state.specs.Identity.{Ident, case_ident, case_number, same, strictly_under}
+use Rattle.yw_state.specs.Identity.{Ident, case_ident, same, strictly_under}
 use Rattle.yw_state.specs.State.{State}
 use Rattle.yw_state.specs.Words.{held, shielded}
 use Rattle.yw_tree.proofs.Absent.{by_kids, short}

@@ -3,13 +3,13 @@ use Rattle.std.proofs.Common.{Bool, List, None, Option, Some, [], ap, append_ass
 use Rattle.std.proofs.lemmas.Bool.{eq-eqb}
 use Rattle.std.specs.Prelude.{Box, is_some, option_and_then}
 use Rattle.std.specs.declared.alloc.Global.{Global}
-use Rattle.yw_base.specs.Identity.{under}
+use Rattle.yw_base.specs.Identity.{under, case_number, parent}
 use Rattle.yw_sites.proofs.Children.{children_front, others_off}
 use Rattle.yw_sites.proofs.Each.{Each-back, each_mid}
 use Rattle.yw_sites.proofs.Prefix.{child_length, child_under, not_true, same_refl, same_true, under_compare, under_length, under_refl, under_same, under_trans}
 use Rattle.yw_sites.specs.Idents.{AreChildren, Each, IsChild}
 use Rattle.yw_state.proofs.Tests.{by_option, by_test, map_some, never, nowhere, some_same, then_some}
-use Rattle.yw_state.specs.Identity.{Ident, case_number, is_case_ident, parent, same}
+use Rattle.yw_state.specs.Identity.{Ident, is_case_ident, same}
 use Rattle.yw_tree.proofs.CaseLaw.{its}
 use Rattle.yw_tree.proofs.ForestLaw.{item_found}
 use Rattle.yw_tree.proofs.Found.{boxed_in_run, boxed_inner}

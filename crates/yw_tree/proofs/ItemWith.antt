@@ -4,7 +4,8 @@ use Rattle.std.proofs.lemmas.Bool.{false_from_ne_true}
 use Rattle.std.specs.Prelude.{option_and_then}
 use Rattle.yw_sites.proofs.Prefix.{child_length, under_refl, under_same}
 use Rattle.yw_state.proofs.Tests.{by_option, never, nowhere, then_some}
-use Rattle.yw_state.specs.Identity.{Ident, is_case_ident, parent}
+use Rattle.yw_state.specs.Identity.{Ident, is_case_ident}
+use Rattle.yw_base.specs.Identity.{parent}
 use Rattle.yw_state.specs.State.{Site}
 use Rattle.yw_tree.proofs.FindLaw.{case_shown, item_shown}
 use Rattle.yw_tree.proofs.ItemThere.{item_there, its_child}

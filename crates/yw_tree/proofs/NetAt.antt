@@ -2,7 +2,8 @@
 use Rattle.std.proofs.Common.{◌≡◌, ◌≤◌, Bool, true, false, cond, refl, length, Option, Some, None, [], ◌∷◌, ap, subst, sym, ◌∙◌, arith}
 use Rattle.std.specs.Prelude.{is_some}
 use Rattle.std.proofs.lemmas.Bool.{eqb-true}
-use Rattle.yw_state.specs.Identity.{Ident, case_ident, case_number, is_case_ident}
+use Rattle.yw_state.specs.Identity.{Ident, case_ident, is_case_ident}
+use Rattle.yw_base.specs.Identity.{case_number}
 use Rattle.yw_state.proofs.Tests.{by_option, by_test, map_some, nowhere}
 use Rattle.yw_tree.specs.Cases.{case_at}
 use Rattle.yw_tree.specs.Forest.{IsForest, item_of, item_net_replaced, top_replaced, top_of, with_top}

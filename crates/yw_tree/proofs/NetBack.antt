@@ -1,7 +1,8 @@
 -- A net put back where it stands changes nothing.
 use Rattle.std.proofs.Common.{◌≡◌, Bool, true, false, cond, Option, Some, None, ap, sym, ◌∙◌}
 use Rattle.std.specs.Prelude.{is_some}
-use Rattle.yw_state.specs.Identity.{Ident, case_number, is_case_ident}
+use Rattle.yw_state.specs.Identity.{Ident, is_case_ident}
+use Rattle.yw_base.specs.Identity.{case_number}
 use Rattle.yw_state.proofs.Tests.{by_option, by_test, map_some, nowhere}
 use Rattle.yw_tree.specs.Cases.{case_at, with_case}
 use Rattle.yw_tree.specs.Forest.{item_of, item_replaced, item_net_replaced, item_part_replaced, top_replaced, top_of, with_top}

@@ -5,7 +5,7 @@ use Rattle.std.specs.FinMap.Entries.{find, is_sorted}
 use Rattle.std.specs.Ordering.{nat_cmp}
 use Rattle.std.specs.Prelude.{Box, T, is_some, option_and_then}
 use Rattle.std.specs.declared.alloc.Global.{Global}
-use Rattle.yw_base.specs.Identity.{under}
+use Rattle.yw_base.specs.Identity.{under, case_number, parent}
 use Rattle.yw_sites.proofs.Children.{children_front, others_off}
 use Rattle.yw_sites.proofs.Each.{Each-back, Each-front, each_mid, each_rest}
 use Rattle.yw_sites.proofs.Prefix.{child_length, not_true, same_refl, same_true, under_refl, under_trans}
@@ -15,7 +15,7 @@ use Rattle.yw_sites.specs.Idents.{AreChildren, Each, IsChild}
 use Rattle.yw_state.proofs.MapEntries.{get-of_entries}
 use Rattle.yw_state.proofs.MapLemmas.{by_name}
 use Rattle.yw_state.proofs.Tests.{by_option, by_test, never, nowhere}
-use Rattle.yw_state.specs.Identity.{Ident, case_ident, case_number, is_case_ident, parent, same}
+use Rattle.yw_state.specs.Identity.{Ident, case_ident, is_case_ident, same}
 use Rattle.yw_state.specs.Map.{get, lexical}
 use Rattle.yw_tree.proofs.Absent.{by_kids, none_held, none_net, none_of, none_run, not_tied, short}
 use Rattle.yw_tree.proofs.Equations.{flat-append, net_entries_is, node_entries_is, run_entries_is}

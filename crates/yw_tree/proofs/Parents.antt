@@ -3,25 +3,14 @@ use Rattle.std.proofs.Common.{◌≡◌, ◌≤◌, ◌-◌, ℕ, zero, suc, [],
 use Rattle.std.specs.List.{list_all}
 use Rattle.std.specs.Prelude.{nat_le, nat_lt, slice_index_or, ◌&&◌}
 use Rattle.std.proofs.lemmas.Bool.{and_parts, eq-eqb, leb-true}
-use Rattle.yw_base.specs.Identity.{is_identity, is_number, most_numbers}
+use Rattle.yw_base.specs.Identity.{is_identity, is_number, most_numbers, case_number, parent}
 use Rattle.yw_sites.specs.Idents.{IsChild}
-use Rattle.yw_state.specs.Identity.{Ident, case_number, is_case_ident, parent}
+use Rattle.yw_state.specs.Identity.{Ident, is_case_ident}
 use Rattle.yw_state.proofs.Tests.{never}
 
 pub first_read : (id : Ident) → 1 ≤ length id → slice_index_or id 0 0 ≡ case_number id
 first_read [] h = absurd (omega arith)
 first_read (x ∷ xs) h = refl
-
-front_is : (n : ℕ) (id : Ident) → length id ≡ suc n → parent id ≡ take n id
-front_is n [] h = absurd (omega arith)
-front_is zero (x ∷ []) h = refl
-front_is zero (x ∷ y ∷ ys) h = absurd (omega arith)
-front_is (suc n) (x ∷ []) h = absurd (omega arith)
-front_is (suc n) (x ∷ y ∷ ys) h = ap (λ z. x ∷ z) (front_is n (y ∷ ys) (omega arith))
-
--- all but the last
-pub parent_is : (id : Ident) → 1 ≤ length id → parent id ≡ take (length id - 1) id
-parent_is id h = front_is (length id - 1) id (omega arith)
 
 pub parent_length : (id : Ident) → length (parent id) ≡ length id - 1
 parent_length [] = refl
@@ -46,10 +35,6 @@ parent_child (x ∷ xs) h = last_of x xs
     last_of : (x : ℕ) (xs : Ident) → IsChild (parent (x ∷ xs)) (x ∷ xs)
     last_of x [] = (x, refl)
     last_of x (y ∷ ys) = let r = last_of y ys in (r.0, ap (λ z. x ∷ z) r.1)
-
-pub identity_long : (id : Ident) → is_identity id ≡ true → 1 ≤ length id
-identity_long [] h = never h
-identity_long (x ∷ xs) h = omega arith
 
 pub identity_short : (id : Ident) → is_identity id ≡ true → length id ≤ 40
 identity_short id h =

@@ -1,7 +1,8 @@
 -- To place what stands there changes nothing.
 use Rattle.std.proofs.Common.{None, Some, ap, false, suc, sym, true, zero, ℕ, ◌∙◌, ◌≡◌}
 use Rattle.yw_state.proofs.Tests.{by_option, by_test, nowhere, some_same, then_some}
-use Rattle.yw_state.specs.Identity.{Ident, case_number, same}
+use Rattle.yw_state.specs.Identity.{Ident, same}
+use Rattle.yw_base.specs.Identity.{case_number}
 use Rattle.yw_tree.proofs.Same.{same_inner, same_node}
 use Rattle.yw_tree.proofs.SameCase.{same_case, same_table}
 use Rattle.yw_tree.proofs.Split.{place_there}

@@ -2,7 +2,8 @@
 use Rattle.std.proofs.Common.{◌≡◌, Bool, true, false, cond, refl, Option, Some, None, ap, sym, ◌∙◌}
 use Rattle.std.specs.Prelude.{Box, IfSome, IsSome, is_some}
 use Rattle.std.specs.declared.alloc.Global.{Global}
-use Rattle.yw_state.specs.Identity.{Ident, case_number, is_case_ident, parent, same}
+use Rattle.yw_state.specs.Identity.{Ident, is_case_ident, same}
+use Rattle.yw_base.specs.Identity.{case_number, parent}
 use Rattle.yw_state.proofs.Tests.{by_test, never, nowhere, some_same, then_some}
 use Rattle.yw_tree.specs.Cases.{case_at, with_case}
 use Rattle.yw_tree.specs.Forest.{item_of, item_replaced}

@@ -10,7 +10,8 @@ use Rattle.yw_sites.proofs.Prefix.{child_length, child_of, child_strictly}
 use Rattle.yw_sites.specs.Entries.{AllUnder, Entries, Swaps}
 use Rattle.yw_sites.specs.Idents.{AreChildren, Each, IsChild}
 use Rattle.yw_state.proofs.Tests.{never, nowhere}
-use Rattle.yw_state.specs.Identity.{Ident, case_ident, case_number, is_case_ident, is_child, strictly_under}
+use Rattle.yw_state.specs.Identity.{Ident, case_ident, is_case_ident, is_child, strictly_under}
+use Rattle.yw_base.specs.Identity.{case_number}
 use Rattle.yw_state.specs.Map.{get, insert, lexical}
 use Rattle.yw_tree.proofs.CaseLaw.{its, placing, under_is, under_was}
 use Rattle.yw_tree.proofs.Equations.{run_entries_is}

@@ -5,7 +5,8 @@ use Rattle.yw_sites.specs.Idents.{AreChildren}
 use Rattle.yw_sites.proofs.Children.{children_front}
 use Rattle.yw_sites.proofs.Each.{nil_right}
 use Rattle.yw_sites.proofs.Parts.{drop_law}
-use Rattle.yw_state.specs.Identity.{Ident, case_number, is_case_ident, parent}
+use Rattle.yw_state.specs.Identity.{Ident, is_case_ident}
+use Rattle.yw_base.specs.Identity.{case_number, parent}
 use Rattle.yw_state.specs.State.{drop}
 use Rattle.yw_tree.specs.Boxed.{AtNet, AtNode, AtRun, ids, net_ids, run_ids}
 use Rattle.yw_tree.specs.Cases.{case_at}

@@ -1,7 +1,8 @@
 -- Where a run is looked for: at the case or the item at the identity without its last number.
 use Rattle.std.proofs.Common.{◌≡◌, true, false, cond, Option, None, ap, ◌∙◌}
 use Rattle.std.specs.Prelude.{option_and_then}
-use Rattle.yw_state.specs.Identity.{Ident, case_number, is_case_ident, parent}
+use Rattle.yw_state.specs.Identity.{Ident, is_case_ident}
+use Rattle.yw_base.specs.Identity.{case_number, parent}
 use Rattle.yw_tree.specs.Cases.{case_at}
 use Rattle.yw_tree.specs.Forest.{item_of}
 use Rattle.yw_tree.specs.Places.{over_case_run, over_item_run, placed_run, run_of, run_of_case, run_of_item}

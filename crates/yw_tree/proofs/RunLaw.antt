@@ -2,14 +2,14 @@
 use Rattle.std.proofs.Common.{◌≡◌, ◌≤◌, ℕ, true, refl, length, Option, Some, None, List, [], ◌∷◌, ◌++◌, ap, subst, sym, ◌∙◌}
 use Rattle.std.specs.Prelude.{Box}
 use Rattle.std.specs.declared.alloc.Global.{Global}
-use Rattle.yw_base.specs.Identity.{under}
+use Rattle.yw_base.specs.Identity.{under, case_number, parent}
 use Rattle.yw_sites.specs.Entries.{AllUnder, Entries, NoneUnder, Swaps}
 use Rattle.yw_sites.specs.Idents.{AreChildren, IsChild}
 use Rattle.yw_sites.proofs.Children.{strictly}
 use Rattle.yw_sites.proofs.Each.{Each-back}
 use Rattle.yw_sites.proofs.Prefix.{child_under, same_true, under_refl}
 use Rattle.yw_sites.proofs.Swaps.{swaps_whole, swaps_within}
-use Rattle.yw_state.specs.Identity.{Ident, case_ident, case_number, parent}
+use Rattle.yw_state.specs.Identity.{Ident, case_ident}
 use Rattle.yw_state.proofs.Tests.{nowhere, some_same}
 use Rattle.yw_tree.specs.Boxed.{AtNet, AtNode, AtRun, Held, IsBoxedCase, IsBoxedNode, IsBoxedRun, ids, net_ids, run_ids}
 use Rattle.yw_tree.specs.Cases.{case_at}

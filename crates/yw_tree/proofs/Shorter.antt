@@ -1,11 +1,11 @@
 -- What leads to an identity, and what leads to the one without its last number.
 use Rattle.std.proofs.Common.{ap, arith, false, length, sym, true, ⊎_elim, ◌<◌, ◌∙◌, ◌≡◌, ◌≤◌}
 use Rattle.std.proofs.lemmas.Bool.{cases_lt}
-use Rattle.yw_base.specs.Identity.{under}
+use Rattle.yw_base.specs.Identity.{under, parent}
 use Rattle.yw_sites.proofs.Prefix.{child_length, child_under, same_refl, under_compare, under_length, under_refl, under_same}
 use Rattle.yw_sites.specs.Idents.{IsChild}
 use Rattle.yw_state.proofs.Tests.{never}
-use Rattle.yw_state.specs.Identity.{Ident, parent, same}
+use Rattle.yw_state.specs.Identity.{Ident, same}
 use Rattle.yw_tree.proofs.Parents.{parent_child, parent_length}
 
 -- ---- the identity without its last number

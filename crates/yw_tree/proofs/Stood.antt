@@ -3,7 +3,7 @@ use Rattle.std.proofs.Common.{List, None, Option, Some, [], ap, arith, cond, fal
 use Rattle.std.specs.FinMap.Entries.{find}
 use Rattle.std.specs.Prelude.{Box, is_some, option_and_then, option_map, ◌||◌}
 use Rattle.std.specs.declared.alloc.Global.{Global}
-use Rattle.yw_base.specs.Identity.{under}
+use Rattle.yw_base.specs.Identity.{under, case_number, parent}
 use Rattle.yw_sites.proofs.Children.{children_front}
 use Rattle.yw_sites.proofs.Each.{each_mid}
 use Rattle.yw_sites.proofs.Prefix.{child_length, child_strictly, child_under, is_child_of, not_true, same_true, under_refl, under_same}
@@ -13,7 +13,7 @@ use Rattle.yw_sites.specs.Idents.{AreChildren, Each, IsChild}
 use Rattle.yw_state.proofs.MapEntries.{get-of_entries}
 use Rattle.yw_state.proofs.MapLemmas.{by_name}
 use Rattle.yw_state.proofs.Tests.{by_option, by_test, never, nowhere}
-use Rattle.yw_state.specs.Identity.{Ident, case_number, is_case_ident, parent, same}
+use Rattle.yw_state.specs.Identity.{Ident, is_case_ident, same}
 use Rattle.yw_state.specs.Map.{get, lexical}
 use Rattle.yw_tree.proofs.Absent.{by_kids, none_net, not_tied}
 use Rattle.yw_tree.proofs.Beside.{run_beside}

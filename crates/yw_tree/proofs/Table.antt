@@ -6,7 +6,7 @@ use Rattle.std.specs.FinMap.Entries.{below_all, is_sorted}
 use Rattle.std.specs.Ordering.{is_eq, is_lt, nat_cmp}
 use Rattle.std.specs.Prelude.{T, ◌==◌}
 use Rattle.std.specs.declared.cmp.Ordering.TheVariants.{Equal, Greater, Less}
-use Rattle.yw_base.specs.Identity.{under}
+use Rattle.yw_base.specs.Identity.{under, case_number}
 use Rattle.yw_sites.proofs.Each.{Each-append, Each-front, each_mid, each_put, each_rest}
 use Rattle.yw_sites.proofs.Picked.{halves, joined}
 use Rattle.yw_sites.proofs.Prefix.{not_true, under_trans}
@@ -15,7 +15,7 @@ use Rattle.yw_sites.specs.Entries.{Entries, Entry, NoneUnder, AllUnder, Swaps}
 use Rattle.yw_sites.specs.Idents.{Each}
 use Rattle.yw_state.proofs.MapLemmas.{by_number, tied, tied_self}
 use Rattle.yw_state.proofs.Tests.{by_test, never, nowhere, some_same}
-use Rattle.yw_state.specs.Identity.{Ident, case_ident, case_number}
+use Rattle.yw_state.specs.Identity.{Ident, case_ident}
 use Rattle.yw_tree.proofs.Keys.{case_keys}
 use Rattle.yw_tree.specs.Boxed.{IsBoxed, IsBoxedCase}
 use Rattle.yw_tree.specs.Cases.{CaseList, case_at, with_case, without_case}

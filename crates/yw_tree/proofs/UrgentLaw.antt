@@ -6,14 +6,14 @@ use Rattle.std.specs.FinMap.Entries.{is_sorted}
 use Rattle.std.specs.List.{list_any}
 use Rattle.std.specs.Ordering.{nat_cmp}
 use Rattle.std.specs.Prelude.{T, is_some, not, ◌&&◌, ◌==◌, ◌||◌}
-use Rattle.yw_base.specs.Identity.{under}
+use Rattle.yw_base.specs.Identity.{under, case_number}
 use Rattle.yw_sites.proofs.Each.{Each-append, Each-front, each_mid, each_rest}
 use Rattle.yw_sites.proofs.HeldAlong.{any_same, each_by, each_of}
 use Rattle.yw_sites.proofs.Prefix.{under_refl}
 use Rattle.yw_sites.specs.Entries.{AllUnder, Entries, Entry}
 use Rattle.yw_sites.specs.Idents.{Each}
 use Rattle.yw_state.proofs.Tests.{by_option}
-use Rattle.yw_state.specs.Identity.{case_ident, case_number, is_child}
+use Rattle.yw_state.specs.Identity.{case_ident, is_child}
 use Rattle.yw_state.specs.State.{State}
 use Rattle.yw_state.specs.Words.{any_due, busy, is_at_work, urgent}
 use Rattle.yw_tree.proofs.Asked.{some_site_is}

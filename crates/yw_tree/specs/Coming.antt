@@ -2,7 +2,8 @@
 use Rattle.std.specs.List.{list_all}
 use Rattle.std.specs.Prelude.{◌≡◌, ◌<◌, true, List, None, T, if◌then◌else◌, is_some, length, nat_lt, IsSome, IsSomeAnd, IsTrue, ℕ}
 use Rattle.std.specs.Ordering.{is_lt}
-use Rattle.yw_state.specs.Identity.{Ident, case_number, is_case_ident, is_child}
+use Rattle.yw_state.specs.Identity.{Ident, is_case_ident, is_child}
+use Rattle.yw_base.specs.Identity.{case_number}
 use Rattle.yw_state.specs.Map.{get, lexical}
 use Rattle.yw_tree.specs.Cases.{case_at}
 use Rattle.yw_tree.specs.Forest.{item_of, sites_of}

@@ -2,7 +2,8 @@
 use Rattle.std.specs.Prelude.{List, None, Option, Some, option_and_then, option_map, ℕ}
 use Rattle.yw_sites.specs.Entries.{Entries}
 use Rattle.yw_state.specs.State.{sites_of_entries}
-use Rattle.yw_state.specs.Identity.{Ident, case_number}
+use Rattle.yw_state.specs.Identity.{Ident}
+use Rattle.yw_base.specs.Identity.{case_number}
 use Rattle.yw_state.specs.State.{Sites}
 use Rattle.yw_tree.specs.Boxed.{IsBoxed}
 use Rattle.yw_tree.specs.Cases.{case_at, with_case}

@@ -1,7 +1,8 @@
 -- Whether work is held at an identity, and whether a case is urgent, box by box.
 use Rattle.std.specs.Prelude.{Bool, Box, List, None, Option, Some, Vec, [], false, if◌then◌else◌, is_none, not, suc, zero, ℕ, ◌&&◌, ◌||◌, ◌∷◌}
 use Rattle.std.specs.declared.alloc.Global.{Global}
-use Rattle.yw_state.specs.Identity.{Ident, case_number}
+use Rattle.yw_state.specs.Identity.{Ident}
+use Rattle.yw_base.specs.Identity.{case_number}
 use Rattle.yw_state.specs.Words.{any_due}
 use Rattle.yw_tree.specs.Cases.{case_at}
 use Rattle.yw_tree.specs.Forest.{levels}

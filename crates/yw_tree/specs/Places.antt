@@ -1,7 +1,8 @@
 -- What stands at an identity, whether a case, an item or a run, and the net there; and a forest with another in its place.
 use Rattle.std.specs.Prelude.{◌≡◌, ◌||◌, ℕ, Bool, false, Option, Some, None, Box, is_some, option_and_then, if◌then◌else◌}
 use Rattle.std.specs.declared.alloc.Global.{Global}
-use Rattle.yw_state.specs.Identity.{Ident, case_number, is_case_ident, parent, same}
+use Rattle.yw_state.specs.Identity.{Ident, is_case_ident, same}
+use Rattle.yw_base.specs.Identity.{case_number, parent}
 use Rattle.yw_tree.specs.Cases.{case_at, with_case}
 use Rattle.yw_tree.specs.Forest.{item_of, item_replaced, item_net_replaced, top_replaced, top_of}
 use Rattle.yw_tree.specs.Ways.{net_in, net_of_item, place_of, run_in, with_net_in_run, with_run}

@@ -1,6 +1,7 @@
 -- What is found at an identity.
 use Rattle.std.specs.Prelude.{Option, Some, None, option_map, if◌then◌else◌, List, ℕ}
-use Rattle.yw_state.specs.Identity.{Ident, case_number, is_case_ident}
+use Rattle.yw_state.specs.Identity.{Ident, is_case_ident}
+use Rattle.yw_base.specs.Identity.{case_number}
 use Rattle.yw_state.specs.State.{Site}
 use Rattle.yw_tree.specs.Cases.{case_at}
 use Rattle.yw_tree.specs.Entries.{case_site, item_site, run_site}

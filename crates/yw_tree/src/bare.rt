@@ -1,6 +1,7 @@
 //! What is laid bare: an item or a run stays, and its net goes with all under it.
 ghost use Rattle.std.specs.Prelude.{◌≡◌, ◌≤◌, IsSome, IsSomeAnd, None, false, length};
-ghost use Rattle.yw_state.specs.Identity.{is_case_ident, parent};
+ghost use Rattle.yw_state.specs.Identity.{is_case_ident};
+ghost use Rattle.yw_base.specs.Identity.{parent};
 ghost use Rattle.yw_tree.specs.Becomes.{Bares, BaresBut};
 ghost use Rattle.yw_tree.specs.Coming.{HasNoNet};
 ghost use Rattle.yw_tree.specs.Forest.{IsForest, item_of};

@@ -1,7 +1,8 @@
 //! What goes from a forest, with all under it.
 ghost use Rattle.std.specs.Prelude.{◌≡◌, ◌≤◌, ◌<◌, ℕ, List, length, is_some, IfSome, IsSome, None, false};
 ghost use Rattle.std.specs.Bool.{OnTrue, OnFalse};
-ghost use Rattle.yw_state.specs.Identity.{case_ident, case_number, is_case_ident, parent};
+ghost use Rattle.yw_state.specs.Identity.{case_ident, is_case_ident};
+ghost use Rattle.yw_base.specs.Identity.{case_number, parent};
 ghost use Rattle.yw_state.specs.Map.{get};
 ghost use Rattle.yw_tree.specs.Becomes.{Drops, DropsTask};
 ghost use Rattle.yw_tree.specs.Cases.{case_at};

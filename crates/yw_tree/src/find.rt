@@ -2,7 +2,7 @@
 ghost use Rattle.std.specs.Prelude.{◌≡◌, ℕ, List, None, Some, ◌≤◌, length, option_map, MatchOption};
 ghost use Rattle.std.specs.Option.{option_copied};
 ghost use Rattle.yw_tree.specs.Cases.{case_at};
-ghost use Rattle.yw_state.specs.Identity.{parent};
+ghost use Rattle.yw_base.specs.Identity.{parent};
 ghost use Rattle.yw_state.specs.Map.{empty, get};
 ghost use Rattle.yw_tree.specs.Forest.{IsForest, item_of, levels, sites_of, top_of};
 ghost use Rattle.yw_tree.specs.Spots.{a_case, a_run, part_at, part_of, part_site};

@@ -1,7 +1,7 @@
 //! What comes to a forest.
 ghost use Rattle.std.specs.Prelude.{◌≡◌, [], OnOk, OnErr, IsSome, None, Some, true, false};
-ghost use Rattle.yw_base.specs.Identity.{is_identity};
-ghost use Rattle.yw_state.specs.Identity.{case_number, is_case_ident};
+ghost use Rattle.yw_base.specs.Identity.{is_identity, case_number};
+ghost use Rattle.yw_state.specs.Identity.{is_case_ident};
 ghost use Rattle.yw_tree.specs.Becomes.{Gets, GetsCase, GetsNet};
 ghost use Rattle.yw_tree.specs.Boxed.{IsBoxedCase, IsBoxedNet};
 ghost use Rattle.yw_tree.specs.Cases.{case_at};

@@ -1,8 +1,8 @@
 //! Laws of the forest and its map, for the crates above. Each is the contract of a function that does nothing: it holds of all
 //! forests.
 ghost use Rattle.std.specs.Prelude.{◌≡◌, ℕ, List, Some, true};
-ghost use Rattle.yw_base.specs.Identity.{is_identity};
-ghost use Rattle.yw_state.specs.Identity.{Ident, child};
+ghost use Rattle.yw_base.specs.Identity.{is_identity, child};
+ghost use Rattle.yw_state.specs.Identity.{Ident};
 ghost use Rattle.yw_state.specs.Map.{update};
 ghost use Rattle.yw_state.specs.State.{Site, Sites};
 ghost use Rattle.yw_tree.specs.Changes.{ChangesItem, ChangesNet};

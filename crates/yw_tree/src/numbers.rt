@@ -1,6 +1,7 @@
 //! The numbers of an identity.
 ghost use Rattle.std.specs.Prelude.{◌≡◌, ◌≤◌, length};
-ghost use Rattle.yw_state.specs.Identity.{case_number, is_case_ident, parent};
+ghost use Rattle.yw_state.specs.Identity.{is_case_ident};
+ghost use Rattle.yw_base.specs.Identity.{case_number, parent};
 
 /// The number of the case in which it lies.
 pub fn case_number(id: &[u64]) -> u64

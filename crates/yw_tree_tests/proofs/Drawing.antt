@@ -5,7 +5,8 @@ use Rattle.std.specs.List.{list_all}
 use Rattle.std.specs.Prelude.{is_some, nat_lt}
 use Rattle.yw_state.proofs.MapLemmas.{by_name, insert_stands, update_stands}
 use Rattle.yw_state.proofs.Tests.{there}
-use Rattle.yw_state.specs.Identity.{Ident, child}
+use Rattle.yw_state.specs.Identity.{Ident}
+use Rattle.yw_base.specs.Identity.{child}
 use Rattle.yw_state.specs.Map.{get, insert}
 use Rattle.yw_state.specs.State.{Site}
 use Rattle.yw_tree.specs.Becomes.{Gets, GetsNet}

@@ -6,14 +6,16 @@ use Rattle.std.specs.Prelude.{IsSomeAnd, T, is_some, nat_lt}
 use Rattle.yw_sites.proofs.Prefix.{is_child_of}
 use Rattle.yw_sites.specs.Idents.{AreChildren}
 use Rattle.yw_state.proofs.Tests.{by_test}
-use Rattle.yw_state.specs.Identity.{Ident, child, is_case_ident, is_child, parent}
+use Rattle.yw_state.specs.Identity.{Ident, is_case_ident, is_child}
+use Rattle.yw_base.specs.Identity.{child, parent}
 use Rattle.yw_state.specs.State.{Site}
 use Rattle.yw_state.specs.Values.{Row}
 use Rattle.yw_state.specs.declared.part.Checks.{Checks}
 use Rattle.yw_state.specs.declared.tree.Primitive.{Primitive}
 use Rattle.yw_tree.proofs.Drawn.{after_drawn}
 use Rattle.yw_tree.proofs.Keys.{ids_are, kids}
-use Rattle.yw_tree.proofs.Parents.{identity_long, identity_short}
+use Rattle.yw_tree.proofs.Parents.{identity_short}
+use Rattle.yw_base.proofs.Parents.{identity_long}
 use Rattle.yw_tree.proofs.Stood.{found_in_map}
 use Rattle.yw_tree.specs.Becomes.{Gets, GetsNet}
 use Rattle.yw_tree.specs.Begins.{BeginsItem, BeginsRun}

@@ -1,7 +1,7 @@
 -- A forest that grows call by call.
 use Rattle.std.specs.Prelude.{◌≡◌, ◌<◌, ℕ, true, None, IsSome, IsSomeAnd, is_some}
-use Rattle.yw_base.specs.Identity.{is_identity, number_end}
-use Rattle.yw_state.specs.Identity.{Ident, child}
+use Rattle.yw_base.specs.Identity.{is_identity, number_end, child}
+use Rattle.yw_state.specs.Identity.{Ident}
 use Rattle.yw_tree.specs.Coming.{AreDrawn, HasNoNet, HasTask}
 use Rattle.yw_tree.specs.Forest.{IsForest, item_of}
 use Rattle.yw_tree.specs.Places.{net_at, net_of_run, run_of}

@@ -1,7 +1,7 @@
 // Forests that grow by calls, part by part, so that their clauses say that they are well boxed.
 ghost use Rattle.std.specs.Prelude.{◌≡◌, ◌+◌, ◌≤◌, ◌∷◌, [], IfSome, IsSomeAnd, IsTrue, None, false, is_some, length, true};
-ghost use Rattle.yw_base.specs.Identity.{is_number};
-ghost use Rattle.yw_state.specs.Identity.{case_number, is_case_ident};
+ghost use Rattle.yw_base.specs.Identity.{is_number, case_number};
+ghost use Rattle.yw_state.specs.Identity.{is_case_ident};
 ghost use Rattle.yw_tree.specs.Boxed.{IsBoxedNet};
 ghost use Rattle.yw_tree.specs.Cases.{case_at};
 ghost use Rattle.yw_tree.specs.Coming.{HasTask, TargetStands};

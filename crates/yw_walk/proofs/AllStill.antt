@@ -6,12 +6,13 @@ use Rattle.std.specs.List.{All, Contains}
 use Rattle.std.specs.Prelude.{not, ◌&&◌}
 use Rattle.yw_idents.proofs.Listed.{all_listed, none_stands}
 use Rattle.yw_idents.specs.Idents.{AreAllIn, idents_of}
-use Rattle.yw_known.specs.Names.{names_of}
+use Rattle.yw_library.specs.Names.{names_of}
 use Rattle.yw_library.specs.Holdings.{Holdings}
 use Rattle.yw_plain.proofs.Words.{words}
 use Rattle.yw_plain.specs.Plain.{IsPlain}
 use Rattle.yw_state.specs.Automatic.{IsQuiet}
-use Rattle.yw_state.specs.Identity.{Ident, case_number}
+use Rattle.yw_state.specs.Identity.{Ident}
+use Rattle.yw_base.specs.Identity.{case_number}
 use Rattle.yw_state.specs.Joins.{at_output}
 use Rattle.yw_state.specs.Options.{is_some_and}
 use Rattle.yw_state.specs.State.{RunPart, Site, State}

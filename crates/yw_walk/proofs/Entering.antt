@@ -3,7 +3,7 @@ use Rattle.std.proofs.Common.{List, None, Option, Some, [], ap, false, length, m
 use Rattle.std.proofs.lemmas.Bool.{and_parts, leb-true}
 use Rattle.std.proofs.lemmas.Option.{slice_get_within}
 use Rattle.std.specs.Prelude.{nat_le, not, option_map, slice_get, unwrap_or, ◌&&◌}
-use Rattle.yw_base.specs.Identity.{number_end}
+use Rattle.yw_base.specs.Identity.{number_end, case_number}
 use Rattle.yw_base.specs.declared.value.Value.{Value}
 use Rattle.yw_enabled.proofs.Coming.{enter_may}
 use Rattle.yw_enabled.proofs.FreeItems.{task_is}
@@ -21,7 +21,7 @@ use Rattle.yw_state.proofs.Tests.{map_some, never, some_same, then_some, there_a
 use Rattle.yw_plain.specs.Plain.{is_plain_event}
 use Rattle.yw_state.specs.Allowed.{Allowed}
 use Rattle.yw_state.specs.Automatic.{case_of, is_automatic}
-use Rattle.yw_state.specs.Identity.{Ident, case_number}
+use Rattle.yw_state.specs.Identity.{Ident}
 use Rattle.yw_state.specs.Joins.{has_tokens}
 use Rattle.yw_state.specs.Judged.{is_manual}
 use Rattle.yw_state.specs.Nets.{is_atomic}

@@ -13,7 +13,8 @@ use Rattle.yw_spec.specs.declared.task.Task.{Task}
 use Rattle.yw_state.proofs.Tests.{some_same}
 use Rattle.yw_state.specs.Allowed.{exit_values}
 use Rattle.yw_state.specs.Automatic.{Comes}
-use Rattle.yw_state.specs.Identity.{Ident, case_number}
+use Rattle.yw_state.specs.Identity.{Ident}
+use Rattle.yw_base.specs.Identity.{case_number}
 use Rattle.yw_state.specs.Passing.{kept_values, made_rows, split_places}
 use Rattle.yw_state.specs.State.{NetAt, State, TaskAt, task_in}
 use Rattle.yw_state.specs.Values.{Row}

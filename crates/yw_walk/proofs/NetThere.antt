@@ -4,12 +4,13 @@ use Rattle.std.specs.Prelude.{MatchOption}
 use Rattle.yw_accepted.proofs.Loaded.{accepted_are_within}
 use Rattle.yw_enabled.specs.Free.{MayDraw, StandsFree}
 use Rattle.yw_known.specs.Here.{IsNetHere}
-use Rattle.yw_known.specs.Names.{names_of}
+use Rattle.yw_library.specs.Names.{names_of}
 use Rattle.yw_known.specs.declared.here.NetHere.{NetHere}
 use Rattle.yw_library.specs.Holdings.{Holdings}
 use Rattle.yw_model.specs.Texts.{reader}
 use Rattle.yw_plain.proofs.Words.{words}
-use Rattle.yw_state.specs.Identity.{Ident, case_number}
+use Rattle.yw_state.specs.Identity.{Ident}
+use Rattle.yw_base.specs.Identity.{case_number}
 use Rattle.yw_state.specs.State.{State}
 use Rattle.yw_state.specs.declared.event.Event.{Event}
 use Rattle.yw_tree.specs.declared.Forest.{Forest}

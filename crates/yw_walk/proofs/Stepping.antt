@@ -5,9 +5,9 @@ use Rattle.std.specs.Prelude.{is_none, is_some, not, option_map, ◌&&◌, ◌||
 use Rattle.yw_enabled.specs.Items.{ItemFree, ItemGoes, StepsAs, event_of}
 use Rattle.yw_enabled.specs.declared.items.ItemStep.{ItemStep}
 use Rattle.yw_enabled.specs.declared.items.ItemStep.TheVariants.{CompleteEmpty, CompleteSub, CompleteWorklet, StartSub}
-use Rattle.yw_known.specs.Held.{IsHeld}
+use Rattle.yw_library.specs.Held.{IsHeld}
 use Rattle.yw_known.specs.Here.{IsItemHere, as_item_at}
-use Rattle.yw_known.specs.Names.{names_of}
+use Rattle.yw_library.specs.Names.{names_of}
 use Rattle.yw_known.specs.declared.here.ItemHere.{ItemHere}
 use Rattle.yw_library.specs.Holdings.{Holdings}
 use Rattle.yw_plain.proofs.Words.{words}
@@ -19,7 +19,8 @@ use Rattle.yw_spec.specs.declared.task.Task.{Task}
 use Rattle.yw_state.proofs.Tests.{and_left, and_right, never, then_some, there_and}
 use Rattle.yw_state.specs.Allowed.{Allowed, allows}
 use Rattle.yw_state.specs.Automatic.{case_of, is_automatic}
-use Rattle.yw_state.specs.Identity.{Ident, case_ident, case_number}
+use Rattle.yw_state.specs.Identity.{Ident, case_ident}
+use Rattle.yw_base.specs.Identity.{case_number}
 use Rattle.yw_state.specs.Joins.{at_output, marked}
 use Rattle.yw_state.specs.Nets.{child_net, is_atomic}
 use Rattle.yw_state.specs.State.{ItemAt, NetAt, NetPart, State, item_at, net_at, net_of, net_part}

@@ -5,7 +5,7 @@ use Rattle.yw_base.specs.Gates.{is_or}
 use Rattle.yw_enabled.specs.Entered.{EntersFrom}
 use Rattle.yw_enabled.specs.Free.{MayDraw, StandsFree}
 use Rattle.yw_enabled.specs.Left.{TellsNet}
-use Rattle.yw_known.specs.Held.{IsHeld}
+use Rattle.yw_library.specs.Held.{IsHeld}
 use Rattle.yw_known.specs.Here.{IsNetHere}
 use Rattle.yw_known.specs.declared.here.NetHere.{NetHere}
 use Rattle.yw_library.specs.Holdings.{Holdings}
@@ -14,7 +14,8 @@ use Rattle.yw_mark.specs.declared.join.Taken.{Taken}
 use Rattle.yw_path.specs.Upstream.{IsUpstreamOf}
 use Rattle.yw_plain.specs.Plain.{IsPlain, is_plain_event}
 use Rattle.yw_state.specs.Automatic.{Comes, IsQuiet}
-use Rattle.yw_state.specs.Identity.{Ident, case_number}
+use Rattle.yw_state.specs.Identity.{Ident}
+use Rattle.yw_base.specs.Identity.{case_number}
 use Rattle.yw_state.specs.Joins.{Waits, at_output}
 use Rattle.yw_state.specs.Judged.{is_manual}
 use Rattle.yw_state.specs.Texts.{nothing}

@@ -5,9 +5,8 @@ use Rattle.std.proofs.lemmas.List.{length-map, length-take, map-append, take_mor
 use Rattle.std.proofs.lemmas.List.FromFn.{length-map-range_with_len, map-range_with_len_more}
 use Rattle.std.specs.Fmt.{decimal}
 use Rattle.std.specs.List.{flat_map}
-use Rattle.yw_base.specs.Identity.{dotted}
+use Rattle.yw_base.specs.Identity.{dotted, child}
 use Rattle.yw_lines.specs.EventTexts.{item_idents, listed}
-use Rattle.yw_state.specs.Identity.{child}
 use Rattle.yw_wire.specs.Listed.{comma_if}
 
 listed_behind : (first : List ℕ) (texts : List (List ℕ)) (text : List ℕ) → listed ((first ∷ texts) ++ text ∷ []) ≡ (listed (first ∷ texts) ++ 44 ∷ []) ++ text

@@ -1,12 +1,11 @@
 // How a reply shows an event: words with a blank between each two, written one behind the other into a text.
 ghost use Rattle.std.specs.Prelude.{◌≡◌, [], ◌∷◌, ◌++◌, codes, map, OnOk, string_bytes};
 ghost use Rattle.std.specs.Fmt.{decimal};
-ghost use Rattle.yw_base.specs.Identity.{dotted};
+ghost use Rattle.yw_base.specs.Identity.{dotted, child};
 ghost use Rattle.yw_spec.specs.Net.{place_text};
 ghost use Rattle.yw_lines.specs.EventTexts.{item_idents, listed, spaced, step_text, words_text};
 ghost use Rattle.yw_lines.specs.Kinds.{kind_text};
 ghost use Rattle.yw_lines.specs.Primitives.{compensate_front, primitive_text};
-ghost use Rattle.yw_state.specs.Identity.{child};
 ghost use Rattle.yw_wire.specs.Listed.{comma_if};
 
 use std::alloc::AllocError;

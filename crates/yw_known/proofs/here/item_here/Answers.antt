@@ -3,7 +3,7 @@ use Rattle.yw_known.proofs.Items.{above_identity, item_is_here, no_item_here, ta
 use Rattle.yw_known.proofs.Standing.{net_is_here, numbered}
 use Rattle.yw_known.proofs.here.item_here.Goals as goal
 use Rattle.yw_known.specs.declared.here.NetHere.{NetHere}
-use Rattle.yw_state.specs.Identity.{parent}
+use Rattle.yw_base.specs.Identity.{parent}
 
 pub returns-in_err-item : goal.returns-in_err-item
 returns-in_err-item c = λ s h. rw c.from_residual.ensures (no_item_here c.args.known.now c.args.forest.now s h c.args.id.now (c.in_err-item.ensures h.boxed))

@@ -1,9 +1,8 @@
 use Rattle.std.proofs.Common.{ap, length, subst, sym, take, true, ◌-◌, ◌∙◌, ◌≡◌}
-use Rattle.yw_base.specs.Identity.{is_identity}
+use Rattle.yw_base.specs.Identity.{is_identity, parent}
 use Rattle.yw_nest.proofs.Outer.{parent_identity}
 use Rattle.yw_nest.proofs.nets.parent.Goals as goal
-use Rattle.yw_state.specs.Identity.{parent}
-use Rattle.yw_tree.proofs.Parents.{identity_long, parent_is}
+use Rattle.yw_base.proofs.Parents.{identity_long, parent_is}
 
 pub unreachable-requires : goal.unreachable-requires
 unreachable-requires c =

@@ -5,7 +5,7 @@ use Rattle.yw_state.proofs.Tests.{nowhere}
 use Rattle.yw_steps.proofs.AddLaw.{adds_element}
 use Rattle.yw_steps.proofs.adding.come_more_at.Goals as goal
 use Rattle.yw_tree.proofs.NetAt.{net_here}
-use Rattle.yw_tree.proofs.Parents.{identity_long}
+use Rattle.yw_base.proofs.Parents.{identity_long}
 use Rattle.yw_tree.specs.Places.{net_at}
 
 pub unreachable-requires : goal.unreachable-requires

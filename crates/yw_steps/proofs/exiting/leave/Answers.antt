@@ -5,7 +5,7 @@ use Rattle.yw_steps.specs.Exits.{NetLeaves}
 use Rattle.yw_task.specs.Leaving.{Exits, SplitsTo}
 use Rattle.yw_tree.proofs.NetAt.{net_here}
 use Rattle.yw_tree.proofs.NetBack.{net_back}
-use Rattle.yw_tree.proofs.Parents.{identity_long}
+use Rattle.yw_base.proofs.Parents.{identity_long}
 use Rattle.yw_tree.specs.Places.{net_at, placed_net}
 
 pub exit-requires-clause-boxed : goal.exit-requires-clause-boxed

@@ -1,5 +1,6 @@
 use Rattle.std.proofs.Common.{◌≡◌, None, sym, ap, subst, ◌∙◌}
-use Rattle.yw_state.specs.Identity.{case_ident, case_number}
+use Rattle.yw_state.specs.Identity.{case_ident}
+use Rattle.yw_base.specs.Identity.{case_number}
 use Rattle.yw_tree.specs.Cases.{case_at}
 use Rattle.yw_tree.specs.Forest.{IsForest}
 use Rattle.yw_tree.specs.declared.Forest.{Forest}

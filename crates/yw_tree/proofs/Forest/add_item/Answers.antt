@@ -5,7 +5,8 @@ use Rattle.yw_tree.specs.Places.{net_at, placed_net}
 use Rattle.yw_tree.specs.declared.Node.{out-Node}
 use Rattle.yw_tree.proofs.ItemComes.{comes_last, item_comes}
 use Rattle.yw_tree.proofs.OnResults.{on_ok}
-use Rattle.yw_tree.proofs.Parents.{identity_long, identity_short}
+use Rattle.yw_tree.proofs.Parents.{identity_short}
+use Rattle.yw_base.proofs.Parents.{identity_long}
 use Rattle.yw_tree.proofs.Forest.add_item.Goals as goal
 
 pub add_item-requires-clause-boxed : goal.add_item-requires-clause-boxed

@@ -1,5 +1,5 @@
 use Rattle.yw_tree.proofs.BaredBut.{item_there, not_a_case}
-use Rattle.yw_tree.proofs.Parents.{identity_long}
+use Rattle.yw_base.proofs.Parents.{identity_long}
 use Rattle.yw_tree.proofs.Forest.bare_but_run.Goals as goal
 
 pub bare_but-requires-clause-long : goal.bare_but-requires-clause-long

@@ -1,7 +1,7 @@
 use Rattle.std.proofs.Common.{◌≡◌, [], Some, sym}
 use Rattle.yw_tree.specs.Places.{run_of}
 use Rattle.yw_tree.proofs.Bared.{run_bared}
-use Rattle.yw_tree.proofs.Parents.{identity_long}
+use Rattle.yw_base.proofs.Parents.{identity_long}
 use Rattle.yw_tree.proofs.Forest.bare_run.Goals as goal
 
 pub returns-in-Some-clause-sites : goal.returns-in-Some-clause-sites

@@ -5,7 +5,8 @@ use Rattle.yw_state.specs.Map.{get}
 use Rattle.yw_state.specs.State.{drop}
 use Rattle.yw_tree.specs.Forest.{sites_of}
 use Rattle.yw_tree.specs.Places.{something_stands}
-use Rattle.yw_tree.proofs.Parents.{identity_long, identity_short}
+use Rattle.yw_tree.proofs.Parents.{identity_short}
+use Rattle.yw_base.proofs.Parents.{identity_long}
 use Rattle.yw_tree.proofs.Rooted.{nothing_dropped}
 use Rattle.yw_tree.proofs.Stood.{found_in_map, something_found}
 use Rattle.yw_tree.proofs.Forest.cut.Goals as goal

@@ -2,7 +2,8 @@ use Rattle.std.proofs.Common.{ap, arith, length, sym, ◌∙◌, ◌≤◌}
 use Rattle.std.specs.Prelude.{option_map}
 use Rattle.yw_tree.specs.Spots.{part_at, part_site}
 use Rattle.yw_tree.proofs.FindLaw.{find_is}
-use Rattle.yw_tree.proofs.Parents.{identity_long, identity_short}
+use Rattle.yw_tree.proofs.Parents.{identity_short}
+use Rattle.yw_base.proofs.Parents.{identity_long}
 use Rattle.yw_tree.proofs.Forest.find.Goals as goal
 
 pub returns-clause-site : goal.returns-clause-site

@@ -2,7 +2,8 @@ use Rattle.std.proofs.Common.{ap, sym, ◌∙◌}
 use Rattle.std.specs.Prelude.{is_some}
 use Rattle.yw_tree.specs.Places.{hung_at}
 use Rattle.yw_tree.proofs.BusyLaw.{busy_is}
-use Rattle.yw_tree.proofs.Parents.{identity_long, identity_short}
+use Rattle.yw_tree.proofs.Parents.{identity_short}
+use Rattle.yw_base.proofs.Parents.{identity_long}
 use Rattle.yw_tree.proofs.Forest.is_busy.Goals as goal
 
 pub returns-clause-busy : goal.returns-clause-busy

@@ -1,6 +1,7 @@
 use Rattle.std.proofs.Common.{None, Some, arith, length, subst, ◌≡◌, ◌≤◌}
 use Rattle.std.specs.Prelude.{MatchOption}
-use Rattle.yw_state.specs.Identity.{Ident, parent}
+use Rattle.yw_state.specs.Identity.{Ident}
+use Rattle.yw_base.specs.Identity.{parent}
 use Rattle.yw_tree.proofs.Forest.item_with_net.Goals as goal
 use Rattle.yw_tree.proofs.Parents.{identity_short}
 use Rattle.yw_tree.specs.Forest.{item_of}

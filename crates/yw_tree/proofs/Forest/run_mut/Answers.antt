@@ -2,7 +2,7 @@ use Rattle.std.proofs.Common.{ap, refl, ◌∙◌}
 use Rattle.std.specs.Option.{ghost_name_of}
 use Rattle.yw_tree.specs.Places.{placed_run, run_of}
 use Rattle.yw_tree.proofs.Lent.{run_lent}
-use Rattle.yw_tree.proofs.Parents.{identity_long}
+use Rattle.yw_base.proofs.Parents.{identity_long}
 use Rattle.yw_tree.proofs.Same.{same_loan}
 use Rattle.yw_tree.proofs.Forest.run_mut.Goals as goal
 

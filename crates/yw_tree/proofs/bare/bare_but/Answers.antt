@@ -1,5 +1,5 @@
 use Rattle.std.proofs.Common.{◌≡◌, [], Some, ap, subst, sym, ◌∙◌}
-use Rattle.yw_state.specs.Identity.{parent}
+use Rattle.yw_base.specs.Identity.{parent}
 use Rattle.yw_tree.specs.Becomes.{BaresBut}
 use Rattle.yw_tree.specs.Forest.{IsForest, item_of, item_replaced}
 use Rattle.yw_tree.proofs.BaredBut.{bared_but_run}

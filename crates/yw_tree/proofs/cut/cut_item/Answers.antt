@@ -1,7 +1,7 @@
 use Rattle.std.proofs.Common.{◌≡◌, ℕ, List, [], ◌∷◌, Some, true, false, subst, sym, ap, ◌∙◌}
 use Rattle.yw_sites.proofs.OnTests.{of_false, of_true, on_false, on_true}
 use Rattle.yw_sites.proofs.Prefix.{child_length}
-use Rattle.yw_state.specs.Identity.{parent}
+use Rattle.yw_base.specs.Identity.{parent}
 use Rattle.yw_state.specs.State.{drop}
 use Rattle.yw_state.proofs.Tests.{by_test}
 use Rattle.yw_tree.specs.Forest.{IsForest, sites_of}

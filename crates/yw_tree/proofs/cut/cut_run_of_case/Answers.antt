@@ -1,7 +1,7 @@
 use Rattle.std.proofs.Common.{◌≡◌, ℕ, List, [], None, Some, true, false, subst, sym, ap, ◌∙◌}
 use Rattle.std.specs.Prelude.{option_and_then}
 use Rattle.yw_sites.proofs.OnTests.{of_false, of_true, on_false, on_true}
-use Rattle.yw_state.specs.Identity.{case_number}
+use Rattle.yw_base.specs.Identity.{case_number}
 use Rattle.yw_state.proofs.Tests.{by_test}
 use Rattle.yw_tree.specs.Cases.{case_at, with_case}
 use Rattle.yw_tree.specs.Forest.{IsForest, sites_of}

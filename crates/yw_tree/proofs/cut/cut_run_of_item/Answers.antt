@@ -1,7 +1,7 @@
 use Rattle.std.proofs.Common.{◌≡◌, ℕ, List, [], None, Some, true, false, subst, sym, ap, ◌∙◌}
 use Rattle.std.specs.Prelude.{option_and_then}
 use Rattle.yw_sites.proofs.OnTests.{of_false, of_true, on_false, on_true}
-use Rattle.yw_state.specs.Identity.{parent}
+use Rattle.yw_base.specs.Identity.{parent}
 use Rattle.yw_state.proofs.Tests.{by_test}
 use Rattle.yw_tree.specs.Forest.{IsForest, item_of, item_replaced, sites_of}
 use Rattle.yw_tree.specs.Places.{run_of_item}

@@ -1,6 +1,6 @@
 use Rattle.std.proofs.Common.{◌≡◌, None, Some, sym, ap, ◌∙◌}
 use Rattle.std.specs.Prelude.{option_and_then}
-use Rattle.yw_state.specs.Identity.{case_number}
+use Rattle.yw_base.specs.Identity.{case_number}
 use Rattle.yw_tree.specs.Cases.{case_at}
 use Rattle.yw_tree.specs.Forest.{item_of, item_of_case, levels}
 use Rattle.yw_tree.specs.Ways.{case_inner, item_in}

@@ -1,6 +1,7 @@
 use Rattle.std.proofs.Common.{None, Some, ap, false, refl, subst, sym, ℕ, ◌∙◌, ◌≡◌}
 use Rattle.std.specs.Prelude.{IsSome}
-use Rattle.yw_state.specs.Identity.{is_case_ident, parent}
+use Rattle.yw_state.specs.Identity.{is_case_ident}
+use Rattle.yw_base.specs.Identity.{parent}
 use Rattle.yw_tree.proofs.ItemWith.{item_at_its_place, none_at_case, none_without_net, none_without_place}
 use Rattle.yw_tree.proofs.Parents.{parent_there}
 use Rattle.yw_tree.proofs.Split.{place_there}

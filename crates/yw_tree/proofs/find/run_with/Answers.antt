@@ -1,6 +1,7 @@
 use Rattle.std.proofs.Common.{◌≡◌, None, Some, false, true, sym, ap, ◌∙◌}
 use Rattle.std.specs.Prelude.{option_and_then}
-use Rattle.yw_state.specs.Identity.{case_number, is_case_ident, parent}
+use Rattle.yw_state.specs.Identity.{is_case_ident}
+use Rattle.yw_base.specs.Identity.{case_number, parent}
 use Rattle.yw_tree.specs.Cases.{case_at}
 use Rattle.yw_tree.specs.Forest.{item_of}
 use Rattle.yw_tree.specs.Places.{run_of, run_of_case, run_of_item}

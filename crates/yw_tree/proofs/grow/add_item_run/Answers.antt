@@ -1,7 +1,8 @@
 use Rattle.std.proofs.Common.{◌≡◌, [], Some, sym}
 use Rattle.yw_tree.specs.Forest.{item_of}
 use Rattle.yw_tree.proofs.ForestLaw.{identity_in_case}
-use Rattle.yw_tree.proofs.Parents.{identity_long, identity_short}
+use Rattle.yw_tree.proofs.Parents.{identity_short}
+use Rattle.yw_base.proofs.Parents.{identity_long}
 use Rattle.yw_tree.proofs.RunComes.{item_idle, run_comes_to_item}
 use Rattle.yw_tree.proofs.grow.add_item_run.Goals as goal
 

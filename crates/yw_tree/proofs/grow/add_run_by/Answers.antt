@@ -1,6 +1,7 @@
 use Rattle.std.proofs.Common.{cond, false, subst, sym, true, ◌∙◌, ◌≡◌}
 use Rattle.std.specs.Prelude.{IsTrue, is_some}
-use Rattle.yw_state.specs.Identity.{case_number, is_case_ident}
+use Rattle.yw_state.specs.Identity.{is_case_ident}
+use Rattle.yw_base.specs.Identity.{case_number}
 use Rattle.yw_tree.specs.Cases.{case_at}
 use Rattle.yw_tree.specs.Forest.{item_of}
 use Rattle.yw_tree.proofs.grow.add_run_by.Goals as goal

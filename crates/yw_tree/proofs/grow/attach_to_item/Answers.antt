@@ -5,7 +5,7 @@ use Rattle.yw_tree.specs.declared.Node.{out-Node}
 use Rattle.yw_tree.proofs.Attached.{item_attached, no_net}
 use Rattle.yw_tree.proofs.ForestLaw.{identity_in_case}
 use Rattle.yw_tree.proofs.Lent.{item_lent}
-use Rattle.yw_tree.proofs.Parents.{identity_long}
+use Rattle.yw_base.proofs.Parents.{identity_long}
 use Rattle.yw_tree.proofs.grow.attach_to_item.Goals as goal
 
 pub item_by-requires : goal.item_by-requires

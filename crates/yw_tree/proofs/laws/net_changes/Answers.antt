@@ -1,5 +1,5 @@
 use Rattle.yw_tree.proofs.NetAt.{net_here}
-use Rattle.yw_tree.proofs.Parents.{identity_long}
+use Rattle.yw_base.proofs.Parents.{identity_long}
 use Rattle.yw_tree.proofs.laws.net_changes.Goals as goal
 
 pub returns : goal.returns

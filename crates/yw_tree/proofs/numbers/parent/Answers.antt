@@ -1,7 +1,7 @@
 use Rattle.std.proofs.Common.{◌≡◌, ◌-◌, take, length, arith}
 use Rattle.std.proofs.lemmas.Grind.{common_steps}
-use Rattle.yw_state.specs.Identity.{parent}
-use Rattle.yw_tree.proofs.Parents.{parent_is}
+use Rattle.yw_base.specs.Identity.{parent}
+use Rattle.yw_base.proofs.Parents.{parent_is}
 use Rattle.yw_tree.proofs.numbers.parent.Goals as goal
 
 pub returns : goal.returns

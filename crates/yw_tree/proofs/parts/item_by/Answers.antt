@@ -1,7 +1,7 @@
 use Rattle.std.proofs.Common.{◌≡◌, None, Some, refl, sym, ap, ◌∙◌, inr}
 use Rattle.std.specs.Prelude.{option_and_then}
 use Rattle.std.specs.Option.{ghost_name_of}
-use Rattle.yw_state.specs.Identity.{case_number}
+use Rattle.yw_base.specs.Identity.{case_number}
 use Rattle.yw_tree.specs.Cases.{case_at, with_case}
 use Rattle.yw_tree.specs.Forest.{item_of, item_of_case, levels, over_case_inner, item_replaced_at}
 use Rattle.yw_tree.specs.Ways.{case_inner, item_in, placed_in, with_case_inner}

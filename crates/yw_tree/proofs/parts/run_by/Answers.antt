@@ -1,7 +1,8 @@
 use Rattle.std.proofs.Common.{◌≡◌, Some, false, true, sym, ap, ◌∙◌}
 use Rattle.std.specs.Option.{ghost_name_of}
 use Rattle.std.specs.Prelude.{option_and_then}
-use Rattle.yw_state.specs.Identity.{case_number, is_case_ident, parent}
+use Rattle.yw_state.specs.Identity.{is_case_ident}
+use Rattle.yw_base.specs.Identity.{case_number, parent}
 use Rattle.yw_tree.specs.Cases.{case_at, with_case}
 use Rattle.yw_tree.specs.Forest.{item_of, item_replaced}
 use Rattle.yw_tree.specs.Places.{case_with_run, item_with_run, over_case_run, over_item_run, run_of_case, run_of_item}

@@ -1,6 +1,6 @@
 use Rattle.std.proofs.Common.{ap, subst, sym, ◌∙◌}
 use Rattle.yw_enabled.specs.Items.{event_of}
-use Rattle.yw_state.specs.Identity.{case_number}
+use Rattle.yw_base.specs.Identity.{case_number}
 use Rattle.yw_walk.proofs.Stepping.{goes, stays}
 use Rattle.yw_walk.proofs.items.step_at.Goals as goal
 use Rattle.yw_walk.specs.Finds.{ComesPlainly}

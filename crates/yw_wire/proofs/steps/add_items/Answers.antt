@@ -1,6 +1,5 @@
 use Rattle.std.proofs.Common.{◌≡◌, ◌+◌, ◌++◌, ap, arith, string_bytes, ◌∙◌}
-use Rattle.yw_base.specs.Identity.{dotted}
-use Rattle.yw_state.specs.Identity.{child}
+use Rattle.yw_base.specs.Identity.{dotted, child}
 use Rattle.yw_lines.specs.EventTexts.{item_idents}
 use Rattle.yw_wire.proofs.StepLemmas.{goes_on, items_more, length-item_idents}
 use Rattle.yw_wire.proofs.steps.add_items.Goals as goal

@@ -1,7 +1,7 @@
 use Rattle.std.proofs.Common.{◌+◌, ◌<◌, ◌^◌, arith}
 use Rattle.yw_loose.proofs.Moving.{no_identity, too_large}
 use Rattle.yw_loose.proofs.loose.Loose.add_item.Goals as goal
-use Rattle.yw_state.specs.Identity.{child}
+use Rattle.yw_base.specs.Identity.{child}
 
 pub returns-in-None : goal.returns-in-None
 returns-in-None c =

@@ -1,4 +1,4 @@
-use Rattle.yw_known.specs.Names.{names_of}
+use Rattle.yw_library.specs.Names.{names_of}
 use Rattle.yw_loose.proofs.loose.Loose.next_event.Goals as goal
 
 pub returns-in_err-know-clause-rested : goal.returns-in_err-know-clause-rested

@@ -1,6 +1,6 @@
 -- The state that what is known and a forest stand for.
 use Rattle.std.specs.Prelude.{◌≡◌}
-use Rattle.yw_known.specs.Names.{names_of}
+use Rattle.yw_library.specs.Names.{names_of}
 use Rattle.yw_library.specs.Holdings.{Holdings, with_library}
 use Rattle.yw_model.specs.Texts.{reader}
 use Rattle.yw_state.specs.State.{State}
