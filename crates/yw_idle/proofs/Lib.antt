@@ -1,0 +1,11 @@
+pub mod Among
+pub mod Goes
+pub mod Held
+pub mod NetAbove
+pub mod Parts
+pub mod Resting
+pub mod Runs
+pub mod Same
+pub mod Sites
+pub mod Staying
+pub mod Warm

@@ -1,0 +1,11 @@
+mod Candidates
+mod Entry
+mod Exits
+mod Follows
+mod Gone
+mod Holding
+mod Lacking
+mod Order
+mod Rules
+mod Same
+mod Splits
