@@ -1,9 +1,9 @@
 -- As many items are done behind an event as before, or one more of the task whose item it completes.
 use Rattle.std.specs.List.{list_any}
 use Rattle.std.specs.Ordering.{eq_by_cmp}
-use Rattle.std.specs.Prelude.{◌≡◌, ◌+◌, ◌==◌, ◌&&◌, suc, ℕ, true, false, cond, [], Option, Some, None, is_some, option_and_then, option_map, refl, unwrap_or}
+use Rattle.std.specs.Prelude.{◌≡◌, ◌+◌, ◌==◌, ◌&&◌, suc, ℕ, Bool, true, false, cond, [], Option, Some, None, is_some, option_and_then, option_map, refl, unwrap_or, if◌then◌else◌}
 use Rattle.std.proofs.Common.{add-zero, inl, inr, sym, ◌∙◌, ap, arith, subst}
-use Rattle.std.proofs.lemmas.Bool.{and_from, and_parts, false_from_ne_true}
+use Rattle.std.proofs.lemmas.Bool.{and_parts, false_from_ne_true}
 use Rattle.yw_moved.proofs.Above.{made_undrawn}
 use Rattle.yw_moved.proofs.Parents.{is_same, same_itself}
 use Rattle.yw_moved.proofs.Sites.{added-same, enter-same, left_alone}
@@ -12,12 +12,12 @@ use Rattle.yw_plain.proofs.Keeping.{event_keeps}
 use Rattle.yw_plain.proofs.Words.{words}
 use Rattle.yw_plain.specs.Plain.{IsPlain, is_plain_event}
 use Rattle.yw_progress.proofs.Changing.{bared-item, completed-item, exit-item, net-item, own-item, site-item, some-item, started-item}
-use Rattle.yw_progress.proofs.Counting.{as_many, by_part, done_item, done_part, done_there, is_finished, not_below, not_finished, one_more}
+use Rattle.yw_progress.proofs.Counting.{CountsBy, as_many, by_part, done_item, done_part, done_there, is_finished, not_below, not_finished, one_more}
 use Rattle.yw_progress.proofs.Leaving.{none_or_same}
 use Rattle.yw_progress.proofs.Staying.{anew_or_left, child_stays, made_lacks, neither, net_of_task, not_launched, stood, undrawn_gone}
-use Rattle.yw_progress.specs.Progress.{CountsOn, completed_by, completes, done_in, is_anew, is_left}
+use Rattle.yw_progress.specs.Progress.{CountsBehind, CountsOn, completed_by, completes, completes_done, done_in, is_anew, is_done_of, is_left}
 use Rattle.yw_state.proofs.MapLemmas.{by_name, tied_self}
-use Rattle.yw_state.proofs.Tests.{and_left, and_right, by_test, map_some, never, nowhere, some_same, then_some, there_and}
+use Rattle.yw_state.proofs.Tests.{and_left, and_right, by_option, by_test, map_some, never, nowhere, some_same, then_some, there_and}
 use Rattle.yw_state.specs.After.{begun, change, complete, completed, end_net, enter, exit, new_item, start_sub, take, where_some, with_item, with_sites}
 use Rattle.yw_state.specs.Allowed.{Allowed, allows, place_numbers}
 use Rattle.yw_state.specs.ByName.{made_by_child}
@@ -29,7 +29,7 @@ use Rattle.yw_state.specs.Options.{is_some_and}
 use Rattle.yw_state.specs.State.{State, ItemAt, ItemPart, TaskAt, bare, item_at, item_part, net_at, net_part, task_at, task_in}
 use Rattle.yw_state.specs.Texts.{Reader, Said}
 use Rattle.yw_state.specs.Well.{IsWell}
-use Rattle.yw_state.specs.Words.{is_completed, is_executing, is_ready}
+use Rattle.yw_state.specs.Words.{done, is_completed, is_executing, is_ready}
 use Rattle.yw_state.specs.declared.event.Event.{Event}
 use Rattle.yw_state.specs.declared.event.Event.TheVariants as events
 use Rattle.yw_state.specs.declared.part.Stage.{Stage}
@@ -118,170 +118,240 @@ own_completes s (events.CompleteEmpty l) said j ok at =
     })
 own_completes s e said j ok at = nowhere at
 
-module _ {reader : Reader} (s : State) (e : Event) (said : Said) (i : Ident) (well : IsWell reader s) (plain : IsPlain s) (is : is_plain_event e ≡ true)
-    (ok : Allowed s e said) (has : is_some (net_part (after s e said) i) ≡ true) (old : anew_or_left e i ≡ false) (k : ℕ) where
+module _ {reader : Reader} (s : State) (e : Event) (said : Said) (i : Ident) (well : IsWell reader s) (free : Ident → Bool)
+    (now : CountsBy free (after s e said) i) (is : is_plain_event e ≡ true) (ok : Allowed s e said)
+    (has : is_some (net_part (after s e said) i) ≡ true) (old : anew_or_left e i ≡ false) (k : ℕ) where
   abbrev t : State
   t = after s e said
 
   -- the same is done at q
   abbrev SameAt : Ident → Type 0
-  SameAt q = done_there i k q t.sites ≡ done_there i k q s.sites
+  SameAt q = done_there free i k q t.sites ≡ done_there free i k q s.sites
 
   by_item : (q : Ident) → item_part t q ≡ item_part s q → SameAt q
-  by_item q same = by_part i k q (get t.sites q) ∙ ap (done_part i k q) same ∙ sym (by_part i k q (get s.sites q))
+  by_item q same = by_part free i k q (get t.sites q) ∙ ap (done_part free i k q) same ∙ sym (by_part free i k q (get s.sites q))
 
   -- nothing is done at it, before and behind
   abbrev Undone : State → Ident → Type 0
-  Undone u q = done_part i k q (item_part u q) ≡ None
+  Undone u q = done_part free i k q (item_part u q) ≡ None
 
   undone : (q : Ident) → Undone t q → Undone s q → SameAt q
-  undone q now before = by_part i k q (get t.sites q) ∙ now ∙ sym (by_part i k q (get s.sites q) ∙ before)
+  undone q now before = by_part free i k q (get t.sites q) ∙ now ∙ sym (by_part free i k q (get s.sites q) ∙ before)
 
   outside : (q : Ident) → is_child q i ≡ false → SameAt q
-  outside q out = undone q (not_below i k q (item_part t q) out) (not_below i k q (item_part s q) out)
+  outside q out = undone q (not_below free i k q (item_part t q) out) (not_below free i k q (item_part s q) out)
 
   -- an item that comes isn't done
-  new_undone : (q n : _) (given : _) (due : _) → done_item i k q (new_item n given due) ≡ None
-  new_undone q n given due = not_finished i k q (record { task = n; stage = Ready; given = given; made = []; who = None }) refl
+  new_undone : (q n : _) (given : _) (due : _) → done_item free i k q (new_item n given due) ≡ None
+  new_undone q n given due = not_finished free i k q (record { task = n; stage = Ready; given = given; made = []; who = None }) refl
 
   made_same : (q : Ident) → is_child q i ≡ true → list_any (same q) (made_by e) ≡ true → SameAt q
   made_same q below made =
-      made_lacks (done_item i k q) (new_undone q) q s e said well.numbers ok (not_launched s e said i well is ok has old q below made) made
-      ∙ sym (ap (option_and_then (done_item i k q)) (undrawn_gone s q well.numbers (made_undrawn s e said q ok made)))
+      made_lacks (done_item free i k q) (new_undone q) q s e said well.numbers ok (not_launched s e said i well is ok has old q below made) made
+      ∙ sym (ap (option_and_then (done_item free i k q)) (undrawn_gone s q well.numbers (made_undrawn s e said q ok made)))
 
   elsewhere : (q : Ident) → is_child q i ≡ true → is_some_and (done_at e) (same q) ≡ false → SameAt q
   elsewhere q below other =
       by_test (list_any (same q) (made_by e))
       (λ made. made_same q below made)
-      (λ new. ap (option_and_then (done_item i k q)) (left_alone q s e said is ok (child_stays s e said i well is ok has old q below) other new))
+      (λ new. ap (option_and_then (done_item free i k q)) (left_alone q s e said is ok (child_stays s e said i well is ok has old q below) other new))
 
   -- ---- where the event is done
 
-  begun_undone : (q : Ident) (who : _) (x : ItemPart) → done_part i k q (Some (begun who x)) ≡ None
-  begun_undone q who x = not_finished i k q (begun who x) refl
+  begun_undone : (q : Ident) (who : _) (x : ItemPart) → done_part free i k q (Some (begun who x)) ≡ None
+  begun_undone q who x = not_finished free i k q (begun who x) refl
 
   ready_undone : (q : Ident) (x : ItemAt) → item_at s q ≡ Some x → is_ready x.part.stage ≡ true → Undone s q
-  ready_undone q x found ready = ap (done_part i k q) (part_of s q x found) ∙ not_finished i k q x.part (ready_on x.part.stage ready)
+  ready_undone q x found ready = ap (done_part free i k q) (part_of s q x found) ∙ not_finished free i k q x.part (ready_on x.part.stage ready)
 
-  completed_same : (j : Ident) → completed_by e ≡ Some j → completes t e i k ≡ false → SameAt j
+  -- the item that is completed counts by whether it is done behind the event
+  its_count : (j : Ident) (own : Completes s t j) → is_child j i ≡ true → done t j own.behind ≡ free j
+  its_count j own below = now j own.behind below own.stands ∙ ap (λ b. b && free j) own.over
+
+  completed_same : (j : Ident) → completed_by e ≡ Some j → completes_done t e i k ≡ false → SameAt j
   completed_same j at none =
       let own = own_completes s e said j ok at in
-      let apart : (is_child j i && own.behind.task == k) ≡ false =
-      ap (λ o. is_child j i && is_some_and o (λ (x : ItemPart). x.task == k)) (sym own.stands)
-      ∙ ap (λ o. is_some_and o (λ l. is_child l i && is_some_and (item_part t l) (λ (x : ItemPart). x.task == k))) (sym at) ∙ none in
       undone j
-      (ap (done_part i k j) own.stands ∙ is_finished i k j own.behind own.over ∙ ap (λ b. cond b (Some own.behind) None) apart)
-      (ap (done_part i k j) own.stood ∙ not_finished i k j own.before own.at_work)
+      (ap (done_part free i k j) own.stands
+      ∙ by_test (is_child j i)
+      (λ below.
+      let not_done : (is_child j i && own.behind.task == k && done t j own.behind) ≡ false =
+      ap (λ o. is_some_and o (λ (x : ItemPart). is_child j i && x.task == k && done t j x)) (sym own.stands)
+      ∙ ap (λ o. is_some_and o (λ l. is_some_and (item_part t l) (λ (x : ItemPart). is_child l i && x.task == k && done t l x))) (sym at) ∙ none in
+      is_finished free i k j own.behind own.over
+      ∙ ap (λ b. if b then Some own.behind else None) (ap (λ b. is_child j i && own.behind.task == k && b) (sym (its_count j own below)) ∙ not_done))
+      (λ out. not_below free i k j (Some own.behind) out))
+      (ap (done_part free i k j) own.stood ∙ not_finished free i k j own.before own.at_work)
 
 -- the same is done where an event is done that completes nothing, and makes nothing there
-module _ {reader : Reader} (s : State) (said : Said) (i : Ident) (well : IsWell reader s) (plain : IsPlain s) (k : ℕ) where
-  own_same : (e : Event) (is : is_plain_event e ≡ true) (ok : Allowed s e said) (has : is_some (net_part (after s e said) i) ≡ true) (old : anew_or_left e i ≡ false)
-      (q : Ident) → list_any (same q) (made_by e) ≡ false → is_some_and (done_at e) (same q) ≡ true → completes (after s e said) e i k ≡ false
-      → SameAt s e said i well plain is ok has old k q
+module _ {reader : Reader} (s : State) (said : Said) (i : Ident) (well : IsWell reader s) (free : Ident → Bool) (k : ℕ) where
+  own_same : (e : Event) (now : CountsBy free (after s e said) i) (is : is_plain_event e ≡ true) (ok : Allowed s e said)
+      (has : is_some (net_part (after s e said) i) ≡ true) (old : anew_or_left e i ≡ false) (q : Ident)
+      → list_any (same q) (made_by e) ≡ false → is_some_and (done_at e) (same q) ≡ true → completes_done (after s e said) e i k ≡ false
+      → SameAt s e said i well free now is ok has old k q
   unfolding after allows
-  own_same (events.Enter j name places first count) is ok has old q new here none =
+  own_same (events.Enter j name places first count) now is ok has old q new here none =
       let (x, found, may) = there_and (task_at s j name) _ (and_right _ _ ok.0) in
       let many = and_left _ _ (and_right _ _ (and_left _ _ may)) in
-      by_item s (events.Enter j name places first count) said i well plain is ok has old k q
+      by_item s (events.Enter j name places first count) said i well free now is ok has old k q
       (ap (λ o. item_part (where_some o s (enter s j places first)) q) found
       ∙ site-item q (take s j (unwrap_or (place_numbers x.within.net places) [])) (enter s j places first x) (enter-same q s j places first count x many new)
       ∙ net-item q s j _)
-  own_same (events.Add j name value n) is ok has old q new here none =
-      by_item s (events.Add j name value n) said i well plain is ok has old k q
+  own_same (events.Add j name value n) now is ok has old q new here none =
+      by_item s (events.Add j name value n) said i well free now is ok has old k q
       (site-item q s (after s (events.Add j name value n) said) (added-same q s j name value n new))
-  own_same (events.Exit j name places) is ok has old q new here none =
-      by_item s (events.Exit j name places) said i well plain is ok has old k q
+  own_same (events.Exit j name places) now is ok has old q new here none =
+      by_item s (events.Exit j name places) said i well free now is ok has old k q
       (subst (λ l. item_part (where_some (task_at s l name) s (exit s l places)) q ≡ item_part s q) (is_same q j here)
       (some-item q (λ o. o ≡ item_part s q) (task_at s q name) s (exit s q places) refl (λ x. exit-item q s places x)))
-  own_same (events.Start j who) is ok has old q new here none =
+  own_same (events.Start j who) now is ok has old q new here none =
       let (x, found, may) = there_and (item_at s j) _ (and_right _ _ ok.0) in
       let at : q ≡ j = is_same q j here in
-      undone s (events.Start j who) said i well plain is ok has old k q
-      (ap (λ l. done_part i k q (item_part (change s l (with_item (begun (Some who)))) q)) (sym at)
-      ∙ ap (done_part i k q) (own-item q s (begun (Some who)) (with_item (begun (Some who))) (λ y. refl) ∙ ap (option_map (begun (Some who))) (ap (item_part s) at ∙ part_of s j x found))
-      ∙ begun_undone s (events.Start j who) said i well plain is ok has old k q (Some who) x.part)
-      (ready_undone s (events.Start j who) said i well plain is ok has old k q x (ap (item_at s) at ∙ found) (and_left _ _ may))
-  own_same (events.StartSub j) is ok has old q new here none =
+      undone s (events.Start j who) said i well free now is ok has old k q
+      (ap (λ l. done_part free i k q (item_part (change s l (with_item (begun (Some who)))) q)) (sym at)
+      ∙ ap (done_part free i k q) (own-item q s (begun (Some who)) (with_item (begun (Some who))) (λ y. refl)
+      ∙ ap (option_map (begun (Some who))) (ap (item_part s) at ∙ part_of s j x found))
+      ∙ begun_undone s (events.Start j who) said i well free now is ok has old k q (Some who) x.part)
+      (ready_undone s (events.Start j who) said i well free now is ok has old k q x (ap (item_at s) at ∙ found) (and_left _ _ may))
+  own_same (events.StartSub j) now is ok has old q new here none =
       let (x, found, may) = there_and (item_at s j) _ (and_right _ _ ok.0) in
       let at : q ≡ j = is_same q j here in
-      let before = ready_undone s (events.StartSub j) said i well plain is ok has old k q x (ap (item_at s) at ∙ found) (and_left _ _ may) in
-      let Undone : Option ItemPart → Type 0 = λ o. done_part i k q o ≡ None in
-      undone s (events.StartSub j) said i well plain is ok has old k q
-      (ap (λ l. done_part i k q (item_part (where_some (item_at s l) s (start_sub s l)) q)) (sym at)
+      let before = ready_undone s (events.StartSub j) said i well free now is ok has old k q x (ap (item_at s) at ∙ found) (and_left _ _ may) in
+      let Undone : Option ItemPart → Type 0 = λ o. done_part free i k q o ≡ None in
+      undone s (events.StartSub j) said i well free now is ok has old k q
+      (ap (λ l. done_part free i k q (item_part (where_some (item_at s l) s (start_sub s l)) q)) (sym at)
       ∙ some-item q Undone (item_at s q) s (start_sub s q) before (λ y.
       started-item q Undone s y before
-      (ap (λ o. done_part i k q (option_map (begun y.part.who) o)) (ap (item_part s) at ∙ part_of s j x found)
-      ∙ begun_undone s (events.StartSub j) said i well plain is ok has old k q y.part.who x.part)))
+      (ap (λ o. done_part free i k q (option_map (begun y.part.who) o)) (ap (item_part s) at ∙ part_of s j x found)
+      ∙ begun_undone s (events.StartSub j) said i well free now is ok has old k q y.part.who x.part)))
       before
-  own_same (events.Complete j out) is ok has old q new here none =
-      subst (SameAt s (events.Complete j out) said i well plain is ok has old k) (sym (is_same q j here)) (completed_same s (events.Complete j out) said i well plain is ok has old k j refl none)
-  own_same (events.CompleteSub j) is ok has old q new here none =
-      subst (SameAt s (events.CompleteSub j) said i well plain is ok has old k) (sym (is_same q j here)) (completed_same s (events.CompleteSub j) said i well plain is ok has old k j refl none)
-  own_same (events.CompleteEmpty j) is ok has old q new here none =
-      subst (SameAt s (events.CompleteEmpty j) said i well plain is ok has old k) (sym (is_same q j here)) (completed_same s (events.CompleteEmpty j) said i well plain is ok has old k j refl none)
-  own_same e is ok has old q new here none = never here
+  own_same (events.Complete j out) now is ok has old q new here none =
+      subst (SameAt s (events.Complete j out) said i well free now is ok has old k) (sym (is_same q j here))
+      (completed_same s (events.Complete j out) said i well free now is ok has old k j refl none)
+  own_same (events.CompleteSub j) now is ok has old q new here none =
+      subst (SameAt s (events.CompleteSub j) said i well free now is ok has old k) (sym (is_same q j here))
+      (completed_same s (events.CompleteSub j) said i well free now is ok has old k j refl none)
+  own_same (events.CompleteEmpty j) now is ok has old q new here none =
+      subst (SameAt s (events.CompleteEmpty j) said i well free now is ok has old k) (sym (is_same q j here))
+      (completed_same s (events.CompleteEmpty j) said i well free now is ok has old k j refl none)
+  own_same e now is ok has old q new here none = never here
 
-module _ {reader : Reader} (s : State) (e : Event) (said : Said) (i : Ident) (well : IsWell reader s) (plain : IsPlain s) (is : is_plain_event e ≡ true)
-    (ok : Allowed s e said) (has : is_some (net_part (after s e said) i) ≡ true) (old : anew_or_left e i ≡ false) (k : ℕ) where
-  all_same : completes (after s e said) e i k ≡ false → (q : Ident) → SameAt s e said i well plain is ok has old k q
+module _ {reader : Reader} (s : State) (e : Event) (said : Said) (i : Ident) (well : IsWell reader s) (free : Ident → Bool)
+    (now : CountsBy free (after s e said) i) (is : is_plain_event e ≡ true) (ok : Allowed s e said)
+    (has : is_some (net_part (after s e said) i) ≡ true) (old : anew_or_left e i ≡ false) (k : ℕ) where
+  all_same : completes_done (after s e said) e i k ≡ false → (q : Ident) → SameAt s e said i well free now is ok has old k q
   all_same none q =
       by_test (is_child q i)
       (λ below.
       by_test (list_any (same q) (made_by e))
-      (λ made. made_same s e said i well plain is ok has old k q below made)
+      (λ made. made_same s e said i well free now is ok has old k q below made)
       (λ new.
       by_test (is_some_and (done_at e) (same q))
-      (λ here. own_same s said i well plain k e is ok has old q new here none)
-      (λ other. elsewhere s e said i well plain is ok has old k q below other)))
-      (λ out. outside s e said i well plain is ok has old k q out)
+      (λ here. own_same s said i well free k e now is ok has old q new here none)
+      (λ other. elsewhere s e said i well free now is ok has old k q below other)))
+      (λ out. outside s e said i well free now is ok has old k q out)
 
-  one_done : completes (after s e said) e i k ≡ true → done_in (after s e said) i k ≡ suc (done_in s i k)
-  one_done some =
+  one_done : CountsBy free s i → completes_done (after s e said) e i k ≡ true → done_in (after s e said) i k ≡ suc (done_in s i k)
+  one_done before some =
       let (j, at, both) = there_and (completed_by e) _ some in
-      let parts = and_parts (is_child j i) _ both in
-      let (y, item, of_task) = there_and (item_part (after s e said) j) _ parts.1 in
+      let (y, item, counts) = there_and (item_part (after s e said) j) _ both in
+      let parts = and_parts (is_child j i && y.task == k) _ counts in
+      let below = (and_parts (is_child j i) _ parts.0).0 in
       let own = own_completes s e said j ok at in
-      let task : (own.behind.task == k) ≡ true = ap (λ (x : ItemPart). x.task == k) (some_same own.behind y (sym own.stands ∙ item)) ∙ of_task in
-      one_more i k s (after s e said) (words s plain) (words (after s e said) (event_keeps s e said plain is)) j own.behind
-      (by_part i k j (get s.sites j) ∙ ap (done_part i k j) own.stood ∙ not_finished i k j own.before own.at_work)
-      (by_part i k j (get (after s e said).sites j) ∙ ap (done_part i k j) own.stands ∙ is_finished i k j own.behind own.over
-      ∙ ap (λ b. cond b (Some own.behind) None) (and_from _ _ parts.0 task))
+      let same_item : y ≡ own.behind = some_same y own.behind (sym item ∙ own.stands) in
+      let counted : (is_child j i && own.behind.task == k && free j) ≡ true =
+      ap (λ b. is_child j i && own.behind.task == k && b) (sym (its_count s e said i well free now is ok has old k j own below))
+      ∙ ap (λ (x : ItemPart). is_child j i && x.task == k && done (after s e said) j x) (sym same_item) ∙ counts in
+      one_more free i k s (after s e said) before now j own.behind
+      (by_part free i k j (get s.sites j) ∙ ap (done_part free i k j) own.stood ∙ not_finished free i k j own.before own.at_work)
+      (by_part free i k j (get (after s e said).sites j) ∙ ap (done_part free i k j) own.stands ∙ is_finished free i k j own.behind own.over
+      ∙ ap (λ b. if b then Some own.behind else None) counted)
       (λ l apart.
       by_test (is_child l i)
-      (λ below. elsewhere s e said i well plain is ok has old k l below
+      (λ lies. elsewhere s e said i well free now is ok has old k l lies
       (ap (λ o. is_some_and o (same l)) (completed_is_done e j at)
       ∙ false_from_ne_true (same l j) (λ here. never (sym apart ∙ ap (λ q. eq_by_cmp lexical q j) (is_same l j here) ∙ tied_self by_name j))))
-      (λ out. outside s e said i well plain is ok has old k l out))
+      (λ out. outside s e said i well free now is ok has old k l out))
 
-  followed : done_in (after s e said) i k ≡ done_in s i k + cond (completes (after s e said) e i k) 1 0
-  followed =
-      by_test (completes (after s e said) e i k)
-      (λ some. let more = one_done some in let one = ap {B = ℕ} (λ b. cond b 1 0) some in omega (arith, more, one))
+  followed : CountsBy free s i → done_in (after s e said) i k ≡ done_in s i k + cond (completes_done (after s e said) e i k) 1 0
+  followed before =
+      by_test (completes_done (after s e said) e i k)
+      (λ some. let more = one_done before some in let one = ap {B = ℕ} (λ b. cond b 1 0) some in omega (arith, more, one))
       (λ none.
-      let same = as_many i k s (after s e said) (words s plain) (words (after s e said) (event_keeps s e said plain is)) (all_same none) in
+      let same = as_many free i k s (after s e said) before now (all_same none) in
       let zero = ap {B = ℕ} (λ b. cond b 1 0) none in omega (arith, same, zero))
 
 -- where a task of the net exits
-exit_counts : (s : State) (e : Event) (said : Said) (i : Ident) → IsPlain s → Allowed s e said → is_left e i ≡ true
-    → CountsOn s (after s e said) e i
+exit_counts : (s : State) (e : Event) (said : Said) (i : Ident) (free : Ident → Bool) → CountsBy free s i → CountsBy free (after s e said) i
+    → Allowed s e said → is_left e i ≡ true → CountsBehind s (after s e said) e i
 unfolding allows
-exit_counts s (events.Exit j name places) said i plain ok here =
+exit_counts s (events.Exit j name places) said i free before now ok here =
     let (x, found, may) = there_and (task_at s j name) _ (and_right _ _ ok.0) in
-    subst (λ (l : Ident). CountsOn s (after s (events.Exit j name places) said) (events.Exit j name places) l) (sym (is_same i j here))
-    (record {
+    let e : Event = events.Exit j name places in
+    let is = is_same i j here in
+    let counts : CountsBehind s (after s e said) e j = record {
       stood = net_of_task s j name x found;
-      as_many = λ k. elim (none_or_same s j name places said plain ok x found k) [
-        | inl none ↦ inr (same_itself j, none)
-        | inr same_count ↦ inl (same_count ∙ sym (add-zero (done_in s j k)))
-      ];
-    })
-exit_counts s e said i plain ok here = never here
+      as_many =
+          λ k. elim (none_or_same s j name places said ok x found free (subst (CountsBy free s) is before) (subst (CountsBy free (after s e said)) is now) k) [
+            | inl none ↦ inr (same_itself j, none)
+            | inr same_count ↦ inl (same_count ∙ sym (add-zero (done_in s j k)))
+          ];
+    } in subst (λ (l : Ident). CountsBehind s (after s e said) e l) (sym is) counts
+exit_counts s e said i free before now ok here = never here
+
+-- behind an event of neither a rule tree nor an exlet
+pub plain_counts : {reader : Reader} (s : State) (e : Event) (said : Said) (i : Ident) (free : Ident → Bool) → IsWell reader s → CountsBy free s i
+    → CountsBy free (after s e said) i → is_plain_event e ≡ true → Allowed s e said → is_some (net_part (after s e said) i) ≡ true → is_anew e i ≡ false
+    → CountsBehind s (after s e said) e i
+plain_counts s e said i free well before now is ok has old =
+    by_test (is_left e i)
+    (λ exits. exit_counts s e said i free before now ok exits)
+    (λ stays.
+    let unchanged = neither e i old stays in
+    record { stood = stood s e said i well is ok has unchanged; as_many = λ k. inl (followed s e said i well free now is ok has unchanged k before) })
+
+-- in a plain state an item that is completed is done
+abbrev all_free : Ident → Bool
+all_free q = true
+
+plain_by : (s : State) (i : Ident) → IsPlain s → CountsBy all_free s i
+plain_by s i plain q x below at = (words s plain).done q x ∙ sym (and_true (is_completed x.stage))
+  where
+    and_true : (b : Bool) → (b && true) ≡ b
+    and_true true = refl
+    and_true false = refl
+
+-- the item at j is one of task k in the net at i
+abbrev is_of : State → Ident → ℕ → Ident → Bool
+is_of t i k j = is_child j i && is_some_and (item_part t j) (λ (x : ItemPart). x.task == k)
+
+plain_completes : (s : State) (e : Event) (said : Said) (i : Ident) (k : ℕ) → IsPlain (after s e said) → Allowed s e said
+    → completes_done (after s e said) e i k ≡ completes (after s e said) e i k
+plain_completes s e said i k plain ok =
+    let t : State = after s e said in
+    by_option (completed_by e)
+    (λ none. ap (λ o. is_some_and o (is_done_of t i k)) none ∙ sym (ap (λ o. is_some_and o (is_of t i k)) none))
+    (λ j at.
+    let own = own_completes s e said j ok at in
+    ap (λ o. is_some_and o (is_done_of t i k)) at
+    ∙ ap (λ o. is_some_and o (λ (x : ItemPart). is_child j i && x.task == k && done t j x)) own.stands
+    ∙ always (is_child j i) (own.behind.task == k) (done t j own.behind) ((words t plain).done j own.behind ∙ own.over)
+    ∙ sym (ap (λ o. is_some_and o (is_of t i k)) at ∙ ap (λ o. is_child j i && is_some_and o (λ (x : ItemPart). x.task == k)) own.stands))
+  where
+    always : (a b c : Bool) → c ≡ true → (a && b && c) ≡ (a && b)
+    always true true c e = e
+    always true false c e = refl
+    always false b c e = refl
 
 pub counts_on : {reader : Reader} (s : State) (e : Event) (said : Said) (i : Ident) → IsWell reader s → IsPlain s → is_plain_event e ≡ true → Allowed s e said
     → is_some (net_part (after s e said) i) ≡ true → is_anew e i ≡ false → CountsOn s (after s e said) e i
 counts_on s e said i well plain is ok has old =
-    by_test (is_left e i)
-    (λ exits. exit_counts s e said i plain ok exits)
-    (λ stays.
-    let unchanged = neither e i old stays in
-    record { stood = stood s e said i well is ok has unchanged; as_many = λ k. inl (followed s e said i well plain is ok has unchanged k) })
+    let kept = event_keeps s e said plain is in
+    let counts = plain_counts s e said i all_free well (plain_by s i plain) (plain_by (after s e said) i kept) is ok has old in
+    record {
+      stood = counts.stood;
+      as_many = λ k. elim (counts.as_many k) [
+        | inl more ↦ inl (more ∙ ap (λ b. done_in s i k + cond b 1 0) (plain_completes s e said i k kept ok))
+        | inr left ↦ inr left
+      ];
+    }

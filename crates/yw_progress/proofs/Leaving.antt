@@ -1,56 +1,30 @@
 -- Behind the exit of a task: of each task of the net no item is left, or as many are done as before.
 use Rattle.std.specs.List.{cons_option, filter_map, list_any}
-use Rattle.std.specs.Prelude.{◌≡◌, ◌⊎◌, ◌==◌, ℕ, Bool, true, false, List, [], ◌∷◌, Option, Some, None, option_and_then, refl, if◌then◌else◌}
+use Rattle.std.specs.Prelude.{◌≡◌, ◌⊎◌, ◌==◌, ℕ, Bool, true, false, List, [], ◌∷◌, Option, Some, None, option_and_then, refl}
 use Rattle.std.proofs.Common.{sym, ◌∙◌, ap, inl, inr, not, subst}
 use Rattle.std.proofs.lemmas.Bool.{and_parts, eq-eqb, eqb-true, false_from_ne_true}
 use Rattle.yw_base.specs.Identity.{under}
 use Rattle.yw_moved.proofs.Parents.{itself_or_above, not_under_child, parent_of_child, under_itself}
 use Rattle.yw_moved.proofs.Sites.{left_alone}
-use Rattle.yw_plain.proofs.Keeping.{event_keeps}
-use Rattle.yw_plain.proofs.Words.{words}
-use Rattle.yw_plain.specs.Plain.{IsPlain}
-use Rattle.yw_progress.proofs.Counting.{as_many, by_part, done_item, done_part, done_there, not_below, not_of_task}
+use Rattle.yw_progress.proofs.Counting.{CountsBy, as_many, by_part, done_item, done_part, done_there, not_below, not_of_task}
+use Rattle.yw_progress.proofs.Items.{is_item}
 use Rattle.yw_progress.specs.Progress.{done_in}
 use Rattle.yw_sites.proofs.Prefix.{child_strictly}
 use Rattle.yw_spec.specs.declared.spec.Place.{Place}
 use Rattle.yw_state.proofs.Entries.{IsIn, comes_from, entry-found, find-entry, mapped_in, passes, passing}
 use Rattle.yw_state.proofs.Gone.{removed-gone}
 use Rattle.yw_state.proofs.MapLemmas.{by_name}
-use Rattle.yw_state.proofs.Tests.{by_option, by_test, never, nowhere, some_same, then_some, there_and}
+use Rattle.yw_state.proofs.Tests.{by_option, by_test, never, nowhere, some_same, there_and}
 use Rattle.yw_state.specs.Allowed.{Allowed}
 use Rattle.yw_state.specs.Events.{after}
 use Rattle.yw_state.specs.Gone.{exit_removes, removes, under_item}
 use Rattle.yw_state.specs.Identity.{Ident, is_child, same}
 use Rattle.yw_state.specs.Map.{entries, get}
 use Rattle.yw_state.specs.Options.{is_some_and}
-use Rattle.yw_state.specs.State.{State, Site, ItemPart, TaskAt, if_of_task, item_of_task, item_part, items_of, task_at}
+use Rattle.yw_state.specs.State.{State, Site, ItemPart, TaskAt, item_of_task, item_part, items_of, task_at}
 use Rattle.yw_state.specs.Texts.{Said}
 use Rattle.yw_state.specs.declared.event.Event.{Event}
 use Rattle.yw_state.specs.declared.event.Event.TheVariants as events
-
--- ---- what an entry that is an item of the task says
-
-if_true : {A : Type 0} (b : Bool) (x y : A) → (if b then Some x else None) ≡ Some y → (b ≡ true) × (x ≡ y)
-if_true true x y e = (refl, some_same x y e)
-if_true false x y e = nowhere e
-
--- It lies directly below the net, and is of the task.
-record IsItem (i : Ident) (k : ℕ) (q : Ident) (o : Option ItemPart) (y : Ident × ItemPart) : Type 0 where
-  below : is_child q i ≡ true
-  part : ItemPart
-  has : o ≡ Some part
-  of_task : (part.task == k) ≡ true
-  its : q ≡ y.0
-
-is_item : (i : Ident) (k : ℕ) (q : Ident) (o : Option ItemPart) (y : Ident × ItemPart)
-    → (if is_child q i then option_and_then (if_of_task k q) o else None) ≡ Some y → IsItem i k q o y
-is_item i k q o y e =
-    by_test (is_child q i)
-    (λ below.
-    let (x, has, is) = then_some (if_of_task k q) o y (sym (ap (λ b. if b then option_and_then (if_of_task k q) o else None) below) ∙ e) in
-    let task = if_true (x.task == k) (q, x) y is in
-    record { below = below; part = x; has = has; of_task = task.0; its = ap (λ (z : Ident × ItemPart). z.0) task.1 })
-    (λ out. nowhere (sym (ap (λ b. if b then option_and_then (if_of_task k q) o else None) out) ∙ e))
 
 -- no entry is one
 none_picked : {A B : Type 0} (f : A → Option B) (es : List A) → ((e : A) → IsIn es e → f e ≡ None) → filter_map f es ≡ []
@@ -58,8 +32,9 @@ none_picked f [] none = refl
 none_picked f (e ∷ es) none =
     ap (λ o. cons_option o (filter_map f es)) (none e (inl refl)) ∙ none_picked f es (λ d within. none d (inr within))
 
-module _ (s : State) (i : Ident) (name : List ℕ) (places : List Place) (said : Said) (plain : IsPlain s) (ok : Allowed s (events.Exit i name places) said) (x : TaskAt)
-    (found : task_at s i name ≡ Some x) where
+module _ (s : State) (i : Ident) (name : List ℕ) (places : List Place) (said : Said) (ok : Allowed s (events.Exit i name places) said)
+    (x : TaskAt) (found : task_at s i name ≡ Some x) (free : Ident → Bool) (before : CountsBy free s i)
+    (now : CountsBy free (after s (events.Exit i name places) said) i) where
   abbrev e : Event
   e = events.Exit i name places
 
@@ -85,11 +60,12 @@ module _ (s : State) (i : Ident) (name : List ℕ) (places : List Place) (said :
   of_left q below gone =
       let (z, at, some) = there_and (task_at s i name) (exit_removes s i q) gone in
       let (n, of_task, among) = passing (under_item s i q) (z.number ∷ z.task.drop_tasks) some in
-      let (d, y, within, is, above) = comes_from (λ (c : Ident × Site). item_of_task i n c.0 c.1) (λ (c : Ident × ItemPart). under q c.0) (entries s.sites) among in
+      let (d, y, within, is, above) = comes_from (λ (c : Ident × Site). item_of_task i n c.0 c.1) (λ (c : Ident × ItemPart). under q c.0)
+      (entries s.sites) among in
       let here : get s.sites d.0 ≡ Some d.1 = find-entry by_name (entries s.sites) d s.sites.sorted within in
       let item = is_item i n d.0 d.1.item y is in
       let at_it : q ≡ d.0 =
-      elim (itself_or_above q d.0 (ap (under q) item.its ∙ above)) [
+      elim (itself_or_above q d.0 (ap (under q) (ap (λ (z : Ident × ItemPart). z.0) item.its) ∙ above)) [
         | inl same_place ↦ same_place
         | inr higher ↦ never (sym (not_under_child d.0 i item.below) ∙ ap (λ l. under l d.0) (sym (parent_of_child q i below)) ∙ higher)
       ] in
@@ -102,7 +78,8 @@ module _ (s : State) (i : Ident) (name : List ℕ) (places : List Place) (said :
       )
 
   -- an item of one of these tasks is removed
-  item_goes : (k : ℕ) (q : Ident) (c : Site) (y : Ident × ItemPart) → IsIn left k → get s.sites q ≡ Some c → item_of_task i k q c ≡ Some y → removes s e q ≡ true
+  item_goes : (k : ℕ) (q : Ident) (c : Site) (y : Ident × ItemPart) → IsIn left k → get s.sites q ≡ Some c → item_of_task i k q c ≡ Some y
+      → removes s e q ≡ true
   unfolding removes
   item_goes k q c y within here is =
       let item = is_item i k q c.item y is in
@@ -110,7 +87,7 @@ module _ (s : State) (i : Ident) (name : List ℕ) (places : List Place) (said :
       ∙ passes (under_item s i q) left k within
       (passes (λ (d : Ident × ItemPart). under q d.0) (items_of s i k) y
       (mapped_in (λ (d : Ident × Site). item_of_task i k d.0 d.1) (entries s.sites) (q, c) y (entry-found by_name (entries s.sites) q c here) is)
-      (ap (under q) (sym item.its) ∙ under_itself q))
+      (ap (under q) (sym (ap (λ (z : Ident × ItemPart). z.0) item.its)) ∙ under_itself q))
 
   none_left : (k : ℕ) → IsIn left k → items_of t i k ≡ []
   none_left k within =
@@ -126,7 +103,7 @@ module _ (s : State) (i : Ident) (name : List ℕ) (places : List Place) (said :
 
   module _ (k : ℕ) (other : list_any (λ n. n == k) left ≡ false) where
     abbrev SameAt : Ident → Type 0
-    SameAt q = done_there i k q t.sites ≡ done_there i k q s.sites
+    SameAt q = done_there free i k q t.sites ≡ done_there free i k q s.sites
 
     removed_same : (q : Ident) → is_child q i ≡ true → removes s e q ≡ true → SameAt q
     removed_same q below gone =
@@ -135,20 +112,20 @@ module _ (s : State) (i : Ident) (name : List ℕ) (places : List Place) (said :
         false_from_ne_true _ (λ here.
         let n_is : n ≡ k = sym (eqb-true part.task n of_task) ∙ eqb-true part.task k here in
         never (sym other ∙ passes (λ m. m == k) left n within (eq-eqb n k n_is))) in
-        ap (option_and_then (done_item i k q)) (removed-gone q s e said ok gone)
-        ∙ sym (by_part i k q (get s.sites q) ∙ ap (done_part i k q) stood ∙ not_of_task i k q part not_k)
+        ap (option_and_then (done_item free i k q)) (removed-gone q s e said ok gone)
+        ∙ sym (by_part free i k q (get s.sites q) ∙ ap (done_part free i k q) stood ∙ not_of_task free i k q part not_k)
 
     same_at : (q : Ident) → SameAt q
     same_at q =
         by_test (is_child q i)
         (λ below.
-        by_test (removes s e q) (removed_same q below) (λ stays. ap (option_and_then (done_item i k q)) (kept q below stays)))
+        by_test (removes s e q) (removed_same q below) (λ stays. ap (option_and_then (done_item free i k q)) (kept q below stays)))
         (λ out.
-        by_part i k q (get t.sites q) ∙ not_below i k q (item_part t q) out
-        ∙ sym (by_part i k q (get s.sites q) ∙ not_below i k q (item_part s q) out))
+        by_part free i k q (get t.sites q) ∙ not_below free i k q (item_part t q) out
+        ∙ sym (by_part free i k q (get s.sites q) ∙ not_below free i k q (item_part s q) out))
 
     pub same_count : done_in t i k ≡ done_in s i k
-    same_count = as_many i k s t (words s plain) (words t (event_keeps s e said plain refl)) same_at
+    same_count = as_many free i k s t before now same_at
 
   pub none_or_same : (k : ℕ) → (items_of t i k ≡ []) ⊎ (done_in t i k ≡ done_in s i k)
   none_or_same k =

@@ -1,5 +1,8 @@
-pub mod Counting
-pub mod Staying
+pub mod Agreeing
+pub mod Behind
 pub mod Changing
-pub mod Leaving
+pub mod Counting
 pub mod Following
+pub mod Items
+pub mod Leaving
+pub mod Staying

@@ -51,7 +51,7 @@ neither e i old stays = ap (λ (b : Bool). b) old
 -- ---- what an event makes
 
 -- a case begins by it
-abbrev launches : Event → Bool
+abbrev pub launches : Event → Bool
 launches (events.Launch n spec vals) = true
 launches e = false
 
@@ -59,7 +59,7 @@ launch_anew : (e : Event) (i : Ident) → launches e ≡ true → list_any (same
 launch_anew (events.Launch n spec vals) i is made = by_test (same i (case_ident n)) (λ here. here) (λ other. never (sym (ap (λ b. b || false) other) ∙ made))
 launch_anew e i is made = never is
 
-launch_top : (e : Event) (q : Ident) → launches e ≡ true → list_any (same q) (made_by e) ≡ true → parent q ≡ []
+pub launch_top : (e : Event) (q : Ident) → launches e ≡ true → list_any (same q) (made_by e) ≡ true → parent q ≡ []
 launch_top (events.Launch n spec vals) q is made =
     by_test (same q (case_ident n)) (λ here. ap parent (is_same q (case_ident n) here)) (λ other. never (sym (ap (λ b. b || false) other) ∙ made))
 launch_top e q is made = never is
