@@ -1,0 +1,4 @@
+pub mod Rules
+pub mod Links
+pub mod Attached
+pub mod Item
