@@ -1,0 +1,6 @@
+pub mod Filtered
+pub mod Nothing
+pub mod Known
+pub mod Chosen
+pub mod Ended
+pub mod Allowed

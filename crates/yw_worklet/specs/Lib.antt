@@ -1,0 +1,5 @@
+pub mod Named
+pub mod Begins
+pub mod Chosen
+pub mod Ends
+pub mod Stands
