@@ -7,6 +7,10 @@ use Rattle.yw_built.specs.Built.{is_built}
 use Rattle.yw_codec.specs.Events.{event_bytes, is_event}
 use Rattle.yw_state.specs.declared.event.Event.{Event}
 use Rattle.yw_state.specs.declared.event.Event.TheVariants as events
+use Rattle.yw_state.specs.declared.tree.Conclusion.{Conclusion}
+use Rattle.yw_state.specs.declared.tree.Conclusion.TheVariants as conclusions
+use Rattle.yw_state.specs.declared.tree.Primitive.{Primitive}
+use Rattle.yw_state.specs.declared.tree.Primitive.TheVariants as primitives
 
 -- a field of so many bytes that spells this number
 pub record IsField (size value : ℕ) (field : List ℕ) : Type 0 where
@@ -27,15 +31,21 @@ pub record IsEntry (events : List Event) (bytes : List ℕ) : Type 0 where
   pub each : list_all is_event events ≡ true
   pub built : list_all is_built events ≡ true
 
--- It has bytes, and at most 64 roles. The rest of what an event's fields may be is so of each such value, but for lengths: whether
--- those fit four bytes is seen when they are written.
+-- one of the words
+abbrev pub is_word : Primitive → Bool
+is_word (primitives.Unknown text) = false
+is_word primitive = true
+
+abbrev pub has_words : Conclusion → Bool
+has_words (conclusions.Worklet spec) = true
+has_words (conclusions.Exlet steps) = list_all is_word steps
+
+-- It has bytes: a person has at most 64 roles, and each primitive is one of the words. The rest of what an event's fields may be is so of
+-- each such value, but for lengths: whether those fit four bytes is seen when they are written.
 abbrev pub has_form : Event → Bool
 has_form (events.Person name roles) = nat_lt (length roles) 65
-has_form (events.AddRule place at side when conclusion number) = false
-has_form (events.Pass at check) = false
-has_form (events.Except at check node number) = false
-has_form (events.Raise at kind node number) = false
-has_form (events.Prim run primitive) = false
+has_form (events.AddRule place at side when conclusion number) = has_words conclusion
+has_form (events.Prim run primitive) = is_word primitive
 has_form event = true
 
 -- an event that an entry may have: one that the server does today

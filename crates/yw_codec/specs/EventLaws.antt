@@ -5,15 +5,20 @@ use Rattle.yw_base.specs.Spelling.{is_name}
 use Rattle.yw_base.specs.declared.value.Value.{Value}
 use Rattle.yw_built.specs.Built.{is_built}
 use Rattle.yw_codec.specs.Events.{event_bytes, is_event}
-use Rattle.yw_codec.specs.FieldLaws.{u32_apart, u64_apart, name_apart, text_apart, pair_apart, both_true, and_left, and_right}
-use Rattle.yw_codec.specs.Fields.{u32_bytes, u64_bytes, is_u32, is_u64, name_bytes, text_bytes, is_text, identity_bytes, is_list, list_bytes, is_short_list, short_list_bytes, is_value, value_bytes, is_row, row_bytes, is_place, place_bytes}
+use Rattle.yw_codec.specs.FieldLaws.{u32_apart, u64_apart, flag_apart, name_apart, text_apart, pair_apart}
+use Rattle.yw_codec.specs.Fields.{u32_bytes, u64_bytes, is_u32, is_u64, is_flag, flag_bytes, name_bytes, text_bytes, is_text, identity_bytes, is_list, list_bytes, is_short_list, short_list_bytes, is_value, value_bytes, is_row, row_bytes, is_place, place_bytes, is_kind, kind_bytes, is_tree, tree_bytes, is_primitive, primitive_bytes, is_conclusion, conclusion_bytes}
 use Rattle.yw_codec.specs.Forms.{Stands, NoneStands, AreApart, pair_is, pair_bytes}
 use Rattle.yw_codec.specs.ListLaws.{list_apart, short_list_apart, identity_apart}
 use Rattle.yw_codec.specs.PlaceLaws.{place_apart}
+use Rattle.yw_codec.specs.TreeLaws.{kind_apart, tree_apart, primitive_apart, conclusion_apart}
 use Rattle.yw_codec.specs.ValueLaws.{value_apart}
 use Rattle.yw_spec.specs.declared.spec.Place.{Place}
 use Rattle.yw_state.specs.declared.event.Event.{Event}
 use Rattle.yw_state.specs.declared.event.Event.TheVariants as events
+use Rattle.yw_state.specs.declared.tree.Conclusion.{Conclusion}
+use Rattle.yw_state.specs.declared.tree.Primitive.{Primitive}
+use Rattle.yw_state.specs.declared.tree.TreeKind.{TreeKind}
+use Rattle.yw_state.specs.declared.tree.TreePlace.{TreePlace}
 
 person_of : (mid : List ℕ) (e : Event) (rest : List ℕ) → Stands is_event event_bytes (1 ∷ mid) e rest → (p : ((List ℕ) × (List (List ℕ)))) × (e ≡ events.Person p.0 p.1) × Stands (pair_is is_name (is_short_list is_name)) (pair_bytes name_bytes (short_list_bytes name_bytes)) mid p rest
 person_of mid (events.Person name roles) rest s = ((name, roles), refl, record { in_range = s.in_range; split = ap (drop 1) s.split })
@@ -28,6 +33,13 @@ load_of mid e rest s = absurd (omega (arith, ap (λ (l : List ℕ). get_or l 0 0
 
 pub no_load : (mid : List ℕ) → NoneStands (pair_is is_name is_text) (pair_bytes name_bytes text_bytes) mid → NoneStands is_event event_bytes (2 ∷ mid)
 no_load mid none e rest s = let p = load_of mid e rest s in none p.0 rest p.2
+
+rule_of : (mid : List ℕ) (e : Event) (rest : List ℕ) → Stands is_event event_bytes (3 ∷ mid) e rest → (p : (TreePlace × (ℕ × (Bool × ((List ℕ) × (Conclusion × ℕ)))))) × (e ≡ events.AddRule p.0 p.1.0 p.1.1.0 p.1.1.1.0 p.1.1.1.1.0 p.1.1.1.1.1) × Stands (pair_is is_tree (pair_is is_u32 (pair_is is_flag (pair_is is_text (pair_is is_conclusion is_u32))))) (pair_bytes tree_bytes (pair_bytes u32_bytes (pair_bytes flag_bytes (pair_bytes text_bytes (pair_bytes conclusion_bytes u32_bytes))))) mid p rest
+rule_of mid (events.AddRule place at side when conclusion number) rest s = ((place, (at, (side, (when, (conclusion, number))))), refl, record { in_range = s.in_range; split = ap (drop 1) s.split })
+rule_of mid e rest s = absurd (omega (arith, ap (λ (l : List ℕ). get_or l 0 0) s.split))
+
+pub no_rule : (mid : List ℕ) → NoneStands (pair_is is_tree (pair_is is_u32 (pair_is is_flag (pair_is is_text (pair_is is_conclusion is_u32))))) (pair_bytes tree_bytes (pair_bytes u32_bytes (pair_bytes flag_bytes (pair_bytes text_bytes (pair_bytes conclusion_bytes u32_bytes))))) mid → NoneStands is_event event_bytes (3 ∷ mid)
+no_rule mid none e rest s = let p = rule_of mid e rest s in none p.0 rest p.2
 
 launch_of : (mid : List ℕ) (e : Event) (rest : List ℕ) → Stands is_event event_bytes (4 ∷ mid) e rest → (p : (ℕ × ((List ℕ) × (List Value)))) × (e ≡ events.Launch p.0 p.1.0 p.1.1) × Stands (pair_is is_u64 (pair_is is_name is_row)) (pair_bytes u64_bytes (pair_bytes name_bytes row_bytes)) mid p rest
 launch_of mid (events.Launch n spec row) rest s = ((n, (spec, row)), refl, record { in_range = s.in_range; split = ap (drop 1) s.split })
@@ -106,6 +118,20 @@ complete_empty_of mid e rest s = absurd (omega (arith, ap (λ (l : List ℕ). ge
 pub no_complete_empty : (mid : List ℕ) → NoneStands is_identity identity_bytes mid → NoneStands is_event event_bytes (14 ∷ mid)
 no_complete_empty mid none e rest s = let p = complete_empty_of mid e rest s in none p.0 rest p.2
 
+pass_of : (mid : List ℕ) (e : Event) (rest : List ℕ) → Stands is_event event_bytes (15 ∷ mid) e rest → (p : ((List ℕ) × TreeKind)) × (e ≡ events.Pass p.0 p.1) × Stands (pair_is is_identity is_kind) (pair_bytes identity_bytes kind_bytes) mid p rest
+pass_of mid (events.Pass j check) rest s = ((j, check), refl, record { in_range = s.in_range; split = ap (drop 1) s.split })
+pass_of mid e rest s = absurd (omega (arith, ap (λ (l : List ℕ). get_or l 0 0) s.split))
+
+pub no_pass : (mid : List ℕ) → NoneStands (pair_is is_identity is_kind) (pair_bytes identity_bytes kind_bytes) mid → NoneStands is_event event_bytes (15 ∷ mid)
+no_pass mid none e rest s = let p = pass_of mid e rest s in none p.0 rest p.2
+
+exception_of : (mid : List ℕ) (e : Event) (rest : List ℕ) → Stands is_event event_bytes (16 ∷ mid) e rest → (p : ((List ℕ) × (TreeKind × (ℕ × ℕ)))) × (e ≡ events.Except p.0 p.1.0 p.1.1.0 p.1.1.1) × Stands (pair_is is_identity (pair_is is_kind (pair_is is_u32 is_u64))) (pair_bytes identity_bytes (pair_bytes kind_bytes (pair_bytes u32_bytes u64_bytes))) mid p rest
+exception_of mid (events.Except j check node n) rest s = ((j, (check, (node, n))), refl, record { in_range = s.in_range; split = ap (drop 1) s.split })
+exception_of mid e rest s = absurd (omega (arith, ap (λ (l : List ℕ). get_or l 0 0) s.split))
+
+pub no_exception : (mid : List ℕ) → NoneStands (pair_is is_identity (pair_is is_kind (pair_is is_u32 is_u64))) (pair_bytes identity_bytes (pair_bytes kind_bytes (pair_bytes u32_bytes u64_bytes))) mid → NoneStands is_event event_bytes (16 ∷ mid)
+no_exception mid none e rest s = let p = exception_of mid e rest s in none p.0 rest p.2
+
 substitute_of : (mid : List ℕ) (e : Event) (rest : List ℕ) → Stands is_event event_bytes (17 ∷ mid) e rest → (p : ((List ℕ) × (List ℕ))) × (e ≡ events.Substitute p.0 p.1) × Stands (pair_is is_identity is_name) (pair_bytes identity_bytes name_bytes) mid p rest
 substitute_of mid (events.Substitute j worklet) rest s = ((j, worklet), refl, record { in_range = s.in_range; split = ap (drop 1) s.split })
 substitute_of mid e rest s = absurd (omega (arith, ap (λ (l : List ℕ). get_or l 0 0) s.split))
@@ -119,6 +145,20 @@ complete_worklet_of mid e rest s = absurd (omega (arith, ap (λ (l : List ℕ). 
 
 pub no_complete_worklet : (mid : List ℕ) → NoneStands is_identity identity_bytes mid → NoneStands is_event event_bytes (18 ∷ mid)
 no_complete_worklet mid none e rest s = let p = complete_worklet_of mid e rest s in none p.0 rest p.2
+
+raised_of : (mid : List ℕ) (e : Event) (rest : List ℕ) → Stands is_event event_bytes (19 ∷ mid) e rest → (p : ((List ℕ) × (TreeKind × (ℕ × ℕ)))) × (e ≡ events.Raise p.0 p.1.0 p.1.1.0 p.1.1.1) × Stands (pair_is is_identity (pair_is is_kind (pair_is is_u32 is_u64))) (pair_bytes identity_bytes (pair_bytes kind_bytes (pair_bytes u32_bytes u64_bytes))) mid p rest
+raised_of mid (events.Raise j kind node n) rest s = ((j, (kind, (node, n))), refl, record { in_range = s.in_range; split = ap (drop 1) s.split })
+raised_of mid e rest s = absurd (omega (arith, ap (λ (l : List ℕ). get_or l 0 0) s.split))
+
+pub no_raised : (mid : List ℕ) → NoneStands (pair_is is_identity (pair_is is_kind (pair_is is_u32 is_u64))) (pair_bytes identity_bytes (pair_bytes kind_bytes (pair_bytes u32_bytes u64_bytes))) mid → NoneStands is_event event_bytes (19 ∷ mid)
+no_raised mid none e rest s = let p = raised_of mid e rest s in none p.0 rest p.2
+
+primitive_of : (mid : List ℕ) (e : Event) (rest : List ℕ) → Stands is_event event_bytes (20 ∷ mid) e rest → (p : ((List ℕ) × Primitive)) × (e ≡ events.Prim p.0 p.1) × Stands (pair_is is_identity is_primitive) (pair_bytes identity_bytes primitive_bytes) mid p rest
+primitive_of mid (events.Prim r primitive) rest s = ((r, primitive), refl, record { in_range = s.in_range; split = ap (drop 1) s.split })
+primitive_of mid e rest s = absurd (omega (arith, ap (λ (l : List ℕ). get_or l 0 0) s.split))
+
+pub no_primitive : (mid : List ℕ) → NoneStands (pair_is is_identity is_primitive) (pair_bytes identity_bytes primitive_bytes) mid → NoneStands is_event event_bytes (20 ∷ mid)
+no_primitive mid none e rest s = let p = primitive_of mid e rest s in none p.0 rest p.2
 
 compensated_of : (mid : List ℕ) (e : Event) (rest : List ℕ) → Stands is_event event_bytes (21 ∷ mid) e rest → (p : (List ℕ)) × (e ≡ events.Compensated p) × Stands is_identity identity_bytes mid p rest
 compensated_of mid (events.Compensated r) rest s = (r, refl, record { in_range = s.in_range; split = ap (drop 1) s.split })
@@ -161,6 +201,12 @@ same_load a f mid x y s u =
     let p = load_of mid f y u in
     let same = pair_apart is_name name_bytes is_text text_bytes name_apart text_apart a p.0 mid x y s p.2 in
     (ap (λ (v : ((List ℕ) × (List ℕ))). events.Load v.0 v.1) same.0 ∙ sym p.1, same.1)
+
+same_rule : (a : (TreePlace × (ℕ × (Bool × ((List ℕ) × (Conclusion × ℕ)))))) (f : Event) (mid x y : List ℕ) → Stands (pair_is is_tree (pair_is is_u32 (pair_is is_flag (pair_is is_text (pair_is is_conclusion is_u32))))) (pair_bytes tree_bytes (pair_bytes u32_bytes (pair_bytes flag_bytes (pair_bytes text_bytes (pair_bytes conclusion_bytes u32_bytes))))) mid a x → Stands is_event event_bytes (3 ∷ mid) f y → (events.AddRule a.0 a.1.0 a.1.1.0 a.1.1.1.0 a.1.1.1.1.0 a.1.1.1.1.1 ≡ f) × (x ≡ y)
+same_rule a f mid x y s u =
+    let p = rule_of mid f y u in
+    let same = pair_apart is_tree tree_bytes (pair_is is_u32 (pair_is is_flag (pair_is is_text (pair_is is_conclusion is_u32)))) (pair_bytes u32_bytes (pair_bytes flag_bytes (pair_bytes text_bytes (pair_bytes conclusion_bytes u32_bytes)))) tree_apart (pair_apart is_u32 u32_bytes (pair_is is_flag (pair_is is_text (pair_is is_conclusion is_u32))) (pair_bytes flag_bytes (pair_bytes text_bytes (pair_bytes conclusion_bytes u32_bytes))) u32_apart (pair_apart is_flag flag_bytes (pair_is is_text (pair_is is_conclusion is_u32)) (pair_bytes text_bytes (pair_bytes conclusion_bytes u32_bytes)) flag_apart (pair_apart is_text text_bytes (pair_is is_conclusion is_u32) (pair_bytes conclusion_bytes u32_bytes) text_apart (pair_apart is_conclusion conclusion_bytes is_u32 u32_bytes conclusion_apart u32_apart)))) a p.0 mid x y s p.2 in
+    (ap (λ (v : (TreePlace × (ℕ × (Bool × ((List ℕ) × (Conclusion × ℕ)))))). events.AddRule v.0 v.1.0 v.1.1.0 v.1.1.1.0 v.1.1.1.1.0 v.1.1.1.1.1) same.0 ∙ sym p.1, same.1)
 
 same_launch : (a : (ℕ × ((List ℕ) × (List Value)))) (f : Event) (mid x y : List ℕ) → Stands (pair_is is_u64 (pair_is is_name is_row)) (pair_bytes u64_bytes (pair_bytes name_bytes row_bytes)) mid a x → Stands is_event event_bytes (4 ∷ mid) f y → (events.Launch a.0 a.1.0 a.1.1 ≡ f) × (x ≡ y)
 same_launch a f mid x y s u =
@@ -228,6 +274,18 @@ same_complete_empty a f mid x y s u =
     let same = identity_apart a p.0 mid x y s p.2 in
     (ap (λ (v : (List ℕ)). events.CompleteEmpty v) same.0 ∙ sym p.1, same.1)
 
+same_pass : (a : ((List ℕ) × TreeKind)) (f : Event) (mid x y : List ℕ) → Stands (pair_is is_identity is_kind) (pair_bytes identity_bytes kind_bytes) mid a x → Stands is_event event_bytes (15 ∷ mid) f y → (events.Pass a.0 a.1 ≡ f) × (x ≡ y)
+same_pass a f mid x y s u =
+    let p = pass_of mid f y u in
+    let same = pair_apart is_identity identity_bytes is_kind kind_bytes identity_apart kind_apart a p.0 mid x y s p.2 in
+    (ap (λ (v : ((List ℕ) × TreeKind)). events.Pass v.0 v.1) same.0 ∙ sym p.1, same.1)
+
+same_exception : (a : ((List ℕ) × (TreeKind × (ℕ × ℕ)))) (f : Event) (mid x y : List ℕ) → Stands (pair_is is_identity (pair_is is_kind (pair_is is_u32 is_u64))) (pair_bytes identity_bytes (pair_bytes kind_bytes (pair_bytes u32_bytes u64_bytes))) mid a x → Stands is_event event_bytes (16 ∷ mid) f y → (events.Except a.0 a.1.0 a.1.1.0 a.1.1.1 ≡ f) × (x ≡ y)
+same_exception a f mid x y s u =
+    let p = exception_of mid f y u in
+    let same = pair_apart is_identity identity_bytes (pair_is is_kind (pair_is is_u32 is_u64)) (pair_bytes kind_bytes (pair_bytes u32_bytes u64_bytes)) identity_apart (pair_apart is_kind kind_bytes (pair_is is_u32 is_u64) (pair_bytes u32_bytes u64_bytes) kind_apart (pair_apart is_u32 u32_bytes is_u64 u64_bytes u32_apart u64_apart)) a p.0 mid x y s p.2 in
+    (ap (λ (v : ((List ℕ) × (TreeKind × (ℕ × ℕ)))). events.Except v.0 v.1.0 v.1.1.0 v.1.1.1) same.0 ∙ sym p.1, same.1)
+
 same_substitute : (a : ((List ℕ) × (List ℕ))) (f : Event) (mid x y : List ℕ) → Stands (pair_is is_identity is_name) (pair_bytes identity_bytes name_bytes) mid a x → Stands is_event event_bytes (17 ∷ mid) f y → (events.Substitute a.0 a.1 ≡ f) × (x ≡ y)
 same_substitute a f mid x y s u =
     let p = substitute_of mid f y u in
@@ -239,6 +297,18 @@ same_complete_worklet a f mid x y s u =
     let p = complete_worklet_of mid f y u in
     let same = identity_apart a p.0 mid x y s p.2 in
     (ap (λ (v : (List ℕ)). events.CompleteWorklet v) same.0 ∙ sym p.1, same.1)
+
+same_raised : (a : ((List ℕ) × (TreeKind × (ℕ × ℕ)))) (f : Event) (mid x y : List ℕ) → Stands (pair_is is_identity (pair_is is_kind (pair_is is_u32 is_u64))) (pair_bytes identity_bytes (pair_bytes kind_bytes (pair_bytes u32_bytes u64_bytes))) mid a x → Stands is_event event_bytes (19 ∷ mid) f y → (events.Raise a.0 a.1.0 a.1.1.0 a.1.1.1 ≡ f) × (x ≡ y)
+same_raised a f mid x y s u =
+    let p = raised_of mid f y u in
+    let same = pair_apart is_identity identity_bytes (pair_is is_kind (pair_is is_u32 is_u64)) (pair_bytes kind_bytes (pair_bytes u32_bytes u64_bytes)) identity_apart (pair_apart is_kind kind_bytes (pair_is is_u32 is_u64) (pair_bytes u32_bytes u64_bytes) kind_apart (pair_apart is_u32 u32_bytes is_u64 u64_bytes u32_apart u64_apart)) a p.0 mid x y s p.2 in
+    (ap (λ (v : ((List ℕ) × (TreeKind × (ℕ × ℕ)))). events.Raise v.0 v.1.0 v.1.1.0 v.1.1.1) same.0 ∙ sym p.1, same.1)
+
+same_primitive : (a : ((List ℕ) × Primitive)) (f : Event) (mid x y : List ℕ) → Stands (pair_is is_identity is_primitive) (pair_bytes identity_bytes primitive_bytes) mid a x → Stands is_event event_bytes (20 ∷ mid) f y → (events.Prim a.0 a.1 ≡ f) × (x ≡ y)
+same_primitive a f mid x y s u =
+    let p = primitive_of mid f y u in
+    let same = pair_apart is_identity identity_bytes is_primitive primitive_bytes identity_apart primitive_apart a p.0 mid x y s p.2 in
+    (ap (λ (v : ((List ℕ) × Primitive)). events.Prim v.0 v.1) same.0 ∙ sym p.1, same.1)
 
 same_compensated : (a : (List ℕ)) (f : Event) (mid x y : List ℕ) → Stands is_identity identity_bytes mid a x → Stands is_event event_bytes (21 ∷ mid) f y → (events.Compensated a ≡ f) × (x ≡ y)
 same_compensated a f mid x y s u =
@@ -273,6 +343,8 @@ event_apart (events.Person name roles) f whole x y s u =
     same_person (name, roles) f ((name_bytes name ++ short_list_bytes name_bytes roles) ++ x) x y (record { in_range = s.in_range; split = refl }) (at_front (events.Person name roles) f whole x y s u)
 event_apart (events.Load name text) f whole x y s u =
     same_load (name, text) f ((name_bytes name ++ text_bytes text) ++ x) x y (record { in_range = s.in_range; split = refl }) (at_front (events.Load name text) f whole x y s u)
+event_apart (events.AddRule place at side when conclusion number) f whole x y s u =
+    same_rule (place, (at, (side, (when, (conclusion, number))))) f ((tree_bytes place ++ (u32_bytes at ++ (flag_bytes side ++ (text_bytes when ++ (conclusion_bytes conclusion ++ u32_bytes number))))) ++ x) x y (record { in_range = s.in_range; split = refl }) (at_front (events.AddRule place at side when conclusion number) f whole x y s u)
 event_apart (events.Launch n spec row) f whole x y s u =
     same_launch (n, (spec, row)) f ((u64_bytes n ++ (name_bytes spec ++ row_bytes row)) ++ x) x y (record { in_range = s.in_range; split = refl }) (at_front (events.Launch n spec row) f whole x y s u)
 event_apart (events.Enter i t places first count) f whole x y s u =
@@ -295,10 +367,18 @@ event_apart (events.CompleteSub j) f whole x y s u =
     same_complete_sub j f (identity_bytes j ++ x) x y (record { in_range = s.in_range; split = refl }) (at_front (events.CompleteSub j) f whole x y s u)
 event_apart (events.CompleteEmpty j) f whole x y s u =
     same_complete_empty j f (identity_bytes j ++ x) x y (record { in_range = s.in_range; split = refl }) (at_front (events.CompleteEmpty j) f whole x y s u)
+event_apart (events.Pass j check) f whole x y s u =
+    same_pass (j, check) f ((identity_bytes j ++ kind_bytes check) ++ x) x y (record { in_range = s.in_range; split = refl }) (at_front (events.Pass j check) f whole x y s u)
+event_apart (events.Except j check node n) f whole x y s u =
+    same_exception (j, (check, (node, n))) f ((identity_bytes j ++ (kind_bytes check ++ (u32_bytes node ++ u64_bytes n))) ++ x) x y (record { in_range = s.in_range; split = refl }) (at_front (events.Except j check node n) f whole x y s u)
 event_apart (events.Substitute j worklet) f whole x y s u =
     same_substitute (j, worklet) f ((identity_bytes j ++ name_bytes worklet) ++ x) x y (record { in_range = s.in_range; split = refl }) (at_front (events.Substitute j worklet) f whole x y s u)
 event_apart (events.CompleteWorklet j) f whole x y s u =
     same_complete_worklet j f (identity_bytes j ++ x) x y (record { in_range = s.in_range; split = refl }) (at_front (events.CompleteWorklet j) f whole x y s u)
+event_apart (events.Raise j kind node n) f whole x y s u =
+    same_raised (j, (kind, (node, n))) f ((identity_bytes j ++ (kind_bytes kind ++ (u32_bytes node ++ u64_bytes n))) ++ x) x y (record { in_range = s.in_range; split = refl }) (at_front (events.Raise j kind node n) f whole x y s u)
+event_apart (events.Prim r primitive) f whole x y s u =
+    same_primitive (r, primitive) f ((identity_bytes r ++ primitive_bytes primitive) ++ x) x y (record { in_range = s.in_range; split = refl }) (at_front (events.Prim r primitive) f whole x y s u)
 event_apart (events.Compensated r) f whole x y s u =
     same_compensated r f (identity_bytes r ++ x) x y (record { in_range = s.in_range; split = refl }) (at_front (events.Compensated r) f whole x y s u)
 event_apart (events.Suspend j) f whole x y s u =
@@ -307,10 +387,6 @@ event_apart (events.Continue j) f whole x y s u =
     same_go_on j f (identity_bytes j ++ x) x y (record { in_range = s.in_range; split = refl }) (at_front (events.Continue j) f whole x y s u)
 event_apart (events.Advance n) f whole x y s u =
     same_advance n f (u64_bytes n ++ x) x y (record { in_range = s.in_range; split = refl }) (at_front (events.Advance n) f whole x y s u)
-event_apart e f whole x y s u = absurd (not_so s.in_range)
-  where
-    not_so : false ≡ true → ⊥
-    not_so h = cc
 
 -- the tags of what is built
 abbrev pub is_built_tag : ℕ → Bool

@@ -25,7 +25,7 @@ pub both_true : (p q : Bool) → p ≡ true → q ≡ true → (p && q) ≡ true
 both_true p q e f = cc
 
 -- the first byte
-pub head_of : List ℕ → ℕ
+abbrev pub head_of : List ℕ → ℕ
 head_of l = get_or l 0 0
 
 -- ---- two fields

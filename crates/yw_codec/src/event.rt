@@ -10,7 +10,7 @@ use crate::reader::{CodecFault, Reader};
 use std::alloc::{AllocError, Global};
 use yw_base::{Ident, Name, Row, Text, Value};
 use yw_spec::PlaceList;
-use yw_state::Event;
+use yw_state::{Conclusion, Event, Primitive, TreeKind, TreePlace};
 
 fn person(alloc: Global, reader: &mut Reader<'_>) -> Result<Event, CodecFault>
     ensures ok { IfOk result (λ event. Stands is_event event_bytes (1 ∷ reader.old) event reader.new) }
@@ -27,6 +27,24 @@ fn load(alloc: Global, reader: &mut Reader<'_>) -> Result<Event, CodecFault>
 {
     let (name, text) = <(Name, Text)>::read(alloc, reader)?;
     Ok(Event::Load { name, text })
+}
+
+fn rule(alloc: Global, reader: &mut Reader<'_>) -> Result<Event, CodecFault>
+    ensures ok { IfOk result (λ event. Stands is_event event_bytes (3 ∷ reader.old) event reader.new) }
+    ensures bad { IfErr result (λ fault. fault ≡ CodecFault.Bad → NoneStands is_event event_bytes (3 ∷ reader.old)) }
+{
+    let (place, (at, (side, (when, (conclusion, number))))) = <(
+        TreePlace,
+        (u32, (bool, (Text, (Conclusion, u32)))),
+    )>::read(alloc, reader)?;
+    Ok(Event::AddRule {
+        place,
+        at,
+        side,
+        when,
+        conclusion,
+        number,
+    })
 }
 
 fn launch(alloc: Global, reader: &mut Reader<'_>) -> Result<Event, CodecFault>
@@ -130,6 +148,27 @@ fn complete_empty(alloc: Global, reader: &mut Reader<'_>) -> Result<Event, Codec
     Ok(Event::CompleteEmpty { item })
 }
 
+fn pass(alloc: Global, reader: &mut Reader<'_>) -> Result<Event, CodecFault>
+    ensures ok { IfOk result (λ event. Stands is_event event_bytes (15 ∷ reader.old) event reader.new) }
+    ensures bad { IfErr result (λ fault. fault ≡ CodecFault.Bad → NoneStands is_event event_bytes (15 ∷ reader.old)) }
+{
+    let (at, check) = <(Ident, TreeKind)>::read(alloc, reader)?;
+    Ok(Event::Pass { at, check })
+}
+
+fn exception(alloc: Global, reader: &mut Reader<'_>) -> Result<Event, CodecFault>
+    ensures ok { IfOk result (λ event. Stands is_event event_bytes (16 ∷ reader.old) event reader.new) }
+    ensures bad { IfErr result (λ fault. fault ≡ CodecFault.Bad → NoneStands is_event event_bytes (16 ∷ reader.old)) }
+{
+    let (at, (check, (node, number))) = <(Ident, (TreeKind, (u32, u64)))>::read(alloc, reader)?;
+    Ok(Event::Except {
+        at,
+        check,
+        node,
+        number,
+    })
+}
+
 fn substitute(alloc: Global, reader: &mut Reader<'_>) -> Result<Event, CodecFault>
     ensures ok { IfOk result (λ event. Stands is_event event_bytes (17 ∷ reader.old) event reader.new) }
     ensures bad { IfErr result (λ fault. fault ≡ CodecFault.Bad → NoneStands is_event event_bytes (17 ∷ reader.old)) }
@@ -144,6 +183,27 @@ fn complete_worklet(alloc: Global, reader: &mut Reader<'_>) -> Result<Event, Cod
 {
     let item = <Ident as Field>::read(alloc, reader)?;
     Ok(Event::CompleteWorklet { item })
+}
+
+fn raised(alloc: Global, reader: &mut Reader<'_>) -> Result<Event, CodecFault>
+    ensures ok { IfOk result (λ event. Stands is_event event_bytes (19 ∷ reader.old) event reader.new) }
+    ensures bad { IfErr result (λ fault. fault ≡ CodecFault.Bad → NoneStands is_event event_bytes (19 ∷ reader.old)) }
+{
+    let (at, (kind, (node, number))) = <(Ident, (TreeKind, (u32, u64)))>::read(alloc, reader)?;
+    Ok(Event::Raise {
+        at,
+        kind,
+        node,
+        number,
+    })
+}
+
+fn primitive(alloc: Global, reader: &mut Reader<'_>) -> Result<Event, CodecFault>
+    ensures ok { IfOk result (λ event. Stands is_event event_bytes (20 ∷ reader.old) event reader.new) }
+    ensures bad { IfErr result (λ fault. fault ≡ CodecFault.Bad → NoneStands is_event event_bytes (20 ∷ reader.old)) }
+{
+    let (run, primitive) = <(Ident, Primitive)>::read(alloc, reader)?;
+    Ok(Event::Prim { run, primitive })
 }
 
 fn compensated(alloc: Global, reader: &mut Reader<'_>) -> Result<Event, CodecFault>
@@ -186,6 +246,7 @@ pub fn read_tagged(alloc: Global, reader: &mut Reader<'_>, tag: u8) -> Result<Ev
     match tag {
         1 => person(alloc, reader),
         2 => load(alloc, reader),
+        3 => rule(alloc, reader),
         4 => launch(alloc, reader),
         5 => enter(alloc, reader),
         6 => start(alloc, reader),
@@ -197,8 +258,12 @@ pub fn read_tagged(alloc: Global, reader: &mut Reader<'_>, tag: u8) -> Result<Ev
         12 => start_sub(alloc, reader),
         13 => complete_sub(alloc, reader),
         14 => complete_empty(alloc, reader),
+        15 => pass(alloc, reader),
+        16 => exception(alloc, reader),
         17 => substitute(alloc, reader),
         18 => complete_worklet(alloc, reader),
+        19 => raised(alloc, reader),
+        20 => primitive(alloc, reader),
         21 => compensated(alloc, reader),
         22 => suspend(alloc, reader),
         23 => go_on(alloc, reader),
@@ -207,7 +272,7 @@ pub fn read_tagged(alloc: Global, reader: &mut Reader<'_>, tag: u8) -> Result<Ev
     }
 }
 
-/// Reads the event at the front of the bytes, of any kind that has bytes, and says how many bytes it has. `Bad` comes exactly
+/// Reads the event at the front of the bytes, and says how many bytes it has. `Bad` comes exactly
 /// where no event's bytes stand there, unless memory runs out first, which is `Memory`.
 pub fn read_event(alloc: Global, bytes: &[u8]) -> Result<(Event, usize), CodecFault>
     ensures within { IfOk result (λ v. v.1 ≤ length bytes.now) }
@@ -287,7 +352,7 @@ fn write_five<A: Field, B: Field, C: Field, D: Field, E: Field>(
     fifth.write(out)
 }
 
-/// Writes one event, of any kind that has bytes, behind what stands in `out`. A person has at most 64 roles. An `Err` says that
+/// Writes one event after what stands in `out`. A person has at most 64 roles, and no primitive is `Unknown`. An `Err` says that
 /// no memory was left, or that the length of a text or a list doesn't fit a u32; what `out` has then is told nowhere.
 pub fn push_event(out: &mut Vec<u8>, event: &Event) -> Result<(), AllocError>
     requires { has_form event.now ≡ true }
@@ -300,6 +365,17 @@ pub fn push_event(out: &mut Vec<u8>, event: &Event) -> Result<(), AllocError>
             write_short_list(out, roles.as_slice())
         }
         Event::Load { name, text } => write_two(out, 2, name, text),
+        Event::AddRule {
+            place,
+            at,
+            side,
+            when,
+            conclusion,
+            number,
+        } => {
+            write_five(out, 3, place, at, side, when, conclusion)?;
+            number.write(out)
+        }
         Event::Launch { case, spec, values } => write_three(out, 4, case, spec, values),
         Event::Enter {
             net,
@@ -322,12 +398,25 @@ pub fn push_event(out: &mut Vec<u8>, event: &Event) -> Result<(), AllocError>
         Event::StartSub { item } => write_one(out, 12, item),
         Event::CompleteSub { item } => write_one(out, 13, item),
         Event::CompleteEmpty { item } => write_one(out, 14, item),
+        Event::Pass { at, check } => write_two(out, 15, at, check),
+        Event::Except {
+            at,
+            check,
+            node,
+            number,
+        } => write_four(out, 16, at, check, node, number),
         Event::Substitute { item, worklet } => write_two(out, 17, item, worklet),
         Event::CompleteWorklet { item } => write_one(out, 18, item),
+        Event::Raise {
+            at,
+            kind,
+            node,
+            number,
+        } => write_four(out, 19, at, kind, node, number),
+        Event::Prim { run, primitive } => write_two(out, 20, run, primitive),
         Event::Compensated { run } => write_one(out, 21, run),
         Event::Suspend { at } => write_one(out, 22, at),
         Event::Continue { at } => write_one(out, 23, at),
         Event::Advance { case } => write_one(out, 24, case),
-        _ => unreachable!(),
     }
 }

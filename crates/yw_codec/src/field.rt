@@ -1,4 +1,4 @@
-// The fields.
+// What a field is, fields one after the other, and lists of fields.
 ghost use Rattle.std.specs.Prelude.{◌≡◌, ◌++◌, ◌∷◌, [], List, ℕ, Bool, true, IfOk, IfErr, OnOk, length, ◌<◌};
 ghost use Rattle.std.specs.List.{flat_map, list_all};
 ghost use Rattle.yw_codec.specs.Forms.{Stands, NoneStands, AreApart, are_counted};
@@ -8,19 +8,27 @@ use crate::reader::{CodecFault, Reader};
 use std::alloc::{AllocError, Global};
 use yw_base::Items;
 
+/// A kind of field: what may stand in it, its bytes, and how it is read and written.
 pub trait Field: Sized + Drop {
+    /// The value may stand in it.
     ghost is_field: { Self → Bool };
 
+    /// Its bytes.
     ghost bytes: { Self → List ℕ };
 
+    /// The value whose bytes stand at the front. `Bad` comes exactly where none's do, unless memory runs out first, which is `Memory`.
+    /// What the reader has after a fault is told nowhere.
     fn read(alloc: Global, reader: &mut Reader<'_>) -> Result<Self, CodecFault>
         ensures ok { IfOk result (λ value. Stands is_field bytes reader.old value reader.new) }
         ensures bad { IfErr result (λ fault. fault ≡ CodecFault.Bad → NoneStands is_field bytes reader.old) };
 
+    /// Writes the value after what stands in `out`. An `Err` says that no memory was left, that a length or a count doesn't fit its field, or
+    /// that the value has no bytes; what `out` has then is told nowhere.
     fn write(&self, out: &mut Vec<u8>) -> Result<(), AllocError>
         ensures bytes { OnOk result (out.new.items ≡ out.old.items ++ bytes self.now) }
         ensures range { OnOk result (is_field self.now ≡ true) };
 
+    /// The bytes tell where they end.
     ghost apart: { AreApart is_field bytes };
 }
 
@@ -62,7 +70,7 @@ pub fn read_items<T: Field>(
     Ok(items)
 }
 
-// Fields of a kind, one behind the other.
+// Fields of a kind, one after the other.
 pub fn write_items<T: Field>(out: &mut Vec<u8>, items: &[T]) -> Result<(), AllocError>
     ensures bytes { OnOk result (out.new.items ≡ out.old.items ++ flat_map T.bytes items.now) }
     ensures range { OnOk result (list_all T.is_field items.now ≡ true) }
@@ -97,7 +105,7 @@ impl<T: Field> Field for Items<T> {
     }
 }
 
-// The same behind a count of one byte.
+/// So many fields of a kind as a count of one byte says, which stands before them. Faults are those of `Field::read`.
 pub fn read_short_list<T: Field>(
     alloc: Global,
     reader: &mut Reader<'_>,
@@ -109,6 +117,7 @@ pub fn read_short_list<T: Field>(
     read_items(alloc, reader, u32::from(count))
 }
 
+/// Writes fields of a kind, fewer than 256, after a count of one byte. An `Err` is that of `Field::write`.
 pub fn write_short_list<T: Field>(out: &mut Vec<u8>, items: &[T]) -> Result<(), AllocError>
     requires { length items.now < 256 }
     ensures bytes { OnOk result (out.new.items ≡ out.old.items ++ short_list_bytes T.bytes items.now) }

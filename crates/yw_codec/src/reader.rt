@@ -28,6 +28,7 @@ impl<'a> Model for Reader<'a> {
 }
 
 impl<'a> Reader<'a> {
+    /// All of these bytes are still to be read.
     pub fn new(bytes: &'a [u8]) -> Reader<'a>
         ensures { result ≡ bytes.now }
     {
@@ -41,7 +42,7 @@ impl<'a> Reader<'a> {
         self.rest.len()
     }
 
-    /// So many bytes, which stand at the front.
+    /// So many bytes, which stand at the front. `Bad` says that fewer are left.
     pub fn take(&mut self, count: usize) -> Result<&'a [u8], CodecFault>
         ensures ok { IfOk result (λ part. self.old ≡ part.now ++ self.new) }
         ensures long { IfOk result (λ part. length part.now ≡ count) }
@@ -57,7 +58,7 @@ impl<'a> Reader<'a> {
         Ok(part)
     }
 
-    /// The byte at the front.
+    /// The byte at the front. `Bad` says that none is left.
     pub fn byte(&mut self) -> Result<u8, CodecFault>
         ensures ok { IfOk result (λ byte. self.old ≡ byte ∷ self.new) }
         ensures bad { IfErr result (λ fault. self.old ≡ []) }

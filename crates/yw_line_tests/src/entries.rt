@@ -1,22 +1,47 @@
 // Events and entries as bytes, both ways.
 ghost use Rattle.std.specs.Prelude.{◌≡◌, ◌≤◌, IsTrue, length, true};
 ghost use Rattle.std.specs.List.{list_all};
-ghost use Rattle.yw_codec.specs.Entries.{has_form, is_writable};
+ghost use Rattle.yw_codec.specs.Entries.{has_form, has_words, is_word, is_writable};
 
 use crate::bytes::{bytes_of, push_hex};
 use crate::replies::push_reply;
 use std::alloc::{AllocError, Global};
 use yw_codec::{CodecFault, push_event, read_entry, read_event, write_entry, write_entry_into};
-use yw_state::{Event, EventList};
+use yw_state::{Conclusion, Event, EventList, Primitive};
 
 const MOST_ROLES: usize = 64;
 
 const MOST_EVENTS: usize = 4097;
 
-fn push_fault(out: &mut String, fault: &CodecFault) -> Result<(), AllocError> {
+/// Adds the fault's name.
+pub(crate) fn push_fault(out: &mut String, fault: &CodecFault) -> Result<(), AllocError> {
     match fault {
         CodecFault::Bad => out.push_str("Bad"),
         CodecFault::Memory => out.push_str("Memory"),
+    }
+}
+
+/// The primitive is one of the words.
+fn is_word(primitive: &Primitive) -> bool
+    ensures { result ≡ is_word primitive.now }
+{
+    !matches!(primitive, Primitive::Unknown(_))
+}
+
+/// Each primitive is one of the words.
+fn are_words(steps: &[Primitive]) -> bool
+    ensures { result ≡ list_all is_word steps.now }
+{
+    steps.iter().all(|step| is_word(step))
+}
+
+/// What is concluded is written in words.
+fn has_words(conclusion: &Conclusion) -> bool
+    ensures { result ≡ has_words conclusion.now }
+{
+    match conclusion {
+        Conclusion::Worklet(_) => true,
+        Conclusion::Exlet(steps) => are_words(steps.as_slice()),
     }
 }
 
@@ -26,11 +51,8 @@ fn has_form(event: &Event) -> bool
 {
     match event {
         Event::Person { roles, .. } => roles.len() <= MOST_ROLES,
-        Event::AddRule { .. }
-        | Event::Pass { .. }
-        | Event::Except { .. }
-        | Event::Raise { .. }
-        | Event::Prim { .. } => false,
+        Event::AddRule { conclusion, .. } => has_words(conclusion),
+        Event::Prim { primitive, .. } => is_word(primitive),
         _ => true,
     }
 }

@@ -1,4 +1,4 @@
-//! Says what the calls of yw_wire and yw_codec make of lines and bytes: what no clause says. Each line is a case, a word and a text, and is printed
+//! Says what the calls of yw_wire, yw_codec and yw_states make of lines and bytes: what no clause says. Each line is a case, a word and a text, and is printed
 //! again with what comes of it behind an arrow. A line of `#` is a heading, which says what its cases show.
 #![tactic(auto)]
 
@@ -7,6 +7,7 @@ mod bytes;
 mod entries;
 mod replies;
 mod shown;
+mod states;
 
 use std::alloc::{AllocError, Global};
 use std::io;
@@ -21,7 +22,8 @@ fn add(alloc: Global, word: &str, text: &str, out: &mut String) -> Result<(), Al
         "none" => asked::of_none(alloc, text.as_bytes(), out),
         "event" => entries::event(alloc, text, out),
         "entry" => entries::entry(alloc, text, out),
-        "step" => replies::step(alloc, text, out),
+        "rows" => states::rows(alloc, text, out),
+        "none_done" => replies::none_done(alloc, out),
         "refused" => replies::refused(alloc, text, out),
         "value" => replies::value(alloc, text, out),
         _ => out.push('?'),

@@ -1,8 +1,8 @@
 // The lines that are said.
 use serde_json::Value as JsonValue;
 use std::alloc::{AllocError, Global};
-use yw_base::{Ident, Name, Text};
-use yw_state::{Event, EventList, Primitive, Refusal, Rule, TreeKind};
+use yw_base::Text;
+use yw_state::{EventList, Refusal, Rule};
 use yw_wire::{reply_done, reply_refused, value_line};
 
 /// Adds a line that is said, without its newline.
@@ -26,47 +26,9 @@ pub(crate) fn push_reply(
     push_line(out, reply.as_slice())
 }
 
-fn name(alloc: Global, text: &str) -> Result<Name, AllocError> {
-    match Name::read(alloc, text) {
-        Ok(name) => Ok(name),
-        Err(_) => Err(AllocError),
-    }
-}
-
-fn ident(alloc: Global, text: &str) -> Result<Ident, AllocError> {
-    match Ident::read(alloc, text) {
-        Ok(ident) => Ok(ident),
-        Err(_) => Err(AllocError),
-    }
-}
-
-/// An event that has no bytes, by its word.
-fn push_unwritten(alloc: Global, word: &str, events: &mut EventList) -> Result<(), AllocError> {
-    let event = match word {
-        "pass" => Event::Pass {
-            at: ident(alloc, "1.2.3")?,
-            check: TreeKind::Select,
-        },
-        "raise" => Event::Raise {
-            at: ident(alloc, "1.8")?,
-            kind: TreeKind::Timeout,
-            node: 1,
-            number: 9,
-        },
-        "prim" => Event::Prim {
-            run: ident(alloc, "1.8.9")?,
-            primitive: Primitive::Compensate(name(alloc, "remind")?),
-        },
-        _ => return Ok(()),
-    };
-    events.push(event)
-}
-
-/// `pass`: the reply that shows such an event; of another word one that shows none.
-pub(crate) fn step(alloc: Global, word: &str, out: &mut String) -> Result<(), AllocError> {
-    let mut events = EventList::new(alloc);
-    push_unwritten(alloc, word, &mut events)?;
-    push_reply(alloc, &events, out)
+/// The reply that shows no event.
+pub(crate) fn none_done(alloc: Global, out: &mut String) -> Result<(), AllocError> {
+    push_reply(alloc, &EventList::new(alloc), out)
 }
 
 /// `7 place`: the reply to the line of this number, which isn't built, with this place between two quotes, a backslash, a newline and a letter of two bytes.

@@ -1,0 +1,6 @@
+mod Each
+mod Content
+mod Marks
+mod Numbers
+mod Parents
+mod NetsDecided

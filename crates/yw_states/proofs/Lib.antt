@@ -1,0 +1,10 @@
+pub mod Items
+pub mod Stored
+pub mod Lists
+pub mod Nets
+pub mod Orders
+pub mod Rising
+pub mod Same
+pub mod SameSites
+pub mod Tokens
+pub mod Written
