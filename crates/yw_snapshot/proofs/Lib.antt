@@ -1,0 +1,13 @@
+mod FileAlone
+mod Beginning
+mod FoundLaws
+mod Fronts
+mod GatesRead
+mod HeldChosen
+mod Looks
+mod Making
+mod Once
+mod ReadFurther
+mod ReadOn
+mod Standing
+mod WindowLemmas

@@ -1,0 +1,5 @@
+use Rattle.yw_snapshot.proofs.FoundLaws as found
+use Rattle.yw_snapshot.proofs.laws.compacted_holds.Goals as goal
+
+pub returns : goal.returns
+returns g c = found.compacted_holds g.M.Means.meaning
