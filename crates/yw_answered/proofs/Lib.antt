@@ -4,6 +4,8 @@ pub mod Reading
 pub mod Reached
 pub mod OtherCases
 pub mod Deciding
+pub mod Tokens
+pub mod QueriesAnswered
 pub mod LinesAnswered
 pub mod Runs
 pub mod Sessions

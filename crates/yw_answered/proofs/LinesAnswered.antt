@@ -14,15 +14,19 @@ use Rattle.yw_state.specs.Well.{IsWell}
 use Rattle.yw_state.specs.declared.command.Asked.{Asked}
 use Rattle.yw_state.specs.declared.command.Asked.TheVariants as asked
 use Rattle.yw_state.specs.declared.command.Command.{Command}
+use Rattle.yw_state.specs.declared.command.Query.{Query}
 use Rattle.yw_state.specs.declared.rule.Rule.{Rule}
-use Rattle.yw_state.specs.declared.rule.Rule.TheVariants.{NotBuilt}
 use Rattle.yw_within.proofs.Finding.{well_holds_within}
 use Rattle.yw_answered.proofs.Deciding.{has_answer}
+use Rattle.yw_answered.proofs.QueriesAnswered.{query_answered}
 use Rattle.yw_answered.proofs.Reading.{reads_all}
-use Rattle.yw_answered.specs.Answered.{CommandHasAnswer, LineHasAnswer}
+use Rattle.yw_answered.specs.Answered.{CommandHasAnswer, LineHasAnswer, QueryHasAnswer}
 
 pub command_has_answer : (s : State) (n : ℕ) (c : Command) → IsWell reader s → IsProper c → CommandHasAnswer s n c
 command_has_answer s n c well right = has_answer reads_all s n well (well_holds_within reader s accepted_are_within well) c right
+
+pub query_has_answer : (s : State) (n : ℕ) (q : Query) → IsWell reader s → QueryHasAnswer s n q
+query_has_answer s n q well = query_answered s n (well_holds_within reader s accepted_are_within well) q
 
 refuses : (s : State) (n : ℕ) (r : Rule) → CannotLack ((step : Step) × (t : State) × MeaningAnswers (Err r) s n step t)
 refuses s n r = here (record { taken = []; reply = refused_line n (placeless r) }, s, record { nothing = refl; told = refl; same = refl })
@@ -33,4 +37,4 @@ line_has_answer built s n line well = by_meaning (meaning built line) refl
     by_meaning : (m : Result Asked Rule) → meaning built line ≡ m → CannotLack ((step : Step) × (t : State) × MeaningAnswers m s n step t)
     by_meaning (Err r) is = refuses s n r
     by_meaning (Ok (asked.Command c)) is = command_has_answer s n c well (asks_properly built line (asked.Command c) is).0
-    by_meaning (Ok (asked.Query q)) is = refuses s n NotBuilt
+    by_meaning (Ok (asked.Query q)) is = query_has_answer s n q well

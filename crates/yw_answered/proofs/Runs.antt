@@ -1,5 +1,5 @@
 -- What a run takes leads to its state, which stays well; and in a state that is well no lines lack a run.
-use Rattle.std.specs.Prelude.{ℕ, ◌+◌, List, [], ◌∷◌, Option, Some, None, Result, Ok, Err, refl}
+use Rattle.std.specs.Prelude.{◌≡◌, ℕ, ◌+◌, List, [], ◌∷◌, Option, Some, None, Result, Ok, Err, refl}
 use Rattle.std.proofs.Common.{sym, subst}
 use Rattle.yw_answered.proofs.LinesAnswered.{line_has_answer}
 use Rattle.yw_accepted.proofs.Loaded.{accepted_are_sound}
@@ -7,7 +7,7 @@ use Rattle.yw_invariant.proofs.FromOpening.{events_keep_well}
 use Rattle.yw_lines.specs.Meaning.{meaning}
 use Rattle.yw_model.proofs.Lacking.{follows, here}
 use Rattle.yw_model.proofs.RunLemmas.{EntriesLead-append}
-use Rattle.yw_model.specs.Run.{Accepts, Answers, CannotLack, EntriesLead, Entry, FoundAnswers, HasRun, MeaningAnswers, Refuses, Run, Step, built_words, taken_by}
+use Rattle.yw_model.specs.Run.{Accepts, Answers, CannotLack, EntriesLead, Entry, FoundAnswers, FoundTells, HasRun, MeaningAnswers, QueryAnswers, Refuses, Run, Step, Tells, built_words, taken_by}
 use Rattle.yw_model.specs.Texts.{reader}
 use Rattle.yw_state.specs.Broken.{placeless}
 use Rattle.yw_state.specs.State.{State}
@@ -15,6 +15,8 @@ use Rattle.yw_state.specs.Well.{IsWell}
 use Rattle.yw_state.specs.declared.command.Asked.{Asked}
 use Rattle.yw_state.specs.declared.command.Asked.TheVariants as asked
 use Rattle.yw_state.specs.declared.command.Command.{Command}
+use Rattle.yw_state.specs.declared.command.Query.{Query}
+use Rattle.yw_state.specs.declared.command.Query.TheVariants as queries
 use Rattle.yw_state.specs.declared.rule.Refusal.{Refusal}
 use Rattle.yw_state.specs.declared.rule.Rule.{Rule}
 use Rattle.yw_state.specs.declared.rule.Rule.TheVariants.{NotBuilt}
@@ -26,8 +28,11 @@ module _ (s : State) (n : ℕ) (step : Step) (t : State) where
   abbrev StepLeads : Type 0
   StepLeads = EntriesLead reader s step.taken t
 
+  nothing_leads : step.taken ≡ [] → t ≡ s → StepLeads
+  nothing_leads nothing same = subst (λ (es : List Entry). EntriesLead reader s es t) (sym nothing) same
+
   refused_leads : (refusal : Refusal) → Refuses refusal s n step t → StepLeads
-  refused_leads refusal a = subst (λ (es : List Entry). EntriesLead reader s es t) (sym a.nothing) a.same
+  refused_leads refusal a = nothing_leads a.nothing a.same
 
   accepted_leads : (c : Command) → Accepts c s n step t → StepLeads
   accepted_leads c a =
@@ -38,10 +43,20 @@ module _ (s : State) (n : ℕ) (step : Step) (t : State) where
   found_leads (Some refusal) c a = refused_leads refusal a
   found_leads None c a = accepted_leads c a
 
+  told_leads : (found : Option Refusal) (q : Query) → FoundTells found q s n step t → StepLeads
+  told_leads (Some refusal) q a = refused_leads refusal a
+  told_leads None q a = nothing_leads a.nothing a.same
+
+  query_leads : (q : Query) → QueryAnswers q s n step t → StepLeads
+  query_leads (queries.List who) a = refused_leads (placeless NotBuilt) a
+  query_leads (queries.Show j) a = told_leads a.0 (queries.Show j) a.2
+  query_leads (queries.Ended j) a = told_leads a.0 (queries.Ended j) a.2
+  query_leads queries.Specs a = told_leads a.0 queries.Specs a.2
+
   meant_leads : (m : Result Asked Rule) → MeaningAnswers m s n step t → StepLeads
   meant_leads (Err r) a = refused_leads (placeless r) a
   meant_leads (Ok (asked.Command c)) a = found_leads a.0 c a.2
-  meant_leads (Ok (asked.Query q)) a = refused_leads (placeless NotBuilt) a
+  meant_leads (Ok (asked.Query q)) a = query_leads q a
 
   pub answer_leads : (line : List ℕ) → Answers s n line step t → StepLeads
   unfolding Answers

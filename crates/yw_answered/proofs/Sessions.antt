@@ -3,14 +3,17 @@ use Rattle.std.specs.Prelude.{ℕ, ◌+◌, List, [], ◌∷◌, ◌++◌, lengt
 use Rattle.std.proofs.Common.{inl, inr}
 use Rattle.yw_answered.specs.Sessions.{SameButNumber, SameButNumbers}
 use Rattle.yw_lines.specs.Meaning.{meaning}
+use Rattle.yw_lines.specs.Answers.{answer_line}
 use Rattle.yw_lines.specs.Replies.{done_line, refused_line}
 use Rattle.yw_model.proofs.RunLemmas.{Run-append}
-use Rattle.yw_model.specs.Run.{Accepts, Answers, FoundAnswers, MeaningAnswers, Refuses, Run, Step, built_words}
+use Rattle.yw_model.specs.Run.{Accepts, Answers, FoundAnswers, FoundTells, MeaningAnswers, QueryAnswers, Refuses, Run, Step, Tells, built_words}
 use Rattle.yw_state.specs.Broken.{placeless}
 use Rattle.yw_state.specs.State.{State}
 use Rattle.yw_state.specs.declared.command.Asked.{Asked}
 use Rattle.yw_state.specs.declared.command.Asked.TheVariants as asked
 use Rattle.yw_state.specs.declared.command.Command.{Command}
+use Rattle.yw_state.specs.declared.command.Query.{Query}
+use Rattle.yw_state.specs.declared.command.Query.TheVariants as queries
 use Rattle.yw_state.specs.declared.rule.Refusal.{Refusal}
 use Rattle.yw_state.specs.declared.rule.Rule.{Rule}
 use Rattle.yw_state.specs.declared.rule.Rule.TheVariants.{NotBuilt}
@@ -30,18 +33,35 @@ module _ (s : State) (n k : ℕ) (step : Step) (t : State) where
   accepts : (c : Command) → Accepts c s n step t → Renumbered (λ other. Accepts c s k other t)
   accepts c a = (
     record { taken = step.taken; reply = done_line k a.entry.events a.entry.quiet },
-    record { taken = refl; reply = inr (a.entry, a.told, refl) },
+    record { taken = refl; reply = inr (inl (a.entry, a.told, refl)) },
     record { entry = a.entry; legal = a.legal; one = a.one; told = refl },
+  )
+
+  tells : (q : Query) → Tells q s n step t → Renumbered (λ other. Tells q s k other t)
+  tells q a = (
+    record { taken = step.taken; reply = answer_line k a.answer },
+    record { taken = refl; reply = inr (inr (a.answer, a.told, refl)) },
+    record { nothing = a.nothing; answer = a.answer; is = a.is; told = refl; same = a.same },
   )
 
   found : (rule : Option Refusal) (c : Command) → FoundAnswers rule c s n step t → Renumbered (λ other. FoundAnswers rule c s k other t)
   found (Some refusal) c a = refuses refusal a
   found None c a = accepts c a
 
+  found_of : (rule : Option Refusal) (q : Query) → FoundTells rule q s n step t → Renumbered (λ other. FoundTells rule q s k other t)
+  found_of (Some refusal) q a = refuses refusal a
+  found_of None q a = tells q a
+
+  told : (q : Query) → QueryAnswers q s n step t → Renumbered (λ other. QueryAnswers q s k other t)
+  told (queries.List who) a = refuses (placeless NotBuilt) a
+  told (queries.Show j) a = let r = found_of a.0 (queries.Show j) a.2 in (r.0, r.1, (a.0, a.1, r.2))
+  told (queries.Ended j) a = let r = found_of a.0 (queries.Ended j) a.2 in (r.0, r.1, (a.0, a.1, r.2))
+  told queries.Specs a = let r = found_of a.0 queries.Specs a.2 in (r.0, r.1, (a.0, a.1, r.2))
+
   meant : (m : Result Asked Rule) → MeaningAnswers m s n step t → Renumbered (λ other. MeaningAnswers m s k other t)
   meant (Err r) a = refuses (placeless r) a
   meant (Ok (asked.Command c)) a = let r = found a.0 c a.2 in (r.0, r.1, (a.0, a.1, r.2))
-  meant (Ok (asked.Query q)) a = refuses (placeless NotBuilt) a
+  meant (Ok (asked.Query q)) a = told q a
 
   pub answered : (line : List ℕ) → Answers s n line step t → Renumbered (λ other. Answers s k line other t)
   unfolding Answers

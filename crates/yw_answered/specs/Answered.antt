@@ -3,13 +3,14 @@ use Rattle.std.specs.Prelude.{ℕ, List, Option, Result}
 use Rattle.yw_expr.specs.Tree.{Tree}
 use Rattle.yw_expr.specs.declared.scope.Binding.{Binding}
 use Rattle.yw_lines.specs.Meaning.{meaning}
-use Rattle.yw_model.specs.Run.{CannotLack, CommandAnswers, MeaningAnswers, Step}
+use Rattle.yw_model.specs.Run.{CannotLack, CommandAnswers, MeaningAnswers, QueryAnswers, Step}
 use Rattle.yw_lines.specs.declared.word.Word.{Word}
 use Rattle.yw_spec.specs.declared.spec.Spec.{Spec}
 use Rattle.yw_state.specs.Broken.{Breaks}
 use Rattle.yw_state.specs.State.{State}
 use Rattle.yw_state.specs.Texts.{Reader}
 use Rattle.yw_state.specs.declared.command.Command.{Command}
+use Rattle.yw_state.specs.declared.command.Query.{Query}
 use Rattle.yw_state.specs.declared.rule.Refusal.{Refusal}
 
 -- A reader by which no text lacks a reading: as a specification, or its first fault; and as a condition over some names, or its fault.
@@ -24,6 +25,10 @@ FindsRule reader s c = CannotLack ((found : Option Refusal) × Breaks reader s c
 -- the command has an answer in this state, as the line with number n
 abbrev pub CommandHasAnswer : State → ℕ → Command → Type 0
 CommandHasAnswer s n c = CannotLack ((step : Step) × (t : State) × CommandAnswers c s n step t)
+
+-- so has the query
+abbrev pub QueryHasAnswer : State → ℕ → Query → Type 0
+QueryHasAnswer s n q = CannotLack ((step : Step) × (t : State) × QueryAnswers q s n step t)
 
 -- the line has, where these words are built
 abbrev pub LineHasAnswer : List Word → State → ℕ → List ℕ → Type 0

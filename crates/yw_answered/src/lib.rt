@@ -4,7 +4,7 @@
 #![tactic(auto)]
 
 ghost use Rattle.std.specs.Prelude.{◌≡◌, ◌+◌, ◌++◌, ℕ, Bool, List, None, Some, length};
-ghost use Rattle.yw_answered.specs.Answered.{CommandHasAnswer, FindsRule, LineHasAnswer, ReadsAll};
+ghost use Rattle.yw_answered.specs.Answered.{CommandHasAnswer, FindsRule, LineHasAnswer, QueryHasAnswer, ReadsAll};
 ghost use Rattle.yw_answered.specs.Sessions.{SameButNumbers};
 ghost use Rattle.yw_model.specs.Run.{Answers, CannotLack, EntriesLead, HasRun, Run, Step, taken_by};
 ghost use Rattle.yw_model.specs.Texts.{reader};
@@ -20,6 +20,7 @@ ghost use Rattle.yw_state.specs.State.{State, opening};
 ghost use Rattle.yw_state.specs.Texts.{IsOne};
 ghost use Rattle.yw_state.specs.Well.{IsWell};
 ghost use Rattle.yw_state.specs.declared.command.Command.{Command};
+ghost use Rattle.yw_state.specs.declared.command.Query.{Query};
 ghost use Rattle.yw_state.specs.declared.event.Event.{Event};
 ghost use Rattle.yw_turns.specs.Turns.{HasEntry};
 ghost use Rattle.yw_within.specs.Within.{HoldsWithin};
@@ -50,6 +51,11 @@ pub fn unbroken_has_entry<R: Reads>()
 /// In a state that is well, a command that is as a line gives it has an answer.
 pub fn command_has_answer()
     ensures { (s : State) (n : ℕ) (c : Command) → IsWell reader s → IsProper c → CommandHasAnswer s n c }
+{}
+
+/// In a state that is well, a query has an answer, and it has one, whatever stands: all that is told can be found and put in order.
+pub fn query_has_answer()
+    ensures { (s : State) (n : ℕ) (q : Query) → IsWell reader s → QueryHasAnswer s n q }
 {}
 
 /// In a state that is well, each line has an answer, whichever words are built.

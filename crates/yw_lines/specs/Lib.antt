@@ -8,4 +8,6 @@ pub mod Fields
 pub mod Shapes
 pub mod Meaning
 pub mod EventTexts
+pub mod Ways
 pub mod Replies
+pub mod Answers

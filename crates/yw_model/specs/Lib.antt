@@ -1,3 +1,4 @@
 pub mod Accepted
 pub mod Texts
+pub mod Told
 pub mod Run

@@ -6,8 +6,11 @@ use Rattle.yw_state.specs.Texts.{Reader}
 use Rattle.yw_state.specs.Events.{LeadAll}
 use Rattle.yw_state.specs.Legal.{IsLegal}
 use Rattle.yw_lines.specs.Meaning.{meaning}
+use Rattle.yw_lines.specs.Answers.{answer_line}
 use Rattle.yw_lines.specs.Replies.{done_line, refused_line}
-use Rattle.yw_state.specs.Broken.{Breaks, placeless}
+use Rattle.yw_model.specs.Told.{IsTold}
+use Rattle.serde_json.specs.Data.{Data}
+use Rattle.yw_state.specs.Broken.{Breaks, QueryBreaks, placeless}
 use Rattle.yw_state.specs.declared.rule.Rule.{Rule}
 use Rattle.yw_state.specs.declared.rule.Rule.TheVariants.{NotBuilt}
 use Rattle.yw_state.specs.declared.rule.Refusal.{Refusal}
@@ -15,15 +18,18 @@ use Rattle.yw_state.specs.declared.command.Asked.{Asked}
 use Rattle.yw_state.specs.declared.command.Asked.TheVariants as asked
 use Rattle.yw_state.specs.declared.command.Command.{Command}
 use Rattle.yw_state.specs.declared.command.Command.TheVariants as commands
+use Rattle.yw_state.specs.declared.command.Query.{Query}
+use Rattle.yw_state.specs.declared.command.Query.TheVariants as queries
 use Rattle.yw_state.specs.Allowed.{are_roles}
 use Rattle.yw_state.specs.declared.event.Event.{Event}
 use Rattle.yw_lines.specs.declared.word.Word.{Word}
 use Rattle.yw_lines.specs.declared.word.Word.TheVariants as words
 
--- the words whose commands are built
+-- the words whose commands and queries are built
 abbrev pub built_words : List Word
 built_words =
-    words.Person ∷ words.Load ∷ words.Launch ∷ words.Enter ∷ words.Start ∷ words.Complete ∷ words.Add ∷ words.Cancel ∷ words.Advance ∷ []
+    words.Person ∷ words.Load ∷ words.Launch ∷ words.Enter ∷ words.Start ∷ words.Complete ∷ words.Add ∷ words.Cancel ∷ words.Advance
+    ∷ words.Show ∷ words.Ended ∷ words.Specs ∷ []
 
 -- the commands that a line can ask for: those of built words, with roles as a line gives them
 abbrev pub CanBeAsked : Command → Type 0
@@ -61,6 +67,14 @@ pub record Accepts (c : Command) (s : State) (n : ℕ) (step : Step) (t : State)
   pub one : step.taken ≡ entry ∷ []
   pub told : step.reply ≡ done_line n entry.events entry.quiet
 
+-- the query's answer is said, and changes nothing
+pub record Tells (q : Query) (s : State) (n : ℕ) (step : Step) (t : State) : Type 0 where
+  pub nothing : step.taken ≡ []
+  pub answer : Data
+  pub is : IsTold s q answer
+  pub told : step.reply ≡ answer_line n answer
+  pub same : t ≡ s
+
 -- by the first rule that is broken, if one is
 abbrev pub FoundAnswers : Option Refusal → Command → State → ℕ → Step → State → Type 0
 FoundAnswers (Some refusal) c = Refuses refusal
@@ -69,11 +83,25 @@ FoundAnswers None c = Accepts c
 abbrev pub CommandAnswers : Command → State → ℕ → Step → State → Type 0
 CommandAnswers c s n step t = (found : Option Refusal) × Breaks reader s c found × FoundAnswers found c s n step t
 
+-- by the first rule that the query breaks, if it breaks one
+abbrev pub FoundTells : Option Refusal → Query → State → ℕ → Step → State → Type 0
+FoundTells (Some refusal) q = Refuses refusal
+FoundTells None q = Tells q
+
+abbrev FindsAndTells : Query → State → ℕ → Step → State → Type 0
+FindsAndTells q s n step t = (found : Option Refusal) × QueryBreaks s q found × FoundTells found q s n step t
+
+-- `list` isn't built
+abbrev pub QueryAnswers : Query → State → ℕ → Step → State → Type 0
+QueryAnswers (queries.List who) = Refuses (placeless NotBuilt)
+QueryAnswers (queries.Show j) = FindsAndTells (queries.Show j)
+QueryAnswers (queries.Ended j) = FindsAndTells (queries.Ended j)
+QueryAnswers queries.Specs = FindsAndTells queries.Specs
+
 abbrev pub MeaningAnswers : Result Asked Rule → State → ℕ → Step → State → Type 0
 MeaningAnswers (Err r) = Refuses (placeless r)
 MeaningAnswers (Ok (asked.Command c)) = CommandAnswers c
--- no query is built
-MeaningAnswers (Ok (asked.Query q)) = Refuses (placeless NotBuilt)
+MeaningAnswers (Ok (asked.Query q)) = QueryAnswers q
 
 -- In state s this step may come of the line with number n, and the state is then t. What is said of runs looks no
 -- further into it, so that further kinds of lines join here alone.
