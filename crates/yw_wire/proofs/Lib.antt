@@ -2,3 +2,5 @@ pub mod IdentityLemmas
 pub mod ListLemmas
 pub mod SentLemmas
 pub mod StepLemmas
+mod Floats
+mod MemberLemmas

@@ -1,7 +1,7 @@
 -- What sends the items of a list one by one.
-use Rattle.std.proofs.Common.{◌≡◌, ℕ, ◌+◌, ◌<◌, List, [], ◌∷◌, drop, get_or, length, map, Bool, false, refl, sym, ap, subst, add-one, arith, drop-cons, ◌∙◌}
+use Rattle.std.proofs.Common.{◌≡◌, ℕ, ◌+◌, ◌<◌, List, [], ◌∷◌, drop, get_or, length, map, refl, sym, ap, subst, add-one, drop-cons, ◌∙◌}
 use Rattle.std.specs.Prelude.{suc, Some}
-use Rattle.serde.specs.Event.{Log, Logs, seq_begins, seq_ends}
+use Rattle.serde.specs.Event.{Log, Logs, seq_begins}
 use Rattle.serde_json.specs.Data.{Data, array}
 use Rattle.serde_json.specs.Events.{items_len, SendsItems, SendsValue}
 use Rattle.serde_json.specs.View.{items_of}

@@ -15,7 +15,8 @@ use yw_state::{Event, Primitive, TreeKind};
 
 // ---- parts of words
 
-fn kind_text(kind: TreeKind) -> &'static str
+/// The word of a kind of rule tree.
+pub fn kind_text(kind: TreeKind) -> &'static str
     ensures { result.now ≡ kind_text kind }
 {
     match kind {
@@ -48,7 +49,8 @@ fn push_child(text: &mut String, numbers: &[u64], number: u128) -> Result<(), Al
     write!(text, "{number}")
 }
 
-fn push_dotted(text: &mut String, numbers: &[u64]) -> Result<(), AllocError>
+/// The numbers of an identity with dots between them.
+pub fn push_dotted(text: &mut String, numbers: &[u64]) -> Result<(), AllocError>
     ensures { OnOk result (string_bytes text.new ≡ string_bytes text.old ++ dotted numbers.now) }
 {
     match numbers.split_last() {
@@ -57,7 +59,8 @@ fn push_dotted(text: &mut String, numbers: &[u64]) -> Result<(), AllocError>
     }
 }
 
-fn push_place(text: &mut String, place: &Place) -> Result<(), AllocError>
+/// The name of a condition, or of the two tasks between which it stands.
+pub fn push_place(text: &mut String, place: &Place) -> Result<(), AllocError>
     ensures { OnOk result (string_bytes text.new ≡ string_bytes text.old ++ place_text place.now) }
 {
     match place {
@@ -67,6 +70,32 @@ fn push_place(text: &mut String, place: &Place) -> Result<(), AllocError>
             text.push_str("->")?;
             text.push_str(to.as_str())
         }
+    }
+}
+
+fn push_compensation(text: &mut String, name: &Name) -> Result<(), AllocError>
+    ensures { OnOk result (string_bytes text.new ≡ string_bytes text.old ++ (compensate_front ++ name.now)) }
+{
+    text.push_str("compensate ")?;
+    text.push_str(name.as_str())?;
+    Ok(())
+}
+
+/// A step of an exlet.
+pub fn push_primitive(text: &mut String, primitive: &Primitive) -> Result<(), AllocError>
+    ensures { OnOk result (string_bytes text.new ≡ string_bytes text.old ++ primitive_text primitive.now) }
+{
+    match primitive {
+        Primitive::SuspendItem => text.push_str("suspend_item"),
+        Primitive::ContinueItem => text.push_str("continue_item"),
+        Primitive::RestartItem => text.push_str("restart_item"),
+        Primitive::CompleteItem => text.push_str("complete_item"),
+        Primitive::RemoveItem => text.push_str("remove_item"),
+        Primitive::SuspendCase => text.push_str("suspend_case"),
+        Primitive::ContinueCase => text.push_str("continue_case"),
+        Primitive::RemoveCase => text.push_str("remove_case"),
+        Primitive::Compensate(name) => push_compensation(text, name),
+        Primitive::Unknown(unknown) => text.push_str(unknown.as_str()),
     }
 }
 
@@ -123,29 +152,11 @@ fn add_items(text: &mut String, net: &Ident, first: u64, count: u32) -> Result<(
     Ok(())
 }
 
-fn add_compensation(text: &mut String, name: &Name) -> Result<(), AllocError>
-    ensures { OnOk result (string_bytes text.new ≡ spaced (string_bytes text.old) (compensate_front ++ name.now)) }
-{
-    add(text, "compensate ")?;
-    text.push_str(name.as_str())?;
-    Ok(())
-}
-
 fn add_primitive(text: &mut String, primitive: &Primitive) -> Result<(), AllocError>
     ensures { OnOk result (string_bytes text.new ≡ spaced (string_bytes text.old) (primitive_text primitive.now)) }
 {
-    match primitive {
-        Primitive::SuspendItem => add(text, "suspend_item"),
-        Primitive::ContinueItem => add(text, "continue_item"),
-        Primitive::RestartItem => add(text, "restart_item"),
-        Primitive::CompleteItem => add(text, "complete_item"),
-        Primitive::RemoveItem => add(text, "remove_item"),
-        Primitive::SuspendCase => add(text, "suspend_case"),
-        Primitive::ContinueCase => add(text, "continue_case"),
-        Primitive::RemoveCase => add(text, "remove_case"),
-        Primitive::Compensate(name) => add_compensation(text, name),
-        Primitive::Unknown(unknown) => add(text, unknown.as_str()),
-    }
+    text.push(' ')?;
+    push_primitive(text, primitive)
 }
 
 // ---- texts of a word and one more, each in place of what stood in the text

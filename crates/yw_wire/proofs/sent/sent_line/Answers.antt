@@ -1,6 +1,6 @@
 use Rattle.std.proofs.Common.{List, ℕ, ◌∙◌, ◌++◌, ◌∷◌, [], ap}
 use Rattle.serde_json.proofs.FreeTexts.{text_of_value}
-use Rattle.yw_wire.proofs.reply.sent_line.Goals as goal
+use Rattle.yw_wire.proofs.sent.sent_line.Goals as goal
 
 -- the text of what was sent, and a newline
 pub returns : goal.returns
