@@ -5,10 +5,8 @@ use Rattle.std.specs.Prelude.{Option, Some, [], slice_get, true, unwrap_or, ℕ,
 use Rattle.yw_accepted.proofs.Loaded.{accepted_are_sound, accepted_are_within}
 use Rattle.yw_base.specs.Identity.{most_numbers, number_end}
 use Rattle.yw_cases.proofs.EntryLaw.{Entering, enter_as, entering, its_entry}
-use Rattle.yw_cases.proofs.Taking.{IsTakenBy, joined, taken_by}
-use Rattle.yw_cases.proofs.TaskHere.{its, named, named_so}
+use Rattle.yw_cases.proofs.TaskHere.{its, named, named_so, numbered_by, task_known}
 use Rattle.yw_cases.proofs.Trying.{done, placed_next, words_of}
-use Rattle.yw_cases.specs.Entering.{candidate}
 use Rattle.yw_cases.specs.Here.{IsNetKnown, with_state}
 use Rattle.yw_cases.specs.State.{MayStand, state_of}
 use Rattle.yw_cases.specs.Tried.{IsDone, LeadsOn}
@@ -17,14 +15,14 @@ use Rattle.yw_invariant.proofs.Levels.{net_is_short}
 use Rattle.yw_known.specs.Here.{as_net_at}
 use Rattle.yw_library.specs.Names.{names_of}
 use Rattle.yw_known.specs.declared.known.KnownNet.{KnownNet}
-use Rattle.yw_mark.specs.Tokens.{HasMarks}
+use Rattle.yw_mark.specs.Taking.{taken_places}
 use Rattle.yw_mark.specs.declared.join.Taken.{Taken}
 use Rattle.yw_model.specs.Texts.{reader}
 use Rattle.yw_spec.specs.declared.spec.Place.{Place}
 use Rattle.yw_spec.specs.declared.task.Task.{Task}
 use Rattle.yw_state.proofs.Tests.{is_not, some_same, there_and}
 use Rattle.yw_state.specs.After.{enter, where_some, with_next}
-use Rattle.yw_state.specs.Allowed.{Allowed, may_enter}
+use Rattle.yw_state.specs.Allowed.{Allowed, may_enter, place_numbers}
 use Rattle.yw_state.specs.Events.{after}
 use Rattle.yw_state.specs.Identity.{Ident}
 use Rattle.yw_state.specs.Nets.{task_number}
@@ -36,14 +34,14 @@ use Rattle.yw_state.specs.declared.event.Event.TheVariants as events
 use Rattle.yw_steps.proofs.FromState.{may_get}
 use Rattle.yw_steps.specs.Enters.{Enters, MayComeAt, StandsFor}
 use Rattle.yw_steps.specs.Stands.{MayGetItems, TaskMayGrow}
-use Rattle.yw_still.proofs.Joining.{joins_tokens}
-use Rattle.yw_task.proofs.EnterAsk.{has_marks, its_active}
+use Rattle.yw_task.proofs.EnterAsk.{its_active}
 use Rattle.yw_task.specs.Due.{AreDue}
 use Rattle.yw_task.specs.Enters.{MayCome}
 use Rattle.yw_task.specs.Giving.{entry_rows}
 use Rattle.yw_tree.proofs.Removed.{within}
 use Rattle.yw_tree.specs.declared.Forest.{Forest}
 use Rattle.yw_tree.specs.declared.NetState.{NetState, out-NetState}
+use Rattle.yw_walk.specs.Computed.{EntryTakes}
 use Rattle.yw_within.proofs.Finding.{well_holds_within}
 use Rattle.yw_within.specs.Within.{HoldsWithin}
 
@@ -91,6 +89,13 @@ module _ (old : Standing) (may : MayStand old) (i : Ident) (name : List ℕ) (pl
   pub entered_task : (x : TaskAt) × (task_at s i name ≡ Some x) × (may_enter s i places first count x ≡ true)
   entered_task = there_and (task_at s i name) (may_enter s i places first count) (sym (enter_as old may i name places first count leads.1.said) ∙ leads.1.allowed.0)
 
+  module _ (w : KnownNet) (known : IsNetKnown old.known old.forest s i w) (t : ℕ) (taken : Taken) (takes : EntryTakes s i name places t taken) where
+    pub entry_number : task_number w.net.now name ≡ Some t
+    entry_number = numbered_by old i (with_state w known.state) known.here name takes.of_task takes.named t takes.number
+
+    pub entry_task : (task : Task) × (slice_get w.net.now.tasks t ≡ Some task)
+    entry_task = task_known old i name takes.of_task takes.named w known t entry_number
+
   module _ (w : KnownNet) (known : IsNetKnown old.known old.forest s i w) (t : ℕ) (number : task_number w.net.now name ≡ Some t) (task : Task)
       (of_net : slice_get w.net.now.tasks t ≡ Some task) where
     abbrev x : TaskAt
@@ -106,19 +111,6 @@ module _ (old : Standing) (may : MayStand old) (i : Ident) (name : List ℕ) (pl
     facts =
         entering old may i name places first count (with_state w known.state) known.here t number task of_net
         (its_entry old may i name places first count (with_state w known.state) known.here t number task of_net leads.0 leads.1)
-
-    abbrev marks : List ℕ
-    marks = (out-NetState known.state.now).marks
-
-    abbrev taken : Taken
-    taken = candidate task.join w.net.now places
-
-    marked : HasMarks s i marks
-    marked = has_marks (names_of old.known) old.forest s i w.net.now known.state.now known.here.stands
-
-    by : IsTakenBy s i marks marked w.net.now task.before places task.join
-    by = taken_by s i marks marked w.net.now task.before places task.join (joins_tokens s i task.before task.join facts.cs facts.taken)
-        (joined s i marks marked w.net.now task.before places task.join facts.cs facts.are facts.taken)
 
     pub room_there : first + count ≤ number_end
     room_there = leb-true (first + count) number_end facts.room
@@ -148,8 +140,15 @@ module _ (old : Standing) (may : MayStand old) (i : Ident) (name : List ℕ) (pl
     needs : Needs s
     needs = gets_items old may i w known t task of_net first facts.same
 
-    stands : StandsFor old.forest i w.net.now task taken places
-    stands = record { state = known.state.now; found = known.here.stands.found; numbers = by.numbers }
+    stands : (taken : Taken) → EntryTakes s i name places t taken → StandsFor old.forest i w.net.now task taken places
+    stands taken takes =
+        record {
+          state = known.state.now;
+          found = known.here.stands.found;
+          numbers = subst
+              (λ (z : TaskAt). place_numbers z.within.net places ≡ Some (taken_places z.within.part.tokens z.task.before taken))
+              (some_same takes.of_task x (sym takes.named ∙ there)) takes.takes;
+        }
 
     -- the number drawn next is past so many
     next_is : (c k : ℕ) (z : State) → after s (events.Enter i name places first c) nothing ≡ z → z.next ≡ first + k → k ≡ count
@@ -160,10 +159,10 @@ module _ (old : Standing) (may : MayStand old) (i : Ident) (name : List ℕ) (pl
         let many = many_rows in
         omega (arith, drawn, many)
 
-    pub entered : (f : Forest) (c : ℕ) → Enters w.net.now i t taken first no_checks old.forest f c
+    pub entered : (taken : Taken) → EntryTakes s i name places t taken → (f : Forest) (c : ℕ) → Enters w.net.now i t taken first no_checks old.forest f c
         → IsDone old (events.Enter i name places first count) (record old { forest = f; next = first + count })
-    entered f c does =
-        let so = does task places of_net stands (names_of old.known) s may.held.sites needs in
+    entered taken takes f c does =
+        let so = does task places of_net (stands taken takes) (names_of old.known) s may.held.sites needs in
         let on = so.leads (names_of old.known) s nothing may.held.sites needs in
         let same : c ≡ count =
         next_is c c _ (ap (λ n. after s (events.Enter i n places first c) nothing) (sym its_name) ∙ on) refl in

@@ -9,15 +9,16 @@ use Rattle.yw_accepted.proofs.Loaded.{accepted_are_within}
 use Rattle.yw_cases.proofs.TaskHere.{its, named, named_so, numbered}
 use Rattle.yw_cases.proofs.Taking.{joined, taken_by}
 use Rattle.yw_cases.proofs.Trying.{fails, leads_plainly, next_is, words_of}
-use Rattle.yw_cases.specs.Entering.{candidate, counts, stands_for}
+use Rattle.yw_cases.specs.Entering.{IsChoice, candidate, counts, stands_for}
 use Rattle.yw_cases.specs.State.{MayStand, state_of}
-use Rattle.yw_cases.specs.Tried.{LeadsNowhere, LeadsOn, TellsLeads}
+use Rattle.yw_cases.specs.Tried.{LeadsNowhere, LeadsOn, MayAct}
 use Rattle.yw_cases.specs.declared.standing.Standing.{Standing}
 use Rattle.yw_enabled.specs.Entered.{MayEnter, MayNotEnter, item_count}
 use Rattle.yw_enabled.specs.Free.{MayDraw}
 use Rattle.yw_known.specs.Here.{IsNetHere}
 use Rattle.yw_library.specs.Names.{names_of}
 use Rattle.yw_known.specs.declared.here.NetHere.{NetHere}
+use Rattle.yw_mark.specs.Taking.{taken_places}
 use Rattle.yw_mark.specs.declared.join.Taken.{Taken}
 use Rattle.yw_model.specs.Texts.{reader}
 use Rattle.yw_spec.specs.declared.spec.Place.{Place}
@@ -34,14 +35,15 @@ use Rattle.yw_state.specs.State.{State, TaskAt, task_at}
 use Rattle.yw_state.specs.Texts.{Said, nothing}
 use Rattle.yw_state.specs.Values.{Row}
 use Rattle.yw_state.specs.Words.{active, clear}
-use Rattle.yw_state.specs.declared.event.Event.{Event}
 use Rattle.yw_state.specs.declared.event.Event.TheVariants as events
 use Rattle.yw_still.proofs.Joining.{joins_tokens}
 use Rattle.yw_still.specs.Still.{can_be_entered, may_be_made}
 use Rattle.yw_task.proofs.EnterAsk.{has_marks}
 use Rattle.yw_tree.specs.declared.NetState.{out-NetState}
 use Rattle.yw_walk.specs.Finds as walks
-use Rattle.yw_walk.specs.Finds.{EntersAs}
+use Rattle.yw_walk.specs.Finds.{IsEntered}
+use Rattle.yw_walk.specs.declared.found.Computed.TheVariants as computed
+use Rattle.yw_walk.specs.declared.found.Found.{Found}
 use Rattle.yw_within.proofs.Finding.{well_holds_within}
 
 -- ---- as the definitions have it
@@ -160,7 +162,13 @@ module _ (old : Standing) (may : MayStand old) (i : Ident) (name : List ℕ) (pl
 
     -- ---- and where it is allowed
 
-    pub leads_in : (own : Taken) → MayEnter w.net.now w.state.now t old.next own → (first == old.next && counts task vals count) ≡ true
+    tokens_there : (own : Taken) → MayEnter w.net.now w.state.now t old.next own → has_tokens task.join s i task.before ≡ true
+    tokens_there own enters =
+        let from = enters (names_of old.known) old.forest s i x draw_there (numbered old i w here name t number task of_net) in
+        let one = and_parts (clear s i && not (active s i t) && has_tokens task.join s i task.before) (is_some_and (entry_values task vals) (may_be_made s x)) from.may in
+        (and_parts (clear s i && not (active s i t)) (has_tokens task.join s i task.before) one.0).1
+
+    leads_in : (own : Taken) → MayEnter w.net.now w.state.now t old.next own → (first == old.next && counts task vals count) ≡ true
         → stands_for w.net.now marks task.before places (candidate task.join w.net.now places) ≡ true → LeadsOn old (events.Enter i name places first count)
     leads_in own enters drawn stands =
         let from = enters (names_of old.known) old.forest s i x draw_there (numbered old i w here name t number task of_net) in
@@ -189,23 +197,33 @@ module _ (old : Standing) (may : MayStand old) (i : Ident) (name : List ℕ) (pl
           λ y is_y. subst (NoWait s i) (some_same x y (sym (named old i w here name t number task of_net) ∙ is_y)) from.no_wait,
         )
 
-    -- ---- whichever it is
+    -- ---- what is computed of it
 
-    pub tells_entry : (own : Taken) → MayEnter w.net.now w.state.now t old.next own → (first == old.next && counts task vals count) ≡ true
-        → (b : Bool) → b ≡ stands_for w.net.now marks task.before places (candidate task.join w.net.now places) → TellsLeads old (events.Enter i name places first count) b
-    tells_entry own enters drawn true e = leads_in own enters drawn (sym e)
-    tells_entry own enters drawn false e = not_taken (sym e)
+    pub enters_by : (own : Taken) → MayEnter w.net.now w.state.now t old.next own → (first == old.next && counts task vals count) ≡ true
+        → (taken : Taken) → IsChoice w.net.now marks task places taken → MayAct old (events.Enter i name places first count) (computed.Enter t taken)
+    enters_by own enters drawn taken choice =
+        let marked = has_marks (names_of old.known) old.forest s i w.net.now w.state.now here.stands in
+        let by = taken_by s i marks marked w.net.now task.before places task.join (tokens_there own enters) choice.stands in
+        record {
+          leads = leads_in own enters drawn choice.stands;
+          computed = record {
+            of_task = x;
+            named = named old i w here name t number task of_net;
+            number = refl;
+            takes = by.numbers ∙ ap (λ (z : Taken). Some (taken_places marks task.before z)) (sym choice.is);
+          };
+        }
 
 -- ---- the event by which it may be entered
 
 module _ (old : Standing) (may : MayStand old) (i : Ident) (name : List ℕ) (w : NetHere) (here : IsNetHere old.known old.forest (state_of old) i w) (t : ℕ)
     (number : task_number w.net.now name ≡ Some t) (task : Task) (of_net : slice_get w.net.now.tasks t ≡ Some task) where
-  pub entered_as : (taken : Taken) → MayEnter w.net.now w.state.now t old.next taken → (e : Event) → walks.IsEntry w i old.next t taken e
-      → EntersAs (state_of old) i name e
+  pub entered_as : (taken : Taken) → MayEnter w.net.now w.state.now t old.next taken → (e : Found) → walks.IsEntry w i old.next t taken e
+      → IsEntered (state_of old) i name e
   entered_as taken enters e entry =
       let draw = draw_there old may i name [] 0 0 w here t number task of_net in
       let is = numbered old i w here name t number task of_net in
-      subst (λ (n : List ℕ). EntersAs (state_of old) i n e) (named_so w.net.now t task name of_net number)
+      subst (λ (n : List ℕ). IsEntered (state_of old) i n e) (named_so w.net.now t task name of_net number)
       (entry (names_of old.known) old.forest (state_of old) (its old i w here name t number task of_net) draw
       (well_holds_within reader (state_of old) accepted_are_within may.held.well) is
       (enters (names_of old.known) old.forest (state_of old) i (its old i w here name t number task of_net) draw is))

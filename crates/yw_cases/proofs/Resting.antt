@@ -24,7 +24,8 @@ use Rattle.yw_state.specs.State.{State}
 use Rattle.yw_state.specs.Well.{IsWell}
 use Rattle.yw_state.specs.declared.event.Event.{Event}
 use Rattle.yw_state.specs.declared.event.Event.TheVariants as events
-use Rattle.yw_walk.specs.Finds.{ComesPlainly, StandsFor}
+use Rattle.yw_walk.specs.Finds.{IsFound, StandsFor}
+use Rattle.yw_walk.specs.declared.found.Found.{Found}
 
 module _ (old : Standing) (before : Loose) (is : StandsRested old before) where
   -- whatever says so of a state before the event and one after it
@@ -62,7 +63,7 @@ module _ (old : Standing) (before : Loose) (is : StandsRested old before) where
   pub rested_looked : (now : Loose) → StaysRested old.known old.forest old.next before now → StandsRested old now
   rested_looked now stays = record { stands = is.stands; rested = stays (state_of old) stands_for is.rested }
 
-  pub found_so : {E : Type 0} (n : ℕ) (result : Result (Option Event) E) → IfOk result (FindsLoose old.known old.forest n old.next before)
-      → IfOk result (λ found. MatchOption found (IsQuiet (state_of old) n) (ComesPlainly (state_of old) n))
+  pub found_so : {E : Type 0} (n : ℕ) (result : Result (Option Found) E) → IfOk result (FindsLoose old.known old.forest n old.next before)
+      → IfOk result (λ found. MatchOption found (IsQuiet (state_of old) n) (IsFound (state_of old) n))
   found_so n (Ok found) finds = finds (state_of old) stands_for is.rested
   found_so n (Err fault) finds = tt

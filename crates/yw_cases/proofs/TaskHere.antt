@@ -14,7 +14,7 @@ use Rattle.yw_known.specs.declared.here.NetHere.{NetHere}
 use Rattle.yw_known.specs.declared.known.KnownNet.{KnownNet}
 use Rattle.yw_spec.specs.declared.spec.Net.{Net}
 use Rattle.yw_spec.specs.declared.task.Task.{Task}
-use Rattle.yw_state.proofs.Tests.{by_option, nowhere}
+use Rattle.yw_state.proofs.Tests.{by_option, nowhere, some_same}
 use Rattle.yw_state.specs.Identity.{Ident}
 use Rattle.yw_state.specs.Nets.{task_number}
 use Rattle.yw_state.specs.State.{NetAt, State, TaskAt, net_part, task_at, task_in}
@@ -49,6 +49,19 @@ module _ (old : Standing) (i : Ident) (w : NetHere) (here : IsNetHere old.known 
 
       pub numbered : task_numbered (state_of old) i t ≡ Some its
       numbered = ap (option_and_then (λ (n : NetAt). task_in n t)) here.at ∙ ap (option_map (of_number t)) of_net
+
+-- the number of a task of this name is the one by which the net has it
+module _ (old : Standing) (i : Ident) (w : NetHere) (here : IsNetHere old.known old.forest (state_of old) i w) (name : List ℕ) (y : TaskAt)
+    (there : task_at (state_of old) i name ≡ Some y) where
+  pub numbered_by : (t : ℕ) → y.number ≡ t → task_number w.net.now name ≡ Some t
+  numbered_by t is =
+      by_option (task_number w.net.now name)
+      (λ none. nowhere (sym (no_name_no_task old i w here name none) ∙ there))
+      (λ k number. by_option (slice_get w.net.now.tasks k)
+      (λ none. nowhere (sym (no_number_no_task old i w here name k number none) ∙ there))
+      (λ task of_net.
+      let same = some_same y (its old i w here name k number task of_net) (sym there ∙ named old i w here name k number task of_net) in
+      number ∙ ap (λ n. Some n) (sym (ap (λ (z : TaskAt). z.number) same) ∙ is)))
 
 -- it has the name by which it is found
 pub named_so : (net : Net) (t : ℕ) (task : Task) (name : List ℕ) → slice_get net.tasks t ≡ Some task → task_number net name ≡ Some t → task.name ≡ name

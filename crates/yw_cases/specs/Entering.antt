@@ -1,6 +1,6 @@
 -- What is asked before the entry of a task.
 use Rattle.std.specs.Cmp.Lexicographic.{pointwise}
-use Rattle.std.specs.Prelude.{Bool, List, [], filter, nat_eq, unwrap_or, ℕ, ◌&&◌, ◌==◌, ◌∷◌}
+use Rattle.std.specs.Prelude.{Bool, List, MatchOption, Option, [], false, filter, nat_eq, true, unwrap_or, ℕ, ◌&&◌, ◌==◌, ◌≡◌, ◌∷◌}
 use Rattle.yw_base.specs.declared.gate.Gate.{Gate}
 use Rattle.yw_base.specs.declared.gate.Gate.TheVariants.{And, Or, Xor}
 use Rattle.yw_enabled.specs.Entered.{item_count}
@@ -35,3 +35,13 @@ stands_for net marks before places All = is_some_and (place_numbers net places) 
 stands_for net marks before places (One c) =
     is_marked marks c && is_among before c && is_some_and (place_numbers net places) (λ cs. pointwise nat_eq cs (c ∷ []))
 stands_for net marks before places Marked = is_some_and (place_numbers net places) (λ cs. pointwise nat_eq cs (filter (is_marked marks) before))
+
+-- The choice is the one that may stand for these places, and stands for exactly them.
+pub record IsChoice (net : Net) (marks : List ℕ) (task : Task) (places : List Place) (taken : Taken) : Type 0 where
+  pub is : taken ≡ candidate task.join net places
+  pub stands : stands_for net marks task.before places (candidate task.join net places) ≡ true
+
+-- so it does, or none does
+abbrev pub FindsChoice : Net → List ℕ → Task → List Place → Option Taken → Type 0
+FindsChoice net marks task places found =
+    MatchOption found (stands_for net marks task.before places (candidate task.join net places) ≡ false) (IsChoice net marks task places)

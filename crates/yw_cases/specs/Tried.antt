@@ -1,5 +1,5 @@
 -- Whether an event leads on, and what it leads to.
-use Rattle.std.specs.Prelude.{Bool, List, Some, false, true, ℕ, ◌≡◌}
+use Rattle.std.specs.Prelude.{Bool, List, MatchOption, Option, Some, false, true, ℕ, ◌≡◌}
 use Rattle.yw_cases.specs.State.{state_of}
 use Rattle.yw_cases.specs.declared.standing.Standing.{Standing}
 use Rattle.yw_model.specs.Texts.{reader}
@@ -13,6 +13,8 @@ use Rattle.yw_state.specs.declared.event.Event.{Event}
 use Rattle.yw_state.specs.declared.event.Event.TheVariants as events
 use Rattle.yw_state.specs.declared.rule.Refusal.{Refusal}
 use Rattle.yw_tree.specs.Forest.{IsForest}
+use Rattle.yw_walk.specs.Computed.{IsComputedOf}
+use Rattle.yw_walk.specs.declared.found.Computed.{Computed}
 
 -- the event leads nowhere
 abbrev pub LeadsNowhere : Standing → Event → Type 0
@@ -26,6 +28,15 @@ LeadsOn old e = (t : State) × Leads reader (state_of old) e t
 abbrev pub TellsLeads : Standing → Event → Bool → Type 0
 TellsLeads old e true = LeadsOn old e
 TellsLeads old e false = LeadsNowhere old e
+
+-- The event is allowed, and this was computed of it.
+pub record MayAct (old : Standing) (e : Event) (c : Computed) : Type 0 where
+  pub leads : LeadsOn old e
+  pub computed : IsComputedOf (state_of old) e c
+
+-- so it is, or the event leads nowhere
+abbrev pub TellsComputed : Standing → Event → Option Computed → Type 0
+TellsComputed old e found = MatchOption found (LeadsNowhere old e) (MayAct old e)
 
 -- no event enters the task of this name in the net at i
 abbrev pub IsEnteredNowhere : Standing → Ident → List ℕ → Type 0

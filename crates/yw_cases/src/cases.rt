@@ -2,7 +2,7 @@
 ghost use Rattle.std.specs.Prelude.{◌≡◌, IfOk, MatchOption, OnErr, OnOk, true};
 ghost use Rattle.yw_library.specs.Ended.{ended_of};
 ghost use Rattle.yw_cases.specs.State.{MayStand, standing_of, state_of};
-ghost use Rattle.yw_cases.specs.Tried.{IsEnteredNowhere, IsUnfit, LeadsOn, TellsLeads};
+ghost use Rattle.yw_cases.specs.Tried.{IsEnteredNowhere, IsUnfit, LeadsOn, TellsComputed};
 ghost use Rattle.yw_library.specs.Accepts.{IfRefused};
 ghost use Rattle.yw_model.specs.Texts.{reader};
 ghost use Rattle.yw_plain.specs.Plain.{is_plain_event};
@@ -11,7 +11,8 @@ ghost use Rattle.yw_state.specs.Events.{Leads};
 ghost use Rattle.yw_state.specs.Map.{get};
 ghost use Rattle.yw_state.specs.State.{opening};
 ghost use Rattle.yw_state.specs.declared.event.Event.TheVariants as events;
-ghost use Rattle.yw_walk.specs.Finds.{ComesPlainly, EntersAs};
+ghost use Rattle.yw_walk.specs.Computed.{IsComputedOf};
+ghost use Rattle.yw_walk.specs.Finds.{IsEntered, IsFound};
 
 use crate::entered::entry_event;
 use crate::event::{act, may};
@@ -25,6 +26,7 @@ use yw_library::{EndedTable, FIRST_NUMBER, LibraryFault, Parts};
 use yw_loose::Loose;
 use yw_state::{Event, Way};
 use yw_tree::Forest;
+use yw_walk::{Computed, Found};
 
 /// Persons, specifications, the cases that stand, how cases ended, and the number that is drawn next. A contract sees these; by `state_of` they
 /// are a state, which is well. Beside them is kept where something may come of itself.
@@ -110,26 +112,28 @@ impl Cases {
         })
     }
 
-    /// Whether an event is allowed, so that it leads on. An `Err` says that no memory was left. Nothing changes.
+    /// What is computed of an event that is allowed, so that it leads on; `None` exactly where it leads nowhere. An `Err` says that no memory was
+    /// left. Nothing changes.
     ///
     /// What a command's rules have shown, and what comes of itself, is allowed; so only who does an event that something else tells needs to ask.
     /// That an event is done exactly where the definitions allow it is our own.
-    pub fn may(&self, event: &Event) -> Result<bool, AllocError>
+    pub fn may(&self, event: &Event) -> Result<Option<Computed>, AllocError>
         requires { is_plain_event event.now ≡ true }
-        ensures { IfOk result (TellsLeads self.now event.now) }
+        ensures { IfOk result (TellsComputed self.now event.now) }
     {
         may(self.alloc, &self.standing, event)
     }
 
-    /// Does an event that is allowed: the state is then that after it. Nothing is tested. An `Err` says that no memory was left; then nothing is
-    /// kept any more.
-    pub fn act(&mut self, event: &Event) -> Result<(), AllocError>
+    /// Does an event that is allowed, with what was computed of it: the state is then that after it. Nothing is tested, nor computed anew. An
+    /// `Err` says that no memory was left; then nothing is kept any more.
+    pub fn act(&mut self, event: &Event, computed: Computed) -> Result<(), AllocError>
         requires plain { is_plain_event event.now ≡ true }
         requires leads { LeadsOn self.old event.now }
+        requires computed { IsComputedOf (state_of self.old) event.now computed }
         ensures done { OnOk result (Leads reader (state_of self.old) event.now (state_of self.new)) }
         ensures err { OnErr result (state_of self.new ≡ opening) }
     {
-        match act(self.alloc, &mut self.standing, event) {
+        match act(self.alloc, &mut self.standing, event, computed) {
             Ok(()) => {
                 self.loose.after(self.alloc, &self.standing.forest, event);
                 Ok(())
@@ -162,18 +166,18 @@ impl Cases {
     }
 
     /// The event by which a task may be entered now, whoever does it, by its name in the net at an identity: it takes from the places of one choice
-    /// of the task's join, and its items are numbered from `next` on. `None` comes exactly where no event enters the task. An `Err` says that no
-    /// memory was left.
-    pub fn entry_event(&self, at: &Ident, name: &Name) -> Result<Option<Event>, AllocError>
-        ensures { IfOk result (λ found. MatchOption found (IsEnteredNowhere self.now at.now name.now) (EntersAs (state_of self.now) at.now name.now)) }
+    /// of the task's join, which comes with it, and its items are numbered from `next` on. `None` comes exactly where no event enters the task. An
+    /// `Err` says that no memory was left.
+    pub fn entry_event(&self, at: &Ident, name: &Name) -> Result<Option<Found>, AllocError>
+        ensures { IfOk result (λ found. MatchOption found (IsEnteredNowhere self.now at.now name.now) (IsEntered (state_of self.now) at.now name.now)) }
     {
         entry_event(self.alloc, &self.standing, at, name)
     }
 
-    /// The next event that comes of itself in a case, by what events have set moving: `None` exactly where the case is quiet, as it is where no
-    /// case has this number. An `Err` says that no memory was left. Nothing changes.
-    pub fn next_event(&mut self, n: u64) -> Result<Option<Event>, AllocError>
-        ensures found { IfOk result (λ found. MatchOption found (IsQuiet (state_of self.old) n) (ComesPlainly (state_of self.old) n)) }
+    /// The next event that comes of itself in a case, by what events have set moving, with what was computed of it: `None` exactly where the case
+    /// is quiet, as it is where no case has this number. An `Err` says that no memory was left. Nothing changes.
+    pub fn next_event(&mut self, n: u64) -> Result<Option<Found>, AllocError>
+        ensures found { IfOk result (λ found. MatchOption found (IsQuiet (state_of self.old) n) (IsFound (state_of self.old) n)) }
         ensures same { self.new ≡ self.old }
     {
         let Standing {

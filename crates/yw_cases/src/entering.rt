@@ -1,11 +1,12 @@
 // A task is entered.
 ghost use Rattle.std.specs.Prelude.{◌≡◌, ◌==◌, ◌&&◌, IfOk, OnOk, filter};
-ghost use Rattle.yw_cases.specs.Entering.{candidate, counts, first_number, stands_for};
-ghost use Rattle.yw_cases.specs.State.{MayStand};
-ghost use Rattle.yw_cases.specs.Tried.{IsDone, LeadsOn, TellsLeads};
+ghost use Rattle.yw_cases.specs.Entering.{FindsChoice, candidate, counts, first_number, stands_for};
+ghost use Rattle.yw_cases.specs.State.{MayStand, state_of};
+ghost use Rattle.yw_cases.specs.Tried.{IsDone, LeadsOn, TellsComputed};
 ghost use Rattle.yw_enabled.specs.Entered.{item_count};
 ghost use Rattle.yw_mark.specs.Tokens.{is_marked};
 ghost use Rattle.yw_state.specs.declared.event.Event.TheVariants as events;
+ghost use Rattle.yw_walk.specs.Computed.{IsComputedOf};
 
 use crate::here::known_net;
 use crate::places::{are_numbered, place_number};
@@ -19,7 +20,8 @@ use yw_known::{net_here, task_called};
 use yw_mark::{Taken, is_among, is_marked};
 use yw_spec::{Net, Place, PlaceList, Task};
 use yw_state::Marks;
-use yw_task::{element_count, task_at};
+use yw_task::element_count;
+use yw_walk::Computed;
 
 /// How many items an entry makes: one, or one for each element of the list over which the task runs. `None` where the list is undefined.
 fn item_count(task: &Task, vals: &Row) -> Option<usize>
@@ -93,7 +95,25 @@ fn stands_for(
     }
 }
 
-/// Whether a task may be entered from these places, and so many items come, numbered from `first` on. An `Err` says that no memory was left.
+/// The choice of a task's join that stands for exactly these places; `None` where none does. An `Err` says that no memory was left.
+fn choice_of(
+    alloc: Global,
+    net: &Net,
+    marks: &Marks,
+    task: &Task,
+    places: &[Place],
+) -> Result<Option<Taken>, AllocError>
+    ensures { IfOk result (FindsChoice net.now marks.now task.now places.now) }
+{
+    let taken = candidate(net, task.join, places);
+    if stands_for(alloc, net, marks, task.before.as_slice(), places, taken)? {
+        return Ok(Some(taken));
+    }
+    Ok(None)
+}
+
+/// Whether a task may be entered from these places, and so many items come, numbered from `first` on, with the choice of its join. An `Err` says
+/// that no memory was left.
 pub fn may_enter(
     alloc: Global,
     standing: &Standing,
@@ -102,59 +122,56 @@ pub fn may_enter(
     places: &PlaceList,
     first: u64,
     count: u32,
-) -> Result<bool, AllocError>
+) -> Result<Option<Computed>, AllocError>
     requires { MayStand standing.now }
-    ensures { IfOk result (TellsLeads standing.now (events.Enter at.now name.now places.now first count)) }
+    ensures { IfOk result (TellsComputed standing.now (events.Enter at.now name.now places.now first count)) }
 {
     let Some(here) = net_here(&standing.known, &standing.forest, at) else {
-        return Ok(false);
+        return Ok(None);
     };
     let Some(t) = task_called(here.net, name) else {
-        return Ok(false);
+        return Ok(None);
     };
     let Some(task) = here.net.tasks.get(t) else {
-        return Ok(false);
+        return Ok(None);
     };
     let Some(_) = may_be_entered(here.net, here.state, here.up, t, standing.next) else {
-        return Ok(false);
+        return Ok(None);
     };
     if !draws_items(task, &here.state.vals, standing.next, first, count) {
-        return Ok(false);
+        return Ok(None);
     }
-    stands_for(
-        alloc,
-        here.net,
-        &here.state.marks,
-        task.before.as_slice(),
-        places.as_slice(),
-        candidate(here.net, task.join, places.as_slice()),
-    )
+    match choice_of(alloc, here.net, &here.state.marks, task, places.as_slice())? {
+        Some(taken) => Ok(Some(Computed::Enter { task: t, taken })),
+        None => Ok(None),
+    }
 }
 
-/// A task is entered, and so many items come, numbered from `first` on, as is allowed. The choice of its join is the one that may stand for the
-/// places. An `Err` says that no memory was left.
+/// A task is entered, and so many items come, numbered from `first` on, as is allowed, by the choice of its join that was computed of it. An `Err`
+/// says that no memory was left.
 pub fn act_enter(
     alloc: Global,
     standing: &mut Standing,
     at: &Ident,
-    name: &Name,
-    places: &PlaceList,
+    _name: &Name,
+    _places: &PlaceList,
     first: u64,
     count: u32,
+    computed: Computed,
 ) -> Result<(), AllocError>
     requires stands { MayStand standing.old }
-    requires leads { LeadsOn standing.old (events.Enter at.now name.now places.now first count) }
-    ensures { OnOk result (IsDone standing.old (events.Enter at.now name.now places.now first count) standing.new) }
+    requires leads { LeadsOn standing.old (events.Enter at.now _name.now _places.now first count) }
+    requires computed { IsComputedOf (state_of standing.old) (events.Enter at.now _name.now _places.now first count) computed }
+    ensures { OnOk result (IsDone standing.old (events.Enter at.now _name.now _places.now first count) standing.new) }
 {
+    let Computed::Enter { task, taken } = computed else {
+        unreachable!();
+    };
     let Some(found) = known_net(&standing.known, &standing.forest, at) else {
         unreachable!();
     };
-    let Some(t) = task_called(found.net, name) else {
-        unreachable!();
-    };
-    let taken = candidate(found.net, task_at(found.net, t).join, places.as_slice());
     let forest = &mut standing.forest;
-    yw_steps::come_at(alloc, forest, found.net, at, t, taken, first, NO_CHECKS)?;
+    yw_steps::come_at(alloc, forest, found.net, at, task, taken, first, NO_CHECKS)?;
     standing.next = first + count as u64;
     Ok(())
 }

@@ -1,9 +1,10 @@
 // An event of any kind.
-ghost use Rattle.std.specs.Prelude.{◌≡◌, IfOk, OnOk, true};
-ghost use Rattle.yw_cases.specs.State.{MayStand};
-ghost use Rattle.yw_cases.specs.Tried.{IsDone, LeadsOn, TellsLeads};
+ghost use Rattle.std.specs.Prelude.{◌≡◌, IfOk, OnOk, false, true};
+ghost use Rattle.yw_cases.specs.State.{MayStand, state_of};
+ghost use Rattle.yw_cases.specs.Tried.{IsDone, LeadsOn, TellsComputed, TellsLeads};
 ghost use Rattle.yw_plain.specs.Plain.{is_plain_event};
 ghost use Rattle.yw_state.specs.declared.event.Event.TheVariants as events;
+ghost use Rattle.yw_walk.specs.Computed.{IsComputedOf, is_computed};
 
 use crate::adding::{act_add, may_add};
 use crate::completing::{act_complete, may_complete};
@@ -20,24 +21,19 @@ use crate::whole::{
 };
 use std::alloc::{AllocError, Global};
 use yw_state::Event;
+use yw_walk::Computed;
 
-/// Whether an event is allowed, so that it leads on. An `Err` says that no memory was left.
-pub fn may(alloc: Global, standing: &Standing, event: &Event) -> Result<bool, AllocError>
+/// Whether an event of which nothing is computed is allowed, so that it leads on. An `Err` says that no memory was left.
+fn may_plainly(alloc: Global, standing: &Standing, event: &Event) -> Result<bool, AllocError>
     requires stands { MayStand standing.now }
     requires plain { is_plain_event event.now ≡ true }
+    requires computed { is_computed event.now ≡ false }
     ensures { IfOk result (TellsLeads standing.now event.now) }
 {
     match event {
         Event::Person { name, roles } => Ok(may_person(standing, name, roles)),
         Event::Load { name, text } => may_load(alloc, standing, name, text.as_str()),
         Event::Launch { case, spec, values } => Ok(may_launch(standing, *case, spec, values)),
-        Event::Enter {
-            net,
-            task,
-            places,
-            first,
-            count,
-        } => may_enter(alloc, standing, net, task, places, *first, *count),
         Event::Start { item, who } => Ok(may_start(standing, item, who)),
         Event::Complete { item, out } => may_complete(alloc, standing, item, out),
         Event::Exit { net, task, places } => may_exit(alloc, standing, net, task, places),
@@ -57,12 +53,57 @@ pub fn may(alloc: Global, standing: &Standing, event: &Event) -> Result<bool, Al
     }
 }
 
-/// Does an event that is allowed: what is kept is then that after it. Nothing is tested. An `Err` says that no memory was left; what is kept
-/// then is told nowhere.
-pub fn act(alloc: Global, standing: &mut Standing, event: &Event) -> Result<(), AllocError>
+/// The same, as an answer of what is computed of it.
+fn may_else(
+    alloc: Global,
+    standing: &Standing,
+    event: &Event,
+) -> Result<Option<Computed>, AllocError>
+    requires stands { MayStand standing.now }
+    requires plain { is_plain_event event.now ≡ true }
+    requires computed { is_computed event.now ≡ false }
+    ensures { IfOk result (TellsComputed standing.now event.now) }
+{
+    if may_plainly(alloc, standing, event)? {
+        return Ok(Some(Computed::Nothing));
+    }
+    Ok(None)
+}
+
+/// What is computed of an event that is allowed, so that it leads on; `None` where it leads nowhere. An `Err` says that no memory was left.
+pub fn may(
+    alloc: Global,
+    standing: &Standing,
+    event: &Event,
+) -> Result<Option<Computed>, AllocError>
+    requires stands { MayStand standing.now }
+    requires plain { is_plain_event event.now ≡ true }
+    ensures { IfOk result (TellsComputed standing.now event.now) }
+{
+    match event {
+        Event::Enter {
+            net,
+            task,
+            places,
+            first,
+            count,
+        } => may_enter(alloc, standing, net, task, places, *first, *count),
+        _ => may_else(alloc, standing, event),
+    }
+}
+
+/// Does an event that is allowed, with what was computed of it: what is kept is then that after it. Nothing is tested. An `Err` says that no
+/// memory was left; what is kept then is told nowhere.
+pub fn act(
+    alloc: Global,
+    standing: &mut Standing,
+    event: &Event,
+    computed: Computed,
+) -> Result<(), AllocError>
     requires stands { MayStand standing.old }
     requires plain { is_plain_event event.now ≡ true }
     requires leads { LeadsOn standing.old event.now }
+    requires computed { IsComputedOf (state_of standing.old) event.now computed }
     ensures { OnOk result (IsDone standing.old event.now standing.new) }
 {
     match event {
@@ -75,7 +116,7 @@ pub fn act(alloc: Global, standing: &mut Standing, event: &Event) -> Result<(), 
             places,
             first,
             count,
-        } => act_enter(alloc, standing, net, task, places, *first, *count),
+        } => act_enter(alloc, standing, net, task, places, *first, *count, computed),
         Event::Start { item, who } => act_start(standing, item, who),
         Event::Complete { item, out } => act_complete(alloc, standing, item, out),
         Event::Exit { net, task, places } => act_exit(alloc, standing, net, task, places),

@@ -5,7 +5,7 @@ use Rattle.yw_built.specs.Built.{is_built}
 use Rattle.yw_cases.specs.State.{MayStand, state_of}
 use Rattle.yw_cases.specs.Tried.{LeadsOn}
 use Rattle.yw_cases.specs.declared.standing.Standing.{Standing}
-use Rattle.yw_engine.specs.Decides.{IsDone, IsNext}
+use Rattle.yw_engine.specs.Decides.{IsComing, IsDone, IsNext}
 use Rattle.yw_engine.proofs.Parts.{held_by, next_of}
 use Rattle.yw_library.specs.Holdings.{Holdings}
 use Rattle.yw_model.specs.Texts.{reader}
@@ -19,7 +19,9 @@ use Rattle.yw_state.specs.declared.event.Event.{Event}
 use Rattle.yw_state.specs.declared.event.Event.TheVariants as events
 use Rattle.yw_tree.specs.declared.Forest.{Forest}
 use Rattle.yw_turns.proofs.Entries.{no_text_of}
-use Rattle.yw_walk.specs.Finds.{ComesPlainly, FindsNext, StandsFor, TellsQuiet}
+use Rattle.yw_walk.specs.Computed.{IsComputedOf}
+use Rattle.yw_walk.specs.Finds.{FindsNext, IsFound, StandsFor, TellsQuiet}
+use Rattle.yw_walk.specs.declared.found.Found.{Found}
 
 -- ---- what is built
 
@@ -74,19 +76,20 @@ comes_after s t n e comes leads =
     leads.then ∙ ap (after s e) said
 
 module _ (h : Standing) (may : MayStand h) (n : ℕ) where
+  coming : (w : Found) → IsFound (state_of h) n w → IsComing h n w
+  coming w it = record { comes = it.comes.comes; built = plain_is_built w.event (it.comes.plain may.no_worklet); computed = it.computed }
+
   -- what is found by the walk over the case, by the parts that are read
   module _ (known : Holdings) (f : Forest) (next : ℕ) (same : known ≡ h.known) (same_forest : f ≡ h.forest) (same_next : next ≡ h.next)
     where
       stands_for : StandsFor known f next (state_of h)
       stands_for = record { held = held_by h known f same same_forest may; plain = may.plain; drawn = next_of h next same_next }
 
-      walked : (found : Option Event) → FindsNext known f n next found → IsNext h n found
+      walked : (found : Option Found) → FindsNext known f n next found → IsNext h n found
       walked None finds = (finds (state_of h) stands_for).1
-      walked (Some e) finds =
-          let it = finds (state_of h) stands_for in
-          (it.comes, plain_is_built e (it.plain may.no_worklet))
+      walked (Some w) finds = coming w (finds (state_of h) stands_for)
 
-      pub walked_by : {E : Type 0} (result : Result (Option Event) E) → IfOk result (FindsNext known f n next) → IfOk result (IsNext h n)
+      pub walked_by : {E : Type 0} (result : Result (Option Found) E) → IfOk result (FindsNext known f n next) → IfOk result (IsNext h n)
       walked_by (Ok found) finds = walked found finds
       walked_by (Err fault) finds = tt
 
@@ -96,20 +99,24 @@ module _ (h : Standing) (may : MayStand h) (n : ℕ) where
       quiet_by (Err fault) tells = tt
 
   -- what is found by what is loose
-  pub loose_by : {E : Type 0} (result : Result (Option Event) E) → IfOk result (λ found. MatchOption found (IsQuiet (state_of h) n) (ComesPlainly (state_of h) n))
+  pub loose_by : {E : Type 0} (result : Result (Option Found) E) → IfOk result (λ found. MatchOption found (IsQuiet (state_of h) n) (IsFound (state_of h) n))
       → IfOk result (IsNext h n)
   loose_by (Ok None) quiet = quiet
-  loose_by (Ok (Some e)) it = (it.comes, plain_is_built e (it.plain may.no_worklet))
+  loose_by (Ok (Some w)) it = coming w it
   loose_by (Err fault) finds = tt
 
   -- an event that is found leads on
-  pub next_on : (found : Option Event) (e : Event) → found ≡ Some e → IsNext h n found → LeadsOn h e
-  next_on found e is next = comes_on h n e (subst (IsNext h n) is next).0
+  pub next_on : (found : Option Found) (w : Found) → found ≡ Some w → IsNext h n found → LeadsOn h w.event
+  next_on found w is next = let it = subst (IsNext h n) is next in comes_on h n w.event it.comes
+
+  -- this was computed of it
+  pub next_computed : (found : Option Found) (w : Found) → found ≡ Some w → IsNext h n found → IsComputedOf (state_of h) w.event w.computed
+  next_computed found w is next = let it = subst (IsNext h n) is next in it.computed
 
   -- and what it led to is the state after it
-  pub stepped : (found : Option Event) (e : Event) (mid new : Standing) → found ≡ Some e → IsNext h n found → mid ≡ h → IsDone mid e new
-      → Comes (state_of h) n e × (state_of new ≡ after (state_of h) e nothing) × (is_built e ≡ true)
-  stepped found e mid new is next same done =
+  pub stepped : (found : Option Found) (w : Found) (mid new : Standing) → found ≡ Some w → IsNext h n found → mid ≡ h → IsDone mid w.event new
+      → Comes (state_of h) n w.event × (state_of new ≡ after (state_of h) w.event nothing) × (is_built w.event ≡ true)
+  stepped found w mid new is next same done =
       let it = subst (IsNext h n) is next in
-      let leads = subst (λ (m : Standing). Leads reader (state_of m) e (state_of new)) same done.leads in
-      (it.0, comes_after (state_of h) (state_of new) n e it.0 leads, it.1)
+      let leads = subst (λ (m : Standing). Leads reader (state_of m) w.event (state_of new)) same done.leads in
+      (it.comes, comes_after (state_of h) (state_of new) n w.event it.comes leads, it.built)

@@ -1,5 +1,5 @@
 -- What a completion breaks, and the event that it asks for, by what is held.
-use Rattle.std.proofs.Common.{◌<◌, ◌≡◌, ◌∙◌, List, Ok, Option, Some, None, ap, length, refl, subst, sym, true, ℕ}
+use Rattle.std.proofs.Common.{◌<◌, ◌≡◌, ◌∙◌, List, Ok, Option, Some, None, ap, false, length, refl, subst, sym, true, ℕ}
 use Rattle.std.specs.Prelude.{[], drop, option_and_then, option_map}
 use Rattle.yw_asked.proofs.ItemsAsked as items
 use Rattle.yw_asked.proofs.Unbroken.{none_broken}
@@ -32,6 +32,7 @@ use Rattle.yw_state.specs.declared.event.Event.{Event}
 use Rattle.yw_state.specs.declared.event.Event.TheVariants as events
 use Rattle.yw_state.specs.declared.rule.Refusal.{Refusal}
 use Rattle.yw_steps.specs.Completes.{CompleteBreaks, ItemIs}
+use Rattle.yw_walk.specs.Computed.{is_computed}
 use Rattle.yw_tree.proofs.Removed.{within}
 use Rattle.yw_tree.specs.Forest.{IsForest, item_of}
 use Rattle.yw_tree.specs.Places.{net_at}
@@ -113,12 +114,15 @@ module _ (h : Standing) (may : MayStand h) (who : List ℕ) (j : Ident) (gs : Li
         (as_asked h (commands.Complete who j gs) e (items.complete_has_event reader s may.held.well who j gs makes.0)
         (λ d asked. some_same d e (asked ∙ sym makes.1))).1
 
-    complete_kind : (is_built e ≡ true) × (case_of e ≡ Some (case_number j))
+    complete_kind : (is_built e ≡ true) × (case_of e ≡ Some (case_number j)) × (is_computed e ≡ false)
     unfolding IsAsked
-    complete_kind = of_kind (events.Complete j) (Some (case_number j)) (λ out. (refl, refl)) (option_and_then made_by (item_at s j)) e makes.1
+    complete_kind = of_kind (events.Complete j) (Some (case_number j)) (λ out. (refl, refl, refl)) (option_and_then made_by (item_at s j)) e makes.1
 
     pub complete_built : is_built e ≡ true
     complete_built = complete_kind.0
+
+    pub complete_plain : is_computed e ≡ false
+    complete_plain = complete_kind.2
 
     pub complete_case : (n : ℕ) → n ≡ case_number j → case_of e ≡ Some n
     complete_case n same = complete_kind.1 ∙ ap (λ k. Some k) (sym same)

@@ -22,14 +22,16 @@ use Rattle.yw_state.specs.Texts.{nothing}
 use Rattle.yw_state.specs.declared.command.Command.TheVariants as commands
 use Rattle.yw_state.specs.declared.event.Event.{Event}
 use Rattle.yw_state.specs.declared.event.Event.TheVariants as events
-use Rattle.yw_walk.specs.Finds.{EntersAs}
+use Rattle.yw_walk.specs.Computed.{IsComputedOf}
+use Rattle.yw_walk.specs.Finds.{EntersAs, IsEntered}
+use Rattle.yw_walk.specs.declared.found.Found.{Found}
 use Rattle.yw_within.proofs.Finding.{well_holds_within}
 
 module _ (h : Standing) (i : Ident) (t : List ℕ) where
-  abbrev EntryFound : Option Event → Type 0
-  EntryFound found = MatchOption found (IsEnteredNowhere h i t) (EntersAs (state_of h) i t)
+  abbrev EntryFound : Option Found → Type 0
+  EntryFound found = MatchOption found (IsEnteredNowhere h i t) (IsEntered (state_of h) i t)
 
-  pub enter_there : MayStand h → (who : List ℕ) → BreaksNow h (commands.Enter who i t) None → (found : Option Event) → EntryFound found → found ≡ None → ⊥
+  pub enter_there : MayStand h → (who : List ℕ) → BreaksNow h (commands.Enter who i t) None → (found : Option Found) → EntryFound found → found ≡ None → ⊥
   unfolding IsAsked
   enter_there may who unbroken found is none =
       let s = state_of h in
@@ -38,9 +40,18 @@ module _ (h : Standing) (i : Ident) (t : List ℕ) where
       let nowhere : IsEnteredNowhere h i t = subst EntryFound none is in
       nowhere places s.next (entry_count x) z (subst (λ (e : Event). Leads reader s e z) (sym made) leads)
 
-  module _ (found : Option Event) (is : EntryFound found) (e : Event) (some : found ≡ Some e) where
+  module _ (found : Option Found) (is : EntryFound found) (w : Found) (some : found ≡ Some w) where
+    entered : IsEntered (state_of h) i t w
+    entered = subst EntryFound some is
+
+    abbrev e : Event
+    e = w.event
+
     enters : EntersAs (state_of h) i t e
-    enters = subst EntryFound some is
+    enters = entered.enters
+
+    pub enter_computed : IsComputedOf (state_of h) e w.computed
+    enter_computed = entered.computed
 
     abbrev at : Event
     at = events.Enter i t enters.places (state_of h).next enters.count

@@ -1,6 +1,6 @@
 -- What is said of the parts that are read of what is held is so of it.
 use Rattle.std.proofs.Common.{◌≡◌, subst, sym, ℕ}
-use Rattle.std.specs.Prelude.{Err, IfOk, MatchOption, None, Ok, Option, Result, Some}
+use Rattle.std.specs.Prelude.{MatchOption, None, Option, Some, option_map}
 use Rattle.yw_library.specs.Ended.{ended_of}
 use Rattle.yw_cases.specs.State.{MayStand, state_of}
 use Rattle.yw_cases.specs.declared.standing.Standing.{Standing}
@@ -13,9 +13,9 @@ use Rattle.yw_library.specs.Holdings.{Holdings, with_library}
 use Rattle.yw_state.specs.Automatic.{Comes, IsQuiet}
 use Rattle.yw_state.specs.Identity.{Ident}
 use Rattle.yw_state.specs.Map.{get}
-use Rattle.yw_state.specs.declared.event.Event.{Event}
 use Rattle.yw_state.specs.declared.part.Way.{Way}
 use Rattle.yw_tree.specs.declared.Forest.{Forest}
+use Rattle.yw_walk.specs.declared.found.Found.{Found}
 
 pub next_of : (h : Standing) (next : ℕ) → next ≡ h.next → (state_of h).next ≡ next
 unfolding with_library
@@ -41,8 +41,7 @@ unfolding with_library
 ended_by h n way is = is
 
 -- what is found, whatever is built
-pub found_by : {E : Type 0} (h : Standing) (n : ℕ) (result : Result (Option Event) E) → IfOk result (IsNext h n)
-    → IfOk result (λ found. MatchOption found (IsQuiet (state_of h) n) (Comes (state_of h) n))
-found_by h n (Ok None) quiet = quiet
-found_by h n (Ok (Some e)) next = next.0
-found_by h n (Err fault) next = tt
+pub found_so : (h : Standing) (n : ℕ) (found : Option Found) → IsNext h n found
+    → MatchOption (option_map (λ (w : Found). w.event) found) (IsQuiet (state_of h) n) (Comes (state_of h) n)
+found_so h n None quiet = quiet
+found_so h n (Some w) next = next.comes

@@ -18,6 +18,8 @@ use Rattle.yw_state.specs.declared.event.Event.{Event}
 use Rattle.yw_state.specs.declared.rule.Refusal.{Refusal}
 use Rattle.yw_state.specs.declared.rule.Rule.TheVariants.{NotQuiet}
 use Rattle.yw_still.specs.Still.{SomethingComes}
+use Rattle.yw_walk.specs.Computed.{IsComputedOf}
+use Rattle.yw_walk.specs.declared.found.Found.{Found}
 
 -- ---- an event
 
@@ -31,9 +33,15 @@ abbrev pub IsApplied : Standing → Event → Bool → Standing → Type 0
 IsApplied old e true new = Leads reader (state_of old) e (state_of new)
 IsApplied old e false new = LeadsNowhere old e × (new ≡ old)
 
--- this event comes of itself in the case, and is built; or the case is quiet
-abbrev pub IsNext : Standing → ℕ → Option Event → Type 0
-IsNext h n found = MatchOption found (IsQuiet (state_of h) n) (λ e. Comes (state_of h) n e × (is_built e ≡ true))
+-- The event comes of itself in the case, and is built; and this was computed of it.
+pub record IsComing (h : Standing) (n : ℕ) (w : Found) : Type 0 where
+  pub comes : Comes (state_of h) n w.event
+  pub built : is_built w.event ≡ true
+  pub computed : IsComputedOf (state_of h) w.event w.computed
+
+-- so it is, or the case is quiet
+abbrev pub IsNext : Standing → ℕ → Option Found → Type 0
+IsNext h n found = MatchOption found (IsQuiet (state_of h) n) (IsComing h n)
 
 -- ---- a command
 

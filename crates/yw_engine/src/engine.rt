@@ -5,6 +5,7 @@ ghost use Rattle.yw_engine.specs.Answers.{IfRefused, TellsSpent};
 ghost use Rattle.yw_cases.specs.State as cases;
 ghost use Rattle.yw_cases.specs.State.{MayStand, standing_of};
 ghost use Rattle.yw_engine.specs.Held.{state_of};
+ghost use Rattle.yw_library.specs.Held.{IsHeld};
 ghost use Rattle.yw_model.specs.Run.{CanBeAsked};
 ghost use Rattle.yw_model.specs.Texts.{reader};
 ghost use Rattle.yw_state.specs.Automatic.{Comes, IsQuiet};
@@ -24,6 +25,7 @@ use crate::{Decided, EngineFault};
 use std::alloc::{AllocError, Global};
 use std::marker::Model;
 use yw_cases::Cases;
+use yw_known::Known;
 use yw_library::{Library, Parts};
 use yw_state::{Command, Event, Rule, Way};
 use yw_tree::Forest;
@@ -142,6 +144,28 @@ impl Engine {
         let _ = &self.spent;
     }
 
+    /// Unless the engine is spent, its state is that of what is known and of the cases that stand. A law: nothing is done.
+    pub fn is_held(&self)
+        ensures { self.now.spent ≡ false
+            → IsHeld self.now.standing.known self.now.standing.forest (state_of self.now) }
+    {
+        let _ = &self.spent;
+    }
+
+    /// No memory was left once, and what the engine holds is told no longer.
+    pub fn is_spent(&self) -> bool
+        ensures { result ≡ self.now.spent }
+    {
+        self.spent
+    }
+
+    /// What is known beside cases: persons, specifications, and what is upstream in their nets.
+    pub fn known(&self) -> &Known
+        ensures { result.now ≡ self.now.standing.known }
+    {
+        self.work.standing.known()
+    }
+
     /// The persons and the specifications that are loaded.
     pub fn library(&self) -> &Library
         ensures { result.now ≡ self.now.standing.known }
@@ -164,7 +188,10 @@ impl Engine {
         if self.spent {
             return Err(AllocError);
         }
-        self.work.next_event(case)
+        match self.work.next_event(case)? {
+            Some(found) => Ok(Some(found.event)),
+            None => Ok(None),
+        }
     }
 
     /// How the case of a number ended, or `None` where none of that number is over. It takes no memory.

@@ -4,7 +4,7 @@ ghost use Rattle.yw_cases.specs.State.{MayStand};
 ghost use Rattle.yw_engine.specs.Decides.{BreaksNow, Decides};
 ghost use Rattle.yw_state.specs.declared.command.Command.TheVariants as commands;
 
-use crate::begin::begin;
+use crate::begin::begin_found;
 use crate::front::{breaks_quiet, placeless};
 use crate::work::Work;
 use crate::{Decided, EngineFault};
@@ -47,8 +47,8 @@ pub fn decide_enter(
     if let Some(refusal) = enter_breaks(work, who, net, task)? {
         return Err(EngineFault::Refused(refusal));
     }
-    let Some(event) = work.standing.entry_event(net, task)? else {
+    let Some(found) = work.standing.entry_event(net, task)? else {
         unreachable!();
     };
-    Ok(begin(work, event, Some(net.case_number()))?)
+    Ok(begin_found(work, found, Some(net.case_number()))?)
 }

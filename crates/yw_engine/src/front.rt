@@ -25,7 +25,7 @@ pub fn breaks_quiet(work: &Work, case: u64) -> Result<Option<Refusal>, AllocErro
     ensures { IfOk result (BreaksQuiet work.now.standing case) }
 {
     match work.next_event(case)? {
-        Some(_event) => Ok(Some(placeless(work.alloc, Rule::NotQuiet))),
+        Some(_found) => Ok(Some(placeless(work.alloc, Rule::NotQuiet))),
         None => Ok(None),
     }
 }

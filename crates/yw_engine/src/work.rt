@@ -8,7 +8,7 @@ use std::alloc::{AllocError, Global};
 use yw_cases::Cases;
 use yw_settle::Machine;
 use yw_state::Event;
-use yw_walk::{is_quiet, next_event};
+use yw_walk::{Computed, Found, is_quiet, next_event};
 
 /// What events are done to. It is the machine that takes what comes of itself.
 #[derive(Drop)]
@@ -24,9 +24,11 @@ impl Work {
     ghost use Rattle.yw_cases.specs.Tried.{LeadsOn};
     ghost use Rattle.yw_engine.specs.Decides.{IsApplied, IsDone, IsNext};
     ghost use Rattle.yw_state.specs.Automatic.{IsQuiet};
+    ghost use Rattle.yw_walk.specs.Computed.{IsComputedOf};
 
-    /// The next event that comes of itself in a case, or `None` where the case is quiet. An `Err` says that no memory was left.
-    pub fn next_event(&self, case: u64) -> Result<Option<Event>, AllocError>
+    /// The next event that comes of itself in a case, with what was computed of it, or `None` where the case is quiet. An `Err` says that no memory
+    /// was left.
+    pub fn next_event(&self, case: u64) -> Result<Option<Found>, AllocError>
         requires { MayStand self.now.standing }
         ensures { IfOk result (IsNext self.now.standing case) }
     {
@@ -39,7 +41,7 @@ impl Work {
     }
 
     /// The same, by what events have set moving. What is held doesn't change.
-    fn next_loose(&mut self, case: u64) -> Result<Option<Event>, AllocError>
+    fn next_loose(&mut self, case: u64) -> Result<Option<Found>, AllocError>
         requires { MayStand self.old.standing }
         ensures found { IfOk result (IsNext self.old.standing case) }
         ensures same { self.new.standing ≡ self.old.standing }
@@ -78,22 +80,23 @@ impl Work {
         ensures applied { IfOk result (λ leads. IsApplied self.old.standing event.now leads self.new.standing) }
         ensures stands { OnOk result (MayStand self.new.standing) }
     {
-        if !self.standing.may(event)? {
+        let Some(computed) = self.standing.may(event)? else {
             // No work is done here: this says that what is held may stand.
             self.standing.may_stand();
             return Ok(false);
-        }
-        self.take(event)?;
+        };
+        self.take(event, computed)?;
         Ok(true)
     }
 
-    /// Does an event that is allowed. An `Err` says that no memory was left; what is held then is told nowhere.
-    pub fn take(&mut self, event: &Event) -> Result<(), AllocError>
+    /// Does an event that is allowed, with what was computed of it. An `Err` says that no memory was left; what is held then is told nowhere.
+    pub fn take(&mut self, event: &Event, computed: Computed) -> Result<(), AllocError>
         requires built { is_built event.now ≡ true }
         requires leads { LeadsOn self.old.standing event.now }
+        requires computed { IsComputedOf (state_of self.old.standing) event.now computed }
         ensures { OnOk result (IsDone self.old.standing event.now self.new.standing) }
     {
-        self.standing.act(event)?;
+        self.standing.act(event, computed)?;
         self.standing.may_stand();
         Ok(())
     }
@@ -119,10 +122,11 @@ impl Machine for Work {
     ghost passes = { is_built };
 
     fn step(&mut self, case: u64) -> Result<Option<Event>, AllocError> {
-        let Some(event) = self.next_loose(case)? else {
+        let Some(found) = self.next_loose(case)? else {
             return Ok(None);
         };
-        self.take(&event)?;
+        let Found { event, computed } = found;
+        self.take(&event, computed)?;
         Ok(Some(event))
     }
 

@@ -1,6 +1,6 @@
 -- What becomes of counts behind an event, step by step.
 use Rattle.std.specs.BTreeMap.{Updates, is_at}
-use Rattle.std.specs.Prelude.{◌≡◌, ◌≤◌, ◌<◌, ◌+◌, ◌==◌, ◌&&◌, ℕ, Bool, List, None, Some, Vec, cond, false, length, slice_get, true}
+use Rattle.std.specs.Prelude.{◌≡◌, ◌≤◌, ◌<◌, ◌+◌, ◌==◌, ◌&&◌, ℕ, Bool, IfSome, IsSome, List, None, Option, Some, Vec, cond, false, length, slice_get, true}
 use Rattle.std.specs.declared.alloc.Global.{Global}
 use Rattle.std.proofs.Common.{ap, arith, inl, inr, set, subst, sym, ◌∙◌}
 use Rattle.std.proofs.Math.Bool.{and-false}
@@ -66,6 +66,12 @@ module _ (old new : Counts) (net : Ident) (updates : Updates lexical old.nets ne
 
   pub not_that : i ≡ net → ⊥
   not_that same_net = never (sym other_left ∙ ap (is_at (lexical net)) same_net ∙ tied_self by_name net)
+
+-- the first net's are taken out, where there are some
+pub first_out : (old new : Counts) (popped : Option (Ident × Vec ℕ Global)) → IsSome popped → IfSome popped (λ p. Updates lexical old.nets new.nets p.0 None)
+    → (i : Ident) (v : Vec ℕ Global) → counts_at new i ≡ Some v → counts_at old i ≡ Some v
+first_out old new None some updates i v at = never some
+first_out old new (Some p) some updates i v at = left_there old new p.0 updates i v at
 
 -- ---- an item more is done
 

@@ -13,9 +13,9 @@ use Rattle.yw_state.specs.Identity.{Ident}
 use Rattle.yw_base.specs.Identity.{case_number}
 use Rattle.yw_state.specs.Map.{lexical}
 use Rattle.yw_state.specs.State.{State}
-use Rattle.yw_state.specs.declared.event.Event.{Event}
 use Rattle.yw_tree.specs.declared.Forest.{Forest}
-use Rattle.yw_walk.specs.Finds.{ComesPlainly, FindsAt, StandsFor, TellsAt}
+use Rattle.yw_walk.specs.Finds.{FindsAt, IsFound, StandsFor, TellsAt}
+use Rattle.yw_walk.specs.declared.found.Found.{Found}
 
 -- The case is known, and what was rested is so still.
 pub record Looks (known : Holdings) (f : Forest) (n next : ℕ) (old now : Loose) : Type 0 where
@@ -52,8 +52,8 @@ module _ (known : Holdings) (f : Forest) (n next : ℕ) (old now : Loose) (looks
       }
 
   -- or has an event
-  pub found_there : (id : Ident) (e : Event) → case_number id ≡ n → FindsCounted known f id next now.counts (Some e) → FindsLoose known f n next old (Some e)
-  found_there id e here finds = λ s w rested. subst (λ k. ComesPlainly s k e) here (finds s w (looks.rested s w rested).counted)
+  pub found_there : (id : Ident) (e : Found) → case_number id ≡ n → FindsCounted known f id next now.counts (Some e) → FindsLoose known f n next old (Some e)
+  found_there id e here finds = λ s w rested. subst (λ k. IsFound s k e) here (finds s w (looks.rested s w rested).counted)
 
   -- nothing is left to look at
   pub none_there : now.idents.keys ≡ [] → FindsLoose known f n next old None
@@ -61,7 +61,7 @@ module _ (known : Holdings) (f : Forest) (n next : ℕ) (old now : Loose) (looks
 
 -- what is found where what is told is right, is found where the counts are right by which it is told
 pub found_counted : {E : Type 0} (known : Holdings) (f : Forest) (id : Ident) (next : ℕ) (counts : Counts) (told : Option (List ℕ))
-    → ((s : State) → StandsFor known f next s → AreRight s counts → TellsAt f id told) → (found : Result (Option Event) E)
+    → ((s : State) → StandsFor known f next s → AreRight s counts → TellsAt f id told) → (found : Result (Option Found) E)
     → (TellsAt f id told → IfOk found (FindsAt known f id next)) → IfOk found (FindsCounted known f id next counts)
 found_counted known f id next counts told tells (Ok found) finds = λ s w right. finds (tells s w right) s w
 found_counted known f id next counts told tells (Err fault) finds = tt

@@ -122,13 +122,14 @@ impl Counts {
         }
     }
 
-    /// Where as many nets have counts as may, none has any more.
+    /// Where as many nets have counts as may, the first of them has none any more.
     fn make_room(&mut self)
         ensures { (i : Ident) (v : Vec ℕ Global) → counts_at self.new i ≡ Some v → counts_at self.old i ≡ Some v }
     {
-        if self.nets.len() >= MOST_NETS {
-            self.nets.clear();
+        if self.nets.len() < MOST_NETS {
+            return;
         }
+        self.nets.pop_first();
     }
 
     /// The net at an identity has these counts. An `Err` says that no memory was left.

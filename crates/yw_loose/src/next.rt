@@ -8,9 +8,8 @@ use crate::counts::Counts;
 use std::alloc::{AllocError, Global};
 use yw_base::Ident;
 use yw_known::Known;
-use yw_state::Event;
 use yw_tree::Forest;
-use yw_walk::event_at;
+use yw_walk::{Found, event_at};
 
 /// What comes of itself at an identity, by the counts of the net there, which are made where it has none and a task of it has many items. An `Err`
 /// says that no memory was left.
@@ -21,7 +20,7 @@ fn event_counted(
     id: &Ident,
     next: u64,
     counts: &mut Counts,
-) -> Result<Option<Event>, AllocError>
+) -> Result<Option<Found>, AllocError>
     ensures found { IfOk result (FindsCounted known.now forest.now id.now next counts.old) }
     ensures right { StaysRight known.now forest.now next counts.old counts.new }
 {
@@ -41,7 +40,7 @@ impl Loose {
         forest: &Forest,
         n: u64,
         next: u64,
-    ) -> Result<Option<Event>, AllocError>
+    ) -> Result<Option<Found>, AllocError>
         requires { is_known self.old n ≡ true }
         ensures found { IfOk result (FindsLoose known.now forest.now n next self.old) }
         ensures rested { StaysRested known.now forest.now next self.old self.new }
@@ -54,16 +53,16 @@ impl Loose {
                 continue;
             }
             let found = event_counted(alloc, known, forest, id, next, &mut self.counts)?;
-            if let Some(event) = found {
-                return Ok(Some(event));
+            if let Some(found) = found {
+                return Ok(Some(found));
             }
             self.idents.pop_first();
         }
         Ok(None)
     }
 
-    /// The next event that comes of itself in a case, in a state without rules and exlets: `None` exactly where the case is quiet, as it is
-    /// where no case has this number. `next` is the number that is drawn next. An `Err` says that no memory was left.
+    /// The next event that comes of itself in a case, in a state without rules and exlets, with what was computed of it: `None` exactly where the
+    /// case is quiet, as it is where no case has this number. `next` is the number that is drawn next. An `Err` says that no memory was left.
     ///
     /// Only what is loose is looked at, in order of identities, each before those below it. A case of which nothing is known is looked at whole.
     pub fn next_event(
@@ -73,7 +72,7 @@ impl Loose {
         forest: &Forest,
         n: u64,
         next: u64,
-    ) -> Result<Option<Event>, AllocError>
+    ) -> Result<Option<Found>, AllocError>
         ensures found { IfOk result (FindsLoose known.now forest.now n next self.old) }
         ensures rested { StaysRested known.now forest.now next self.old self.new }
     {

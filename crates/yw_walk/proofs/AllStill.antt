@@ -18,14 +18,14 @@ use Rattle.yw_state.specs.Options.{is_some_and}
 use Rattle.yw_state.specs.State.{RunPart, Site, State}
 use Rattle.yw_state.specs.Well.{Stands}
 use Rattle.yw_state.specs.Words.{any_due, busy, is_at_work, urgent}
-use Rattle.yw_state.specs.declared.event.Event.{Event}
 use Rattle.yw_still.proofs.Quiet.{quiet}
 use Rattle.yw_still.specs.Still.{CaseIsStill, IsStill, case_ends, item_goes_on}
 use Rattle.yw_tree.specs.Cases.{case_at}
 use Rattle.yw_tree.specs.Entries.{case_entries}
 use Rattle.yw_tree.specs.declared.Case.{Case}
 use Rattle.yw_tree.specs.declared.Forest.{Forest}
-use Rattle.yw_walk.specs.Finds.{ComesPlainly, FindsAmong, FindsAt, FindsItemOrTasks, FindsFinish, FindsNext, FindsStep, FindsTasks, IsAtEnd, NoneEntered, NoneLeft, StandsFor}
+use Rattle.yw_walk.specs.Finds.{FindsAmong, FindsAt, FindsFinish, FindsItemOrTasks, FindsNext, FindsStep, FindsTasks, IsAtEnd, IsFound, NoneEntered, NoneLeft, StandsFor}
+use Rattle.yw_walk.specs.declared.found.Found.{Found}
 
 pub still_there : (s : State) → IsPlain s → (j : Ident) → case_ends s j ≡ false → item_goes_on s j ≡ false → NoneLeft s j → NoneEntered s j
     → IsStill s j
@@ -43,13 +43,13 @@ still_there s plain j case item left entered =
 
 module _ (known : Holdings) (f : Forest) (j : Ident) (next : ℕ) (ends : Bool) where
   -- where the item doesn't go on, by the tasks
-  pub below_there : IsAtEnd known f j ends → FindsStep known f j ends None → (o : Option Event) → FindsTasks known f j next o
+  pub below_there : IsAtEnd known f j ends → FindsStep known f j ends None → (o : Option Found) → FindsTasks known f j next o
       → FindsItemOrTasks known f j next o
   below_there out step None tasks = λ s w. let t = tasks s w in (step s w.held w.plain (out s w.held), t.0, t.1)
   below_there out step (Some e) tasks = λ s w. tasks s w
 
   -- and where the case isn't at its end, by what is below
-  pub at_there : IsAtEnd known f j ends → FindsFinish j ends None → (o : Option Event) → FindsItemOrTasks known f j next o
+  pub at_there : IsAtEnd known f j ends → FindsFinish j ends None → (o : Option Found) → FindsItemOrTasks known f j next o
       → FindsAt known f j next o
   at_there out finish None below = λ s w.
       let b = below s w in
@@ -63,10 +63,10 @@ all_still s n js are still =
     let case : CaseIsStill s n = λ j x stands is. All-contains (IsStill s) js j still (are.all j x stands is) in
     (case, quiet s n case)
 
-pub one_comes : (s : State) (n : ℕ) (js : List Ident) (e : Event) → AreAllIn s n js
-    → (j : Ident) × Contains js j × ComesPlainly s (case_number j) e → ComesPlainly s n e
+pub one_comes : (s : State) (n : ℕ) (js : List Ident) (e : Found) → AreAllIn s n js
+    → (j : Ident) × Contains js j × IsFound s (case_number j) e → IsFound s n e
 one_comes s n js e are found =
-    subst (λ k. ComesPlainly s k e) (All-contains (λ j. case_number j ≡ n) js found.0 are.of_case found.1) found.2
+    subst (λ k. IsFound s k e) (All-contains (λ j. case_number j ≡ n) js found.0 are.of_case found.1) found.2
 
 pub none_stand : (s : State) (n : ℕ) → ((j : Ident) (x : Site) → Stands s j x → case_number j ≡ n → ⊥) → CaseIsStill s n × IsQuiet s n
 none_stand s n none =
@@ -81,7 +81,7 @@ module _ (known : Holdings) (f : Forest) (n next : ℕ) where
 
   -- by a look at each identity that stands in the case
   pub next_there : (c : Case) → Some c ≡ case_at n f.cases → (js : List Ident)
-      → ((names : ℕ → List ℕ) → js ≡ idents_of (case_entries names c)) → (o : Option Event)
+      → ((names : ℕ → List ℕ) → js ≡ idents_of (case_entries names c)) → (o : Option Found)
       → FindsAmong known f js next o → FindsNext known f n next o
   next_there c at js are None among = λ s w. all_still s n js (listed s w c at js are) (among s w)
   next_there c at js are (Some e) among = λ s w. one_comes s n js e (listed s w c at js are) (among s w)

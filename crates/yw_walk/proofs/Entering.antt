@@ -19,7 +19,7 @@ use Rattle.yw_spec.specs.declared.task.Many.{Many}
 use Rattle.yw_spec.specs.declared.task.Task.{Task}
 use Rattle.yw_state.proofs.Tests.{map_some, never, some_same, then_some, there_and}
 use Rattle.yw_plain.specs.Plain.{is_plain_event}
-use Rattle.yw_state.specs.Allowed.{Allowed}
+use Rattle.yw_state.specs.Allowed.{Allowed, place_numbers}
 use Rattle.yw_state.specs.Automatic.{case_of, is_automatic}
 use Rattle.yw_state.specs.Identity.{Ident}
 use Rattle.yw_state.specs.Joins.{has_tokens}
@@ -40,8 +40,10 @@ use Rattle.yw_tree.specs.declared.Forest.{Forest}
 use Rattle.yw_tree.specs.declared.NetState.{NetState, out-NetState}
 use Rattle.yw_walk.proofs.Leaving.{task_there}
 use Rattle.yw_walk.proofs.Numbered.{are_numbered}
-use Rattle.yw_walk.specs.Finds.{ComesPlainly, EntersAs, FindsEntered, IsEntry}
+use Rattle.yw_walk.specs.Finds.{ComesPlainly, EntersAs, FindsEntered, IsEntered, IsEntry}
 use Rattle.yw_walk.specs.Places.{places_numbered}
+use Rattle.yw_walk.specs.declared.found.Computed.TheVariants as computed
+use Rattle.yw_walk.specs.declared.found.Found.{Found}
 use Rattle.yw_within.proofs.Finding.{element_at, numbered_of, task_found}
 use Rattle.yw_within.specs.Within.{HoldsWithin}
 
@@ -102,8 +104,10 @@ module _ (net : Net) (state : NetState) (i : Ident) (next : ℕ) where
       → count ≡ length rows)
       → (names : ℕ → List ℕ) (f : Forest) (s : State) (x : TaskAt) → MayDraw names f s i net state next → HoldsWithin s
       → task_numbered s i t ≡ Some x → EntersFrom s i x (taken_places (out-NetState state).marks x.task.before taken)
-      → EntersAs s i x.task.name
-      (events.Enter i task.name (places_numbered net (taken_places (out-NetState state).marks task.before taken)) next count)
+      → IsEntered s i x.task.name (record {
+        event = events.Enter i task.name (places_numbered net (taken_places (out-NetState state).marks task.before taken)) next count;
+        computed = computed.Enter t taken;
+      })
   is_entry t task taken count at counts names f s x draw holds is enters =
       let y : TaskAt = record { number = t; task = task; within = net_with names net state } in
       let there : task_numbered s i t ≡ Some y = task_there names f s i net state draw.free.stands t task at in
@@ -118,10 +122,18 @@ module _ (net : Net) (state : NetState) (i : Ident) (next : ℕ) where
       ≡ events.Enter i task.name (places_numbered net cs) next count =
       λ k. events.Enter i task.name (sym named k) (draw.next k) (long k) in
       record {
-        places = places_numbered net cs;
-        count = count;
-        is = λ k. events.Enter i (ap (λ (z : TaskAt). z.task.name) (sym its) k) (places_numbered net cs) (sym draw.next k) count;
-        allowed = subst (λ e. Allowed s e nothing) event may.allowed;
+        enters = record {
+          places = places_numbered net cs;
+          count = count;
+          is = λ k. events.Enter i (ap (λ (z : TaskAt). z.task.name) (sym its) k) (places_numbered net cs) (sym draw.next k) count;
+          allowed = subst (λ e. Allowed s e nothing) event may.allowed;
+        };
+        computed = record {
+          of_task = y;
+          named = task_found s holds i y (numbered_of s i t y there);
+          number = refl;
+          takes = subst (λ ps. place_numbers net ps ≡ Some cs) (sym named) may.takes;
+        };
       }
 
   -- and so does each that has these fields
@@ -132,11 +144,12 @@ module _ (net : Net) (state : NetState) (i : Ident) (next : ℕ) where
       → count ≡ length rows)
       → (names : ℕ → List ℕ) (f : Forest) (s : State) (x : TaskAt) → MayDraw names f s i net state next → HoldsWithin s
       → task_numbered s i t ≡ Some x → EntersFrom s i x (taken_places (out-NetState state).marks x.task.before taken)
-      → EntersAs s i x.task.name (events.Enter j name places next count)
+      → IsEntered s i x.task.name (record { event = events.Enter j name places next count; computed = computed.Enter t taken })
   made_entry t task taken count at j name numbers places its_net its_name its_numbers its_places counts =
       λ names f s x draw holds is enters.
       let whole = its_places ∙ ap (places_numbered net) its_numbers in
-      subst (EntersAs s i x.task.name) (λ k. events.Enter (sym its_net k) (sym its_name k) (sym whole k) next count)
+      subst (λ (e : Event). IsEntered s i x.task.name (record { event = e; computed = computed.Enter t taken }))
+      (λ k. events.Enter (sym its_net k) (sym its_name k) (sym whole k) next count)
       (is_entry t task taken count at counts names f s x draw holds is enters)
 
 -- where no person enters the task, the event comes of itself
@@ -154,14 +167,14 @@ comes_plainly s holds i t x is kind e enters =
       plain = λ no. ap is_plain_event enters.is;
     }
 
-pub finds_entered : (h : NetHere) (i : Ident) (next t : ℕ) (taken : Taken) (e : Event)
+pub finds_entered : (h : NetHere) (i : Ident) (next t : ℕ) (taken : Taken) (e : Found)
     → EntersFirst h.net.now h.state.now next (Some (t, taken)) → IsEntry h i next t taken e → FindsEntered h i next (Some e)
 finds_entered h i next t taken e first entry = λ names f s draw holds manual.
     let (task, at) = element_at h.net.now.tasks t first.below in
     let x : TaskAt = record { number = t; task = task; within = net_with names h.net.now h.state.now } in
     let is = task_there names f s i h.net.now h.state.now draw.free.stands t task at in
-    comes_plainly s holds i t x is (manual x ∙ first.comes.kind task at) e
-    (entry names f s x draw holds is (first.comes.enters names f s i x draw is))
+    let it = entry names f s x draw holds is (first.comes.enters names f s i x draw is) in
+    record { comes = comes_plainly s holds i t x is (manual x ∙ first.comes.kind task at) e.event it.enters; computed = it.computed }
 
 pub finds_none_entered : (h : NetHere) (i : Ident) (next : ℕ) → EntersFirst h.net.now h.state.now next None → FindsEntered h i next None
 finds_none_entered h i next none = λ names f s draw holds manual k x is may.

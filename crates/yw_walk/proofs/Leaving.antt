@@ -29,8 +29,10 @@ use Rattle.yw_tree.specs.Shows.{items_in}
 use Rattle.yw_tree.specs.declared.Forest.{Forest}
 use Rattle.yw_tree.specs.declared.NetState.{NetState, out-NetState}
 use Rattle.yw_walk.proofs.Numbered.{are_numbered}
-use Rattle.yw_walk.specs.Finds.{ComesPlainly, FindsLeft, IsExit}
+use Rattle.yw_walk.specs.Computed.{plainly}
+use Rattle.yw_walk.specs.Finds.{ComesPlainly, FindsLeft, IsExit, IsFound}
 use Rattle.yw_walk.specs.Places.{places_numbered}
+use Rattle.yw_walk.specs.declared.found.Found.{Found}
 use Rattle.yw_within.proofs.Finding.{element_at}
 use Rattle.yw_within.specs.Within.{HoldsWithin}
 
@@ -77,13 +79,13 @@ module _ (net : Net) (state : NetState) (i : Ident) where
       → places ≡ places_numbered net numbers
       → (names : ℕ → List ℕ) (f : Forest) (s : State) (x : TaskAt) → StandsFree names f s i net state → HoldsWithin s
       → task_numbered s i t ≡ Some x → is_leaving s i x ≡ true
-      → ComesPlainly s (case_number i) (events.Exit j name places)
+      → IsFound s (case_number i) (plainly (events.Exit j name places))
   made_exit t task at j name numbers places its_net its_name its_numbers its_places = λ names f s x free holds is may.
       let whole = its_places ∙ ap (places_numbered net) its_numbers in
-      subst (ComesPlainly s (case_number i)) (λ k. events.Exit (sym its_net k) (sym its_name k) (sym whole k))
-      (is_exit t task at names f s x free holds is may)
+      subst (λ (e : Event). IsFound s (case_number i) (plainly e)) (λ k. events.Exit (sym its_net k) (sym its_name k) (sym whole k))
+      (record { comes = is_exit t task at names f s x free holds is may; computed = refl })
 
-pub finds_left : (h : NetHere) (i : Ident) (t : ℕ) (e : Event) → LeavesFirst h.net.now h.state.now (Some t) → IsExit h i t e
+pub finds_left : (h : NetHere) (i : Ident) (t : ℕ) (e : Found) → LeavesFirst h.net.now h.state.now (Some t) → IsExit h i t e
     → FindsLeft h i (Some e)
 finds_left h i t e first exit = λ names f s free holds.
     let (task, at) = element_at h.net.now.tasks t first.below in

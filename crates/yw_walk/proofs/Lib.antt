@@ -4,3 +4,5 @@ mod Entering
 mod Stepping
 mod NetThere
 mod AllStill
+mod Inner
+pub mod Plainly

@@ -12,9 +12,9 @@ use Rattle.yw_plain.proofs.Words.{words}
 use Rattle.yw_state.specs.Identity.{Ident}
 use Rattle.yw_base.specs.Identity.{case_number}
 use Rattle.yw_state.specs.State.{State}
-use Rattle.yw_state.specs.declared.event.Event.{Event}
 use Rattle.yw_tree.specs.declared.Forest.{Forest}
-use Rattle.yw_walk.specs.Finds.{ComesPlainly, FindsEntered, FindsLeft, StandsFor, NoneEntered, NoneLeft}
+use Rattle.yw_walk.specs.Finds.{FindsEntered, FindsLeft, IsFound, NoneEntered, NoneLeft, StandsFor}
+use Rattle.yw_walk.specs.declared.found.Found.{Found}
 use Rattle.yw_within.proofs.Finding.{well_holds_within}
 use Rattle.yw_within.specs.Within.{HoldsWithin}
 
@@ -29,13 +29,13 @@ module _ (known : Holdings) (f : Forest) (next : ℕ) (s : State) (w : StandsFor
   draw : MayDraw (names_of known) f s j h.net.now h.state.now next
   draw = record { free = free; spec = h.spec.now; within = is.within; next = w.drawn }
 
-  pub left_there : (o : Option Event) → FindsLeft h j o → MatchOption o (NoneLeft s j) (ComesPlainly s (case_number j))
+  pub left_there : (o : Option Found) → FindsLeft h j o → MatchOption o (NoneLeft s j) (IsFound s (case_number j))
   left_there o finds = finds (names_of known) f s free holds
 
-  pub entered_there : (o : Option Event) → FindsEntered h j next o → MatchOption o (NoneEntered s j) (ComesPlainly s (case_number j))
+  pub entered_there : (o : Option Found) → FindsEntered h j next o → MatchOption o (NoneEntered s j) (IsFound s (case_number j))
   entered_there o finds = finds (names_of known) f s draw holds (words s w.plain).manual
 
-  pub tasks_there : FindsLeft h j None → (o : Option Event) → FindsEntered h j next o
-      → MatchOption o (NoneLeft s j × NoneEntered s j) (ComesPlainly s (case_number j))
+  pub tasks_there : FindsLeft h j None → (o : Option Found) → FindsEntered h j next o
+      → MatchOption o (NoneLeft s j × NoneEntered s j) (IsFound s (case_number j))
   tasks_there left None entered = (left_there None left, entered_there None entered)
   tasks_there left (Some e) entered = entered_there (Some e) entered

@@ -1,7 +1,8 @@
 -- What comes of itself of a case and of an item, in a plain state.
 use Rattle.std.proofs.Common.{Bool, None, Option, Some, [], ap, false, refl, subst, sym, true, ℕ, ◌∙◌, ◌∷◌, ◌≡◌}
 use Rattle.std.proofs.lemmas.Bool.{and_from, and_parts}
-use Rattle.std.specs.Prelude.{is_none, is_some, not, option_map, ◌&&◌, ◌||◌}
+use Rattle.std.proofs.Math.Bool.{and-false}
+use Rattle.std.specs.Prelude.{is_none, is_some, not, option_and_then, option_map, ◌&&◌, ◌||◌}
 use Rattle.yw_enabled.specs.Items.{ItemFree, ItemGoes, StepsAs, event_of}
 use Rattle.yw_enabled.specs.declared.items.ItemStep.{ItemStep}
 use Rattle.yw_enabled.specs.declared.items.ItemStep.TheVariants.{CompleteEmpty, CompleteSub, CompleteWorklet, StartSub}
@@ -16,22 +17,25 @@ use Rattle.yw_spec.specs.declared.spec.Net.{Net}
 use Rattle.yw_spec.specs.declared.task.Kind.{Kind}
 use Rattle.yw_spec.specs.declared.task.Kind.TheVariants as kinds
 use Rattle.yw_spec.specs.declared.task.Task.{Task}
-use Rattle.yw_state.proofs.Tests.{and_left, and_right, never, then_some, there_and}
+use Rattle.yw_state.proofs.Tests.{by_option, and_left, and_right, never, then_some, there_and}
 use Rattle.yw_state.specs.Allowed.{Allowed, allows}
 use Rattle.yw_state.specs.Automatic.{case_of, is_automatic}
 use Rattle.yw_state.specs.Identity.{Ident, case_ident}
-use Rattle.yw_base.specs.Identity.{case_number}
+use Rattle.yw_base.specs.Identity.{case_number, parent}
 use Rattle.yw_state.specs.Joins.{at_output, marked}
 use Rattle.yw_state.specs.Nets.{child_net, is_atomic}
-use Rattle.yw_state.specs.State.{ItemAt, NetAt, NetPart, State, item_at, net_at, net_of, net_part}
+use Rattle.yw_state.specs.State.{ItemAt, ItemPart, NetAt, NetPart, State, TaskAt, is_item, item_at, item_part, net_at, net_of, net_part, task_in}
 use Rattle.yw_state.specs.Texts.{nothing}
 use Rattle.yw_state.specs.Well.{NetsStand, has_worklet, is_composite, wants_net}
-use Rattle.yw_state.specs.Words.{is_executing}
+use Rattle.yw_state.specs.Options.{is_some_and}
+use Rattle.yw_state.specs.Words.{clear, is_executing}
 use Rattle.yw_state.specs.declared.event.Event.TheVariants as events
-use Rattle.yw_still.specs.Still.{item_goes_on}
+use Rattle.yw_still.specs.Still.{item_begins, item_ends, item_goes_on}
 use Rattle.yw_tree.specs.declared.Forest.{Forest}
 use Rattle.yw_tree.specs.declared.Node.{out-Node}
+use Rattle.yw_walk.specs.Computed.{IsComputedOf}
 use Rattle.yw_walk.specs.Finds.{ComesPlainly}
+use Rattle.yw_walk.specs.declared.found.Computed.TheVariants as computed
 use Rattle.yw_plain.specs.Worklets.{HasNoWorklet}
 
 -- ---- a case
@@ -50,6 +54,13 @@ module _ (s : State) (plain : IsPlain s) where
       subst (λ z. ComesPlainly s (case_number z) (events.Finish n)) (sym one) (finishes n (ap (at_output s) (sym one) ∙ ends))
 
 -- ---- an item
+
+-- nothing is computed of a step
+pub nothing_computed : (s : State) (step : ItemStep) (j : Ident) → IsComputedOf s (event_of step j) computed.Nothing
+nothing_computed s StartSub j = refl
+nothing_computed s CompleteSub j = refl
+nothing_computed s CompleteEmpty j = refl
+nothing_computed s CompleteWorklet j = refl
 
 step_case : (step : ItemStep) (j : Ident) → case_of (event_of step j) ≡ Some (case_number j)
 step_case StartSub j = refl
@@ -98,6 +109,17 @@ module _ (s : State) (nets : NetsStand s) (none : HasNoWorklet s) (j : Ident) wh
       let item = there_and (item_at s j) (λ (x : ItemAt). is_executing x.part.stage && is_atomic x.of_task.task) (and_right _ _ all.0) in
       let is = and_parts (is_executing item.0.part.stage) (is_atomic item.0.of_task.task) item.2 in
       absurd (no_worklet item.0 item.1 is.1 is.0 all.1)
+
+-- where no item stands, none goes on
+no_item : (s : State) (j : Ident) → is_item s j ≡ false → item_at s j ≡ None
+no_item s j none =
+    by_option (item_part s j)
+    (λ gone. ap (option_and_then (λ (x : ItemPart). option_and_then (λ (n : NetAt). option_map (λ (t : TaskAt). let y : ItemAt = record { part = x; of_task = t } in y) (task_in n x.task)) (net_at s (parent j)))) gone)
+    (λ p there. never (sym none ∙ ap is_some there))
+
+pub stays_without : (s : State) (j : Ident) → is_item s j ≡ false → item_goes_on s j ≡ false
+stays_without s j none =
+    ap (λ o. clear s j && is_some_and o (λ (x : ItemAt). item_begins s j x || item_ends s j x)) (no_item s j none) ∙ and-false (clear s j)
 
 module _ (known : Holdings) (f : Forest) (s : State) (held : IsHeld known f s) (plain : IsPlain s) (j : Ident) (here : ItemHere)
     (is : IsItemHere known f s j here) (ends : Bool) (out : at_output s j ≡ ends) where

@@ -6,7 +6,8 @@ use Rattle.yw_enabled.specs.Entered.{EntersFrom}
 use Rattle.yw_enabled.specs.Free.{MayDraw, StandsFree}
 use Rattle.yw_enabled.specs.Left.{TellsNet}
 use Rattle.yw_library.specs.Held.{IsHeld}
-use Rattle.yw_known.specs.Here.{IsNetHere}
+use Rattle.yw_known.specs.Here.{IsItemHere, IsNetHere}
+use Rattle.yw_known.specs.declared.here.ItemHere.{ItemHere}
 use Rattle.yw_known.specs.declared.here.NetHere.{NetHere}
 use Rattle.yw_library.specs.Holdings.{Holdings}
 use Rattle.yw_mark.specs.Taking.{taken_places}
@@ -23,12 +24,14 @@ use Rattle.yw_state.specs.Allowed.{Allowed}
 use Rattle.yw_state.specs.declared.event.Event.TheVariants as events
 use Rattle.yw_spec.specs.declared.spec.Place.{Place}
 use Rattle.yw_state.specs.Nets.{is_atomic}
-use Rattle.yw_state.specs.State.{State, TaskAt, net_part}
+use Rattle.yw_state.specs.State.{State, TaskAt, is_item, net_part}
 use Rattle.yw_state.specs.declared.event.Event.{Event}
 use Rattle.yw_still.specs.Still.{CaseIsStill, IsStill, case_ends, is_entering, is_leaving, item_goes_on, task_numbered}
 use Rattle.yw_tree.specs.declared.Forest.{Forest}
 use Rattle.yw_tree.specs.Places.{net_at}
 use Rattle.yw_tree.specs.declared.NetState.{NetState, out-NetState}
+use Rattle.yw_walk.specs.Computed.{IsComputedOf}
+use Rattle.yw_walk.specs.declared.found.Found.{Found}
 use Rattle.yw_within.specs.Within.{HoldsWithin, NetIsWithin}
 use Rattle.yw_plain.specs.Worklets.{HasNoWorklet}
 
@@ -36,6 +39,11 @@ use Rattle.yw_plain.specs.Worklets.{HasNoWorklet}
 pub record ComesPlainly (s : State) (n : ℕ) (e : Event) : Type 0 where
   pub comes : Comes s n e
   pub plain : HasNoWorklet s → is_plain_event e ≡ true
+
+-- So it is of the event, and this was computed of it.
+pub record IsFound (s : State) (n : ℕ) (found : Found) : Type 0 where
+  pub comes : ComesPlainly s n found.event
+  pub computed : IsComputedOf s found.event found.computed
 
 -- ---- the net at an identity
 
@@ -57,10 +65,10 @@ abbrev pub AtomicIsManual : State → Type 0
 AtomicIsManual s = (x : TaskAt) → is_manual s x ≡ is_atomic x.task
 
 -- wherever the net stands free and its task with this number may be left, it is left by this event
-abbrev pub IsExit : NetHere → Ident → ℕ → Event → Type 0
-IsExit h i t e =
+abbrev pub IsExit : NetHere → Ident → ℕ → Found → Type 0
+IsExit h i t found =
     (names : ℕ → List ℕ) (f : Forest) (s : State) (x : TaskAt) → StandsFree names f s i h.net.now h.state.now → HoldsWithin s
-    → task_numbered s i t ≡ Some x → is_leaving s i x ≡ true → ComesPlainly s (case_number i) e
+    → task_numbered s i t ≡ Some x → is_leaving s i x ≡ true → IsFound s (case_number i) found
 
 -- The event enters the task of this name in the net at i, whoever does it: from some places, with so many items, numbered from the counter on.
 -- It is allowed.
@@ -70,24 +78,29 @@ pub record EntersAs (s : State) (i : Ident) (name : List ℕ) (e : Event) : Type
   pub is : e ≡ events.Enter i name places s.next count
   pub allowed : Allowed s e nothing
 
+-- So does the event, and this was computed of it.
+pub record IsEntered (s : State) (i : Ident) (name : List ℕ) (found : Found) : Type 0 where
+  pub enters : EntersAs s i name found.event
+  pub computed : IsComputedOf s found.event found.computed
+
 -- where the number is drawn next too, and the task may be entered by this choice of its join, this event enters it
-abbrev pub IsEntry : NetHere → Ident → ℕ → ℕ → Taken → Event → Type 0
-IsEntry h i next t taken e =
+abbrev pub IsEntry : NetHere → Ident → ℕ → ℕ → Taken → Found → Type 0
+IsEntry h i next t taken found =
     (names : ℕ → List ℕ) (f : Forest) (s : State) (x : TaskAt) → MayDraw names f s i h.net.now h.state.now next → HoldsWithin s
     → task_numbered s i t ≡ Some x → EntersFrom s i x (taken_places (out-NetState h.state.now).marks x.task.before taken)
-    → EntersAs s i x.task.name e
+    → IsEntered s i x.task.name found
 
 -- wherever the net stands free, a task is left by this event, or none may be
-abbrev pub FindsLeft : NetHere → Ident → Option Event → Type 0
+abbrev pub FindsLeft : NetHere → Ident → Option Found → Type 0
 FindsLeft h i found =
     (names : ℕ → List ℕ) (f : Forest) (s : State) → StandsFree names f s i h.net.now h.state.now → HoldsWithin s
-    → MatchOption found (NoneLeft s i) (ComesPlainly s (case_number i))
+    → MatchOption found (NoneLeft s i) (IsFound s (case_number i))
 
 -- where the number is drawn next too, a task is entered by this event, or none may be
-abbrev pub FindsEntered : NetHere → Ident → ℕ → Option Event → Type 0
+abbrev pub FindsEntered : NetHere → Ident → ℕ → Option Found → Type 0
 FindsEntered h i next found =
     (names : ℕ → List ℕ) (f : Forest) (s : State) → MayDraw names f s i h.net.now h.state.now next → HoldsWithin s → AtomicIsManual s
-    → MatchOption found (NoneEntered s i) (ComesPlainly s (case_number i))
+    → MatchOption found (NoneEntered s i) (IsFound s (case_number i))
 
 -- what is told of the net at i in the forest is right: how many items of each task are done
 abbrev pub TellsAt : Forest → Ident → Option (List ℕ) → Type 0
@@ -105,48 +118,52 @@ pub record StandsFor (known : Holdings) (f : Forest) (next : ℕ) (s : State) : 
 abbrev pub StandsAt : Holdings → Forest → Ident → Option NetHere → Type 0
 StandsAt known f j found = (s : State) → IsHeld known f s → MatchOption found (net_part s j ≡ None) (IsNetHere known f s j)
 
+-- so is the item
+abbrev pub IsItemAt : Holdings → Forest → Ident → Option ItemHere → Type 0
+IsItemAt known f j found = (s : State) → IsHeld known f s → MatchOption found (is_item s j ≡ false) (IsItemHere known f s j)
+
 -- the net there is at its end, or none stands there that is
 abbrev pub IsAtEnd : Holdings → Forest → Ident → Bool → Type 0
 IsAtEnd known f j ends = (s : State) → IsHeld known f s → at_output s j ≡ ends
 
 -- the case is finished by this event, or isn't at its end
-abbrev pub FindsFinish : Ident → Bool → Option Event → Type 0
+abbrev pub FindsFinish : Ident → Bool → Option Found → Type 0
 FindsFinish j ends found =
-    (s : State) → IsPlain s → at_output s j ≡ ends → MatchOption found (case_ends s j ≡ false) (ComesPlainly s (case_number j))
+    (s : State) → IsPlain s → at_output s j ≡ ends → MatchOption found (case_ends s j ≡ false) (IsFound s (case_number j))
 
 -- the item goes on by this event, or it doesn't
-abbrev pub FindsStep : Holdings → Forest → Ident → Bool → Option Event → Type 0
+abbrev pub FindsStep : Holdings → Forest → Ident → Bool → Option Found → Type 0
 FindsStep known f j ends found =
     (s : State) → IsHeld known f s → IsPlain s → at_output s j ≡ ends
-    → MatchOption found (item_goes_on s j ≡ false) (ComesPlainly s (case_number j))
+    → MatchOption found (item_goes_on s j ≡ false) (IsFound s (case_number j))
 
 -- a task of the net there is left or entered by this event, or none may be
-abbrev pub FindsTasks : Holdings → Forest → Ident → ℕ → Option Event → Type 0
+abbrev pub FindsTasks : Holdings → Forest → Ident → ℕ → Option Found → Type 0
 FindsTasks known f j next found =
-    (s : State) → StandsFor known f next s → MatchOption found (NoneLeft s j × NoneEntered s j) (ComesPlainly s (case_number j))
+    (s : State) → StandsFor known f next s → MatchOption found (NoneLeft s j × NoneEntered s j) (IsFound s (case_number j))
 
 -- the item goes on by this event, or a task of the net there is left or entered by it; or nothing of this is so
-abbrev pub FindsItemOrTasks : Holdings → Forest → Ident → ℕ → Option Event → Type 0
+abbrev pub FindsItemOrTasks : Holdings → Forest → Ident → ℕ → Option Found → Type 0
 FindsItemOrTasks known f j next found =
     (s : State) → StandsFor known f next s
-    → MatchOption found ((item_goes_on s j ≡ false) × NoneLeft s j × NoneEntered s j) (ComesPlainly s (case_number j))
+    → MatchOption found ((item_goes_on s j ≡ false) × NoneLeft s j × NoneEntered s j) (IsFound s (case_number j))
 
 -- this event comes of itself there, or nothing does
-abbrev pub FindsAt : Holdings → Forest → Ident → ℕ → Option Event → Type 0
-FindsAt known f j next found = (s : State) → StandsFor known f next s → MatchOption found (IsStill s j) (ComesPlainly s (case_number j))
+abbrev pub FindsAt : Holdings → Forest → Ident → ℕ → Option Found → Type 0
+FindsAt known f j next found = (s : State) → StandsFor known f next s → MatchOption found (IsStill s j) (IsFound s (case_number j))
 
 -- at one of these identities this event comes of itself, or each of them is still
-abbrev pub FindsAmong : Holdings → Forest → List Ident → ℕ → Option Event → Type 0
+abbrev pub FindsAmong : Holdings → Forest → List Ident → ℕ → Option Found → Type 0
 FindsAmong known f js next found =
     (s : State) → StandsFor known f next s
-    → MatchOption found (All (IsStill s) js) (λ e. (j : Ident) × Contains js j × ComesPlainly s (case_number j) e)
+    → MatchOption found (All (IsStill s) js) (λ e. (j : Ident) × Contains js j × IsFound s (case_number j) e)
 
 -- ---- a case
 
 -- this event comes of itself in the case, or each identity in it is still, and so it is quiet
-abbrev pub FindsNext : Holdings → Forest → ℕ → ℕ → Option Event → Type 0
+abbrev pub FindsNext : Holdings → Forest → ℕ → ℕ → Option Found → Type 0
 FindsNext known f n next found =
-    (s : State) → StandsFor known f next s → MatchOption found (CaseIsStill s n × IsQuiet s n) (ComesPlainly s n)
+    (s : State) → StandsFor known f next s → MatchOption found (CaseIsStill s n × IsQuiet s n) (IsFound s n)
 
 -- whether the case is quiet
 abbrev pub TellsQuiet : Holdings → Forest → ℕ → ℕ → Bool → Type 0

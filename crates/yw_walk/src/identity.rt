@@ -3,15 +3,15 @@ ghost use Rattle.std.specs.Prelude.{IfOk, IfSome};
 ghost use Rattle.std.specs.Option.{option_copied};
 ghost use Rattle.yw_library.specs.Holdings.{Holdings};
 ghost use Rattle.yw_tree.specs.declared.Forest as forests;
-ghost use Rattle.yw_walk.specs.Finds.{FindsAt, FindsItemOrTasks, FindsTasks, IsKnownHere, StandsAt, TellsAt};
+ghost use Rattle.yw_walk.specs.Finds.{FindsAt, FindsItemOrTasks, FindsTasks, IsItemAt, IsKnownHere, StandsAt, TellsAt};
 
-use crate::items::{finish_of, step_at};
+use crate::Found;
+use crate::items::{finish_of, step_of};
 use crate::nets::{is_at_end, net_at};
 use crate::tasks::{entry_at, exit_at};
 use std::alloc::{AllocError, Global};
 use yw_base::Ident;
-use yw_known::{Known, NetHere};
-use yw_state::Event;
+use yw_known::{ItemHere, Known, NetHere, item_here};
 use yw_tree::Forest;
 
 /// What comes of itself of the tasks of the net at an identity: one is left, or else one is entered.
@@ -21,7 +21,7 @@ fn tasks_at(
     at: &Ident,
     next: u64,
     told: Option<&[usize]>,
-) -> Result<Option<Event>, AllocError>
+) -> Result<Option<Found>, AllocError>
     requires { IfSome here.now IsKnownHere }
     ensures { (known : Holdings) (f : forests.Forest) → StandsAt known f at.now here.now → TellsAt f at.now (option_copied told.entry)
         → IfOk result (FindsTasks known f at.now next) }
@@ -30,7 +30,7 @@ fn tasks_at(
         return Ok(None);
     };
     match exit_at(alloc, here, at, told)? {
-        Some(event) => Ok(Some(event)),
+        Some(found) => Ok(Some(found)),
         None => entry_at(alloc, here, at, next),
     }
 }
@@ -38,26 +38,25 @@ fn tasks_at(
 /// What comes of itself of the item at an identity, or of the tasks of the net there.
 fn item_or_tasks_at(
     alloc: Global,
-    known: &Known,
-    forest: &Forest,
-    id: &Ident,
+    item: &Option<ItemHere<'_>>,
     here: &Option<NetHere<'_>>,
+    id: &Ident,
     next: u64,
     told: Option<&[usize]>,
-) -> Result<Option<Event>, AllocError>
-    requires here { StandsAt known.now forest.now id.now here.now }
-    requires known { IfSome here.now IsKnownHere }
-    ensures { TellsAt forest.now id.now (option_copied told.entry) → IfOk result (FindsItemOrTasks known.now forest.now id.now next) }
+) -> Result<Option<Found>, AllocError>
+    requires { IfSome here.now IsKnownHere }
+    ensures { (known : Holdings) (f : forests.Forest) → IsItemAt known f id.now item.now → StandsAt known f id.now here.now
+        → TellsAt f id.now (option_copied told.entry) → IfOk result (FindsItemOrTasks known f id.now next) }
 {
-    match step_at(alloc, known, forest, id, is_at_end(here))? {
-        Some(event) => Ok(Some(event)),
+    match step_of(alloc, item, id, is_at_end(here))? {
+        Some(found) => Ok(Some(found)),
         None => tasks_at(alloc, here, id, next, told),
     }
 }
 
 /// What comes of itself at an identity: the case there is finished, the item goes on, or a task of the net is left, or else entered. `None`
-/// where all is still. `next` is the number that is drawn next; how many items of each task of the net are done may be told. An `Err` says that no memory
-/// was left.
+/// where all is still. The item is found by one way down, and its net with it. `next` is the number that is drawn next; how many items of each task
+/// of the net are done may be told. An `Err` says that no memory was left.
 pub fn event_at(
     alloc: Global,
     known: &Known,
@@ -65,12 +64,13 @@ pub fn event_at(
     id: &Ident,
     next: u64,
     told: Option<&[usize]>,
-) -> Result<Option<Event>, AllocError>
+) -> Result<Option<Found>, AllocError>
     ensures { TellsAt forest.now id.now (option_copied told.entry) → IfOk result (FindsAt known.now forest.now id.now next) }
 {
-    let here = net_at(known, forest, id);
+    let item = item_here(known, forest, id);
+    let here = net_at(known, forest, id, &item);
     match finish_of(id, is_at_end(&here)) {
-        Some(event) => Ok(Some(event)),
-        None => item_or_tasks_at(alloc, known, forest, id, &here, next, told),
+        Some(found) => Ok(Some(found)),
+        None => item_or_tasks_at(alloc, &item, &here, id, next, told),
     }
 }

@@ -1,21 +1,23 @@
 // What comes of itself of a case and of an item.
 ghost use Rattle.std.specs.Prelude.{◌≡◌, IfOk};
 ghost use Rattle.yw_enabled.specs.Items.{event_of};
-ghost use Rattle.yw_walk.specs.Finds.{FindsFinish, FindsStep};
+ghost use Rattle.yw_library.specs.Holdings.{Holdings};
+ghost use Rattle.yw_tree.specs.declared.Forest as forests;
+ghost use Rattle.yw_walk.specs.Finds.{FindsFinish, FindsStep, IsItemAt};
 
+use crate::Found;
 use std::alloc::{AllocError, Global};
 use yw_base::Ident;
 use yw_enabled::{ItemStep, item_step};
-use yw_known::{Known, item_here};
+use yw_known::ItemHere;
 use yw_state::Event;
-use yw_tree::Forest;
 
 /// The end of the case at an identity, where `ends` says that its net is at its end. `None` of other identities, and where it isn't.
-pub fn finish_of(id: &Ident, ends: bool) -> Option<Event>
+pub fn finish_of(id: &Ident, ends: bool) -> Option<Found>
     ensures { FindsFinish id.now ends result }
 {
     match id.numbers() {
-        [number] if ends => Some(Event::Finish { case: *number }),
+        [number] if ends => Some(Found::plainly(Event::Finish { case: *number })),
         _ => None,
     }
 }
@@ -32,22 +34,21 @@ fn event_of(step: ItemStep, item: Ident) -> Event
     }
 }
 
-/// How the item at an identity goes on, where `ends` says whether a net stands there that is at its end. `None` where no item stands there,
-/// and where it doesn't go on. An `Err` says that no memory was left.
-pub fn step_at(
+/// How the item that stands at an identity goes on, where `ends` says whether a net stands there that is at its end. `None` where no item
+/// stands there, and where it doesn't go on. An `Err` says that no memory was left.
+pub fn step_of(
     alloc: Global,
-    known: &Known,
-    forest: &Forest,
+    item: &Option<ItemHere<'_>>,
     id: &Ident,
     ends: bool,
-) -> Result<Option<Event>, AllocError>
-    ensures { IfOk result (FindsStep known.now forest.now id.now ends) }
+) -> Result<Option<Found>, AllocError>
+    ensures { (known : Holdings) (f : forests.Forest) → IsItemAt known f id.now item.now → IfOk result (FindsStep known f id.now ends) }
 {
-    let Some(here) = item_here(known, forest, id) else {
+    let Some(here) = item else {
         return Ok(None);
     };
     let Some(step) = item_step(here.item, here.task, ends) else {
         return Ok(None);
     };
-    Ok(Some(event_of(step, id.copy(alloc)?)))
+    Ok(Some(Found::plainly(event_of(step, id.copy(alloc)?))))
 }

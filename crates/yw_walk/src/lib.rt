@@ -2,6 +2,7 @@
 //! README of the crate says which clause proves what.
 #![tactic(auto)]
 
+mod found;
 mod identity;
 mod items;
 mod nets;
@@ -9,6 +10,7 @@ mod next;
 mod places;
 mod tasks;
 
+pub use found::{Computed, Found};
 pub use identity::event_at;
 pub use next::{is_quiet, next_event};
 pub use tasks::entry_of;

@@ -3,12 +3,12 @@ ghost use Rattle.std.specs.Prelude.{IfOk};
 ghost use Rattle.yw_idents.specs.Idents.{lent};
 ghost use Rattle.yw_walk.specs.Finds.{FindsAmong, FindsNext, TellsQuiet};
 
+use crate::Found;
 use crate::identity::event_at;
 use std::alloc::{AllocError, Global};
 use yw_base::Ident;
 use yw_idents::idents_in;
 use yw_known::Known;
-use yw_state::Event;
 use yw_tree::Forest;
 
 /// What comes of itself at the first of these identities at which something does.
@@ -18,19 +18,19 @@ fn first_at(
     forest: &Forest,
     idents: &Vec<&Ident>,
     next: u64,
-) -> Result<Option<Event>, AllocError>
+) -> Result<Option<Found>, AllocError>
     ensures { IfOk result (FindsAmong known.now forest.now (lent idents.now.items) next) }
 {
     for id in idents {
-        if let Some(event) = event_at(alloc, known, forest, id, next, None)? {
-            return Ok(Some(event));
+        if let Some(found) = event_at(alloc, known, forest, id, next, None)? {
+            return Ok(Some(found));
         }
     }
     Ok(None)
 }
 
-/// The next event that comes of itself in a case, in a state without rules and exlets: `None` exactly where the case is quiet, as it is
-/// where no case has this number. `next` is the number that is drawn next. An `Err` says that no memory was left.
+/// The next event that comes of itself in a case, in a state without rules and exlets, with what was computed of it: `None` exactly where the case
+/// is quiet, as it is where no case has this number. `next` is the number that is drawn next. An `Err` says that no memory was left.
 ///
 /// The identities of the case are looked at in turn, each before those of what is below it; at one identity first whether the case is at
 /// its end, then how the item goes on, then which task of the net is left, and then which is entered. That the server does all this by
@@ -41,7 +41,7 @@ pub fn next_event(
     forest: &Forest,
     n: u64,
     next: u64,
-) -> Result<Option<Event>, AllocError>
+) -> Result<Option<Found>, AllocError>
     ensures { IfOk result (FindsNext known.now forest.now n next) }
 {
     match forest.case(n) {
@@ -61,7 +61,7 @@ pub fn is_quiet(
     ensures { IfOk result (TellsQuiet known.now forest.now n next) }
 {
     match next_event(alloc, known, forest, n, next)? {
-        Some(_event) => Ok(false),
+        Some(_found) => Ok(false),
         None => Ok(true),
     }
 }

@@ -7,6 +7,7 @@ ghost use Rattle.yw_enabled.specs.Left.{TellsNet};
 ghost use Rattle.yw_walk.specs.Finds.{FindsEntered, FindsLeft, IsEntry, IsExit, IsKnownHere};
 
 use crate::places::{places_of, taken_from};
+use crate::{Computed, Found};
 use std::alloc::{AllocError, Global};
 use yw_base::{Ident, Row};
 use yw_enabled::{first_entered, first_left};
@@ -18,17 +19,17 @@ use yw_state::Event;
 use yw_task::{element_count, exit_places, items_in, task_at};
 
 /// The exit of a task of the net at an identity: a token comes to each place of its split.
-fn exit_of(alloc: Global, here: &NetHere<'_>, at: &Ident, t: usize) -> Result<Event, AllocError>
+fn exit_of(alloc: Global, here: &NetHere<'_>, at: &Ident, t: usize) -> Result<Found, AllocError>
     requires { t < length here.now.net.now.tasks }
     ensures { IfOk result (IsExit here.now at.now t) }
 {
     let task = task_at(here.net, t);
     let numbers = exit_places(alloc, task, items_in(here.state, t), &here.state.vals)?;
-    Ok(Event::Exit {
+    Ok(Found::plainly(Event::Exit {
         net: at.copy(alloc)?,
         task: task.name.copy()?,
         places: places_of(alloc, here.net, numbers.as_slice())?,
-    })
+    }))
 }
 
 /// The exit of the first task of the net at an identity that may be left; `None` where none may. How many items of each task are done may be told. An
@@ -38,7 +39,7 @@ pub fn exit_at(
     here: &NetHere<'_>,
     at: &Ident,
     told: Option<&[usize]>,
-) -> Result<Option<Event>, AllocError>
+) -> Result<Option<Found>, AllocError>
     ensures { TellsNet here.now.state.now (option_copied told.entry) → IfOk result (FindsLeft here.now at.now) }
 {
     match first_left(alloc, here.net, here.state, told)? {
@@ -70,18 +71,22 @@ pub fn entry_of(
     next: u64,
     t: usize,
     taken: Taken,
-) -> Result<Event, AllocError>
+) -> Result<Found, AllocError>
     requires { t < length here.now.net.now.tasks }
     ensures { IfOk result (IsEntry here.now at.now next t taken) }
 {
     let task = task_at(here.net, t);
     let numbers = taken_from(alloc, task, &here.state.marks, taken)?;
-    Ok(Event::Enter {
+    let event = Event::Enter {
         net: at.copy(alloc)?,
         task: task.name.copy()?,
         places: places_of(alloc, here.net, numbers.as_slice())?,
         first: next,
         count: entry_count(task, &here.state.vals),
+    };
+    Ok(Found {
+        event,
+        computed: Computed::Enter { task: t, taken },
     })
 }
 
@@ -92,7 +97,7 @@ pub fn entry_at(
     here: &NetHere<'_>,
     at: &Ident,
     next: u64,
-) -> Result<Option<Event>, AllocError>
+) -> Result<Option<Found>, AllocError>
     requires { IsKnownHere here.now }
     ensures { IfOk result (FindsEntered here.now at.now next) }
 {

@@ -40,4 +40,4 @@ pub returns : goal.returns
 returns c =
     entered_as c.args.standing.now c.requires c.args.at.now c.args.name.now c.in-Some.here (c.in-Some.ensures _ c.requires.held)
     c.in-Some-task_called.t (sym c.in-Some-task_called.ensures) c.in-Some-get.field-0.now (sym c.in-Some-get.ensures)
-    c.in-Some-may_be_entered.taken c.in-Some-may_be_entered.ensures.some c.in_ok-event.event c.in_ok-event.ensures
+    c.in-Some-may_be_entered.taken c.in-Some-may_be_entered.ensures.some c.in_ok-found.found c.in_ok-found.ensures

@@ -1,10 +1,10 @@
-use Rattle.std.proofs.Common.{sym, ◌∙◌}
-use Rattle.std.proofs.lemmas.Result.{IfOk-weaker}
-use Rattle.yw_cases.proofs.EntryLaw.{no_task, not_drawn, not_entered, tells_entry}
+use Rattle.std.proofs.Common.{List, false, subst, sym, ◌∙◌, ◌≡◌}
+use Rattle.yw_cases.proofs.EntryLaw.{enters_by, no_task, not_drawn, not_entered, not_taken}
 use Rattle.yw_cases.proofs.TaskHere.{no_name_no_task, no_net_no_task, no_number_no_task}
 use Rattle.yw_cases.proofs.entering.may_enter.Goals as goal
-use Rattle.yw_cases.specs.Entering.{candidate, stands_for}
+use Rattle.yw_cases.specs.Entering.{FindsChoice, IsChoice, candidate, stands_for}
 use Rattle.yw_cases.specs.State.{state_of}
+use Rattle.yw_spec.specs.declared.spec.Place.{Place}
 use Rattle.yw_tree.proofs.Removed.{within}
 use Rattle.yw_tree.specs.declared.NetState.{out-NetState}
 
@@ -43,13 +43,22 @@ returns-then-not-draws_items c =
     (sym c.in-Some-task_called.ensures) c.in-Some-get.task.now (sym c.in-Some-get.ensures)
     (sym c.draws_items.ensures ∙ c.if-not-draws_items.true)
 
-pub returns : goal.returns
-returns c =
+pub returns-in-Some-2 : goal.returns-in-Some-2
+returns-in-Some-2 c =
+    let here = c.in-Some.here in
     let task = c.in-Some-get.task.now in
-    let net = c.in-Some.here.net.now in
-    let marks = (out-NetState c.in-Some.here.state.now).marks in
-    let taken = c.candidate.ensures ∙ (λ j. candidate task.join net (c.as_slice-3.ensures j)) in
-    IfOk-weaker c.stands_for.result _ _
-    (λ b is. tells_entry c.args.standing.now c.requires c.args.at.now c.args.name.now c.args.places.now c.args.first c.args.count c.in-Some.here (c.in-Some.ensures _ c.requires.held) c.in-Some-task_called.t
-    (sym c.in-Some-task_called.ensures) task (sym c.in-Some-get.ensures) c.in-Some-may_be_entered.field-0 c.in-Some-may_be_entered.ensures.some (sym c.draws_items.ensures ∙ c.if-not-draws_items.false) b
-    (is ∙ (λ j. stands_for net marks (c.as_slice.ensures j) (c.as_slice-2.ensures j) (taken j)))) c.stands_for.ensures
+    enters_by c.args.standing.now c.requires c.args.at.now c.args.name.now c.args.places.now c.args.first c.args.count here (c.in-Some.ensures _ c.requires.held) c.in-Some-task_called.t
+    (sym c.in-Some-task_called.ensures) task (sym c.in-Some-get.ensures) c.in-Some-may_be_entered.field-0 c.in-Some-may_be_entered.ensures.some (sym c.draws_items.ensures ∙ c.if-not-draws_items.false)
+    c.in-Some-2.taken
+    (subst (λ (ps : List Place). IsChoice here.net.now (out-NetState here.state.now).marks task ps c.in-Some-2.taken) c.as_slice.ensures
+    (subst (FindsChoice here.net.now (out-NetState here.state.now).marks task c.as_slice.result.now) c.in-Some-2.is c.in_ok-taken.ensures))
+
+pub returns-in-None : goal.returns-in-None
+returns-in-None c =
+    let here = c.in-Some.here in
+    let task = c.in-Some-get.task.now in
+    let marks = (out-NetState here.state.now).marks in
+    not_taken c.args.standing.now c.requires c.args.at.now c.args.name.now c.args.places.now c.args.first c.args.count here (c.in-Some.ensures _ c.requires.held) c.in-Some-task_called.t
+    (sym c.in-Some-task_called.ensures) task (sym c.in-Some-get.ensures)
+    (subst (λ (ps : List Place). stands_for here.net.now marks task.before ps (candidate task.join here.net.now ps) ≡ false) c.as_slice.ensures
+    (subst (FindsChoice here.net.now marks task c.as_slice.result.now) c.in-None.is c.in_ok-taken.ensures))

@@ -1,8 +1,11 @@
 use Rattle.std.proofs.Common.{List, subst, sym, ℕ}
 use Rattle.yw_cases.proofs.Ending.{advances_so}
 use Rattle.yw_cases.proofs.event.act.Goals as goal
+use Rattle.yw_cases.specs.State.{state_of}
 use Rattle.yw_cases.specs.Tried.{IsDone, LeadsOn}
+use Rattle.yw_state.specs.declared.event.Event.{Event}
 use Rattle.yw_state.specs.declared.event.Event.TheVariants as events
+use Rattle.yw_walk.specs.Computed.{IsComputedOf}
 
 pub act_person-requires-clause-leads : goal.act_person-requires-clause-leads
 act_person-requires-clause-leads c = subst (LeadsOn c.args.standing.now) c.in-Person.is c.requires.leads
@@ -17,6 +20,9 @@ act_launch-requires-clause-leads c = subst (LeadsOn c.args.standing.now) c.in-La
 
 pub act_enter-requires-clause-leads : goal.act_enter-requires-clause-leads
 act_enter-requires-clause-leads c = subst (LeadsOn c.args.standing.now) c.in-Enter.is c.requires.leads
+
+pub act_enter-requires-clause-computed : goal.act_enter-requires-clause-computed
+act_enter-requires-clause-computed c = subst (λ (e : Event). IsComputedOf (state_of c.args.standing.now) e c.args.computed) c.in-Enter.is c.requires.computed
 
 pub act_add-requires-clause-leads : goal.act_add-requires-clause-leads
 act_add-requires-clause-leads c = subst (LeadsOn c.args.standing.now) c.in-Add.is c.requires.leads

@@ -1,4 +1,4 @@
-use Rattle.yw_engine.proofs.Commands.{add_built, add_case, add_leads}
+use Rattle.yw_engine.proofs.Commands.{add_built, add_case, add_leads, add_plain}
 use Rattle.yw_engine.proofs.Fronts.{refuses}
 use Rattle.yw_engine.proofs.add.decide_add.Goals as goal
 use Rattle.yw_state.specs.declared.command.Command.TheVariants as commands
@@ -11,6 +11,10 @@ pub begin-requires-clause-case : goal.begin-requires-clause-case
 begin-requires-clause-case c =
     add_case c.args.work.now.standing c.requires c.args.who.now c.args.net c.args.task c.args.value c.in_ok-event.event c.in_ok-event.ensures
     c.case_number-case.result c.case_number-case.ensures
+
+pub begin-requires-clause-plain : goal.begin-requires-clause-plain
+begin-requires-clause-plain c =
+    add_plain c.args.work.now.standing c.requires c.args.who.now c.args.net c.args.task c.args.value c.in_ok-event.event c.in_ok-event.ensures
 
 pub begin-requires-clause-leads : goal.begin-requires-clause-leads
 begin-requires-clause-leads c =

@@ -1,4 +1,4 @@
-use Rattle.yw_engine.proofs.Completes.{complete_built, complete_case, complete_leads}
+use Rattle.yw_engine.proofs.Completes.{complete_built, complete_case, complete_leads, complete_plain}
 use Rattle.yw_engine.proofs.Fronts.{refuses}
 use Rattle.yw_engine.proofs.complete.decide_complete.Goals as goal
 use Rattle.yw_state.specs.declared.command.Command.TheVariants as commands
@@ -11,6 +11,10 @@ pub begin-requires-clause-case : goal.begin-requires-clause-case
 begin-requires-clause-case c =
     complete_case c.args.work.now.standing c.requires c.args.who c.args.item c.args.out.now c.in_ok-event.event c.in_ok-event.ensures
     c.case_number-case.result c.case_number-case.ensures
+
+pub begin-requires-clause-plain : goal.begin-requires-clause-plain
+begin-requires-clause-plain c =
+    complete_plain c.args.work.now.standing c.requires c.args.who c.args.item c.args.out.now c.in_ok-event.event c.in_ok-event.ensures
 
 pub begin-requires-clause-leads : goal.begin-requires-clause-leads
 begin-requires-clause-leads c =

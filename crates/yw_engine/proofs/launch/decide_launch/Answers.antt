@@ -1,5 +1,5 @@
 use Rattle.std.proofs.Common.{Option, refl, subst}
-use Rattle.yw_engine.proofs.Commands.{launch_asks, launch_breaks_now, launch_built, launch_case, launch_there}
+use Rattle.yw_engine.proofs.Commands.{launch_asks, launch_breaks_now, launch_built, launch_case, launch_plain, launch_there}
 use Rattle.yw_engine.proofs.launch.decide_launch.Goals as goal
 use Rattle.yw_engine.specs.Decides.{BreaksNow}
 use Rattle.yw_state.specs.declared.command.Command.TheVariants as commands
@@ -36,6 +36,11 @@ begin-requires-clause-built c =
 pub begin-requires-clause-case : goal.begin-requires-clause-case
 begin-requires-clause-case c =
     launch_case c.args.work.now.standing c.requires c.known-known.result.now c.next-next.result c.known-known.ensures
+    c.next-next.ensures c.args.spec.now c.args.given.now c.in_ok-event.field-0 c.in_ok-event.ensures c.in-Some-2.event c.in-Some-2.is
+
+pub begin-requires-clause-plain : goal.begin-requires-clause-plain
+begin-requires-clause-plain c =
+    launch_plain c.args.work.now.standing c.requires c.known-known.result.now c.next-next.result c.known-known.ensures
     c.next-next.ensures c.args.spec.now c.args.given.now c.in_ok-event.field-0 c.in_ok-event.ensures c.in-Some-2.event c.in-Some-2.is
 
 pub begin-requires-clause-leads : goal.begin-requires-clause-leads

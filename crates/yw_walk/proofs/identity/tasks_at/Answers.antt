@@ -9,8 +9,8 @@ returns-in-Some-2 c = λ known f stands tells s w.
     let here = c.in-Some.here in
     let is = subst (StandsAt known f c.args.at.now) c.in-Some.is stands s w.held in
     left_there known f c.args.next s w c.args.at.now here is
-    (Some c.in-Some-2.event)
-    (subst (FindsLeft here c.args.at.now) c.in-Some-2.is (c.in_ok-event.ensures (tells here.state.now is.stands.found)))
+    (Some c.in-Some-2.found)
+    (subst (FindsLeft here c.args.at.now) c.in-Some-2.is (c.in_ok-found.ensures (tells here.state.now is.stands.found)))
 
 pub returns-in-None : goal.returns-in-None
 returns-in-None c = λ known f stands tells.
@@ -19,4 +19,4 @@ returns-in-None c = λ known f stands tells.
     (λ found entered s w.
     let is = subst (StandsAt known f c.args.at.now) c.in-Some.is stands s w.held in
     tasks_there known f c.args.next s w c.args.at.now here is
-    (subst (FindsLeft here c.args.at.now) c.in-None.is (c.in_ok-event.ensures (tells here.state.now is.stands.found))) found entered)
+    (subst (FindsLeft here c.args.at.now) c.in-None.is (c.in_ok-found.ensures (tells here.state.now is.stands.found))) found entered)

@@ -15,7 +15,7 @@ loop-id-preserved c = λ s w.
     let less : i < length items = subst (λ xs. i < length xs) c.deref-id-items.ensures.value c.loop-id-test.true in
     let at : id ≡ slice_index_or items i id = subst (λ xs. id ≡ slice_index_or xs i id) c.deref-id-items.ensures.value c.id-item.is in
     let still : IsStill s id.now = subst
-    (FindsAt c.args.known.now c.args.forest.now id.now c.args.next) c.in_default.is (c.in_ok-event.ensures (λ state at t. tt)) s w in
+    (FindsAt c.args.known.now c.args.forest.now id.now c.args.next) c.in_default.is (c.in_ok-found.ensures (λ state at t. tt)) s w in
     All-more (λ (b : Bor Ident). IsStill s b.now) items i id less (c.loop-id.invariant s w)
     (subst (λ (b : Bor Ident). IsStill s b.now) at still)
 

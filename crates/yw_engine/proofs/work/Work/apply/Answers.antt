@@ -1,14 +1,22 @@
 use Rattle.std.proofs.Common.{refl, subst}
-use Rattle.yw_cases.specs.Tried.{TellsLeads}
+use Rattle.yw_cases.specs.Tried.{MayAct, TellsComputed}
 use Rattle.yw_engine.proofs.Coming.{built_is_plain}
 use Rattle.yw_engine.proofs.work.Work.apply.Goals as goal
 
 pub may-requires : goal.may-requires
 may-requires c = built_is_plain c.args.event.now c.requires
 
-pub returns-then-not-branch-clause-applied : goal.returns-then-not-branch-clause-applied
-returns-then-not-branch-clause-applied c =
-    (subst (TellsLeads c.args.self.now.standing c.args.event.now) c.if-not-branch.true c.in_ok-may.ensures, refl)
+pub returns-in_default-clause-applied : goal.returns-in_default-clause-applied
+returns-in_default-clause-applied c = (subst (TellsComputed c.args.self.now.standing c.args.event.now) c.in_default.is c.in_ok-computed.ensures, refl)
 
 pub take-requires-clause-leads : goal.take-requires-clause-leads
-take-requires-clause-leads c = subst (TellsLeads c.args.self.now.standing c.args.event.now) c.if-not-branch.false c.in_ok-may.ensures
+take-requires-clause-leads c =
+    let act : MayAct c.args.self.now.standing c.args.event.now c.in-Some.computed =
+    subst (TellsComputed c.args.self.now.standing c.args.event.now) c.in-Some.is c.in_ok-computed.ensures in
+    act.leads
+
+pub take-requires-clause-computed : goal.take-requires-clause-computed
+take-requires-clause-computed c =
+    let act : MayAct c.args.self.now.standing c.args.event.now c.in-Some.computed =
+    subst (TellsComputed c.args.self.now.standing c.args.event.now) c.in-Some.is c.in_ok-computed.ensures in
+    act.computed
