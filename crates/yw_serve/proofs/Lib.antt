@@ -1,5 +1,6 @@
 pub mod KeptLemmas
 pub mod Planning
+pub mod ToldLemmas
 pub mod Written
 pub mod Doing
 pub mod Going

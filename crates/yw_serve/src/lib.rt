@@ -11,6 +11,7 @@ mod opening;
 mod opening_entries;
 mod pieces;
 mod plan;
+mod queries;
 mod run;
 mod server;
 mod session;

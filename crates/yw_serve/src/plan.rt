@@ -8,6 +8,7 @@ ghost use Rattle.yw_state.specs.Broken.{placeless};
 ghost use Rattle.yw_serve.specs.Plans.{Accepts, CanBeAppended, IsPlan, IsPlanFor, Refuses, RefusesBy};
 ghost use Rattle.yw_wire.specs.Faults.{rule_of};
 
+use crate::queries::plan_query;
 use std::alloc::{AllocError, Global};
 use yw_base::{Bytes, Text};
 use yw_codec::write_entry_into;
@@ -16,8 +17,8 @@ use yw_lines::Word;
 use yw_state::{Asked, Command, Refusal, Rule};
 use yw_wire::{WireFault, read_command, reply_done, reply_refused};
 
-/// The words whose commands are built.
-const BUILT: [Word; 9] = [
+/// The words whose commands and queries are built.
+const BUILT: [Word; 12] = [
     Word::Person,
     Word::Load,
     Word::Launch,
@@ -27,13 +28,16 @@ const BUILT: [Word; 9] = [
     Word::Add,
     Word::Cancel,
     Word::Advance,
+    Word::Show,
+    Word::Ended,
+    Word::Specs,
 ];
 
 /// What is to be said, and whether an entry is appended before it.
 #[derive(Drop)]
 pub enum Plan {
-    /// The line is refused with this reply.
-    Refuse(Bytes),
+    /// Nothing is taken, and this reply said: the line is refused, or a query that is answered.
+    Say(Bytes),
     /// The line is accepted: the entry in the buffer is appended as it stands, and then this reply said.
     Accept(Bytes),
 }
@@ -42,11 +46,11 @@ pub enum Plan {
 fn refuse(alloc: Global, n: u64, refusal: &Refusal) -> Result<Plan, AllocError>
     ensures { IfOk result (Refuses n refusal.now) }
 {
-    Ok(Plan::Refuse(reply_refused(alloc, n, refusal)?))
+    Ok(Plan::Say(reply_refused(alloc, n, refusal)?))
 }
 
 /// The same by a rule without a place.
-fn refuse_by(alloc: Global, n: u64, rule: Rule) -> Result<Plan, AllocError>
+pub fn refuse_by(alloc: Global, n: u64, rule: Rule) -> Result<Plan, AllocError>
     ensures { IfOk result (Refuses n (placeless rule)) }
 {
     let at = Text::new(alloc);
@@ -101,7 +105,8 @@ fn plan_fault(alloc: Global, n: u64, fault: WireFault) -> Result<Plan, AllocErro
     }
 }
 
-/// What is to be done for a line. The engine is then that after it, and where an entry is to be appended, the buffer has it.
+/// What is to be done for a line. The engine is then that after it, and where an entry is to be appended, the buffer has it. A query changes
+/// neither.
 /// An `Err` says that no memory was left.
 pub fn plan_line(
     alloc: Global,
@@ -116,7 +121,7 @@ pub fn plan_line(
 {
     match read_command(alloc, line, &BUILT) {
         Ok(Asked::Command(command)) => plan_command(alloc, engine, buffer, n, command),
-        Ok(Asked::Query(_)) => refuse_by(alloc, n, Rule::NotBuilt),
+        Ok(Asked::Query(query)) => plan_query(alloc, engine, n, &query),
         Err(fault) => plan_fault(alloc, n, fault),
     }
 }

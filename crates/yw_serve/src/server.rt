@@ -90,7 +90,7 @@ fn carry_out<D: Desk>(
     ensures memory { result ≢ Err Stop.Memory }
 {
     match plan {
-        Plan::Refuse(reply) => tell(desk, reply.as_slice()),
+        Plan::Say(reply) => tell(desk, reply.as_slice()),
         Plan::Accept(reply) => match journal.append(desk, entry) {
             Ok(()) => tell(desk, reply.as_slice()),
             Err(AppendFault::Disk) => Err(Stop::Disk),

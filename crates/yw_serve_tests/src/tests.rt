@@ -87,6 +87,46 @@ fn whole_case() -> Case {
     }
 }
 
+/// Queries between commands: ten items in order of their numbers, and how their case ended. A line that takes nothing makes one call.
+fn queried() -> Case {
+    Case {
+        file: b"",
+        held: 0,
+        lines: br#"{"cmd":"specs"}
+{"cmd":"person","name":"ann","roles":[]}
+{"cmd":"load","toml":"name='ten'\ntop='main'\n[[net]]\nname='main'\ninput='i'\noutput='o'\nvars=[{name='xs',sort='ints',use='in'},{name='a',sort='text',init='q'}]\nflows=[['i','m'],['m','o']]\n[[net.task]]\nname='m'\nins=[{name='x',sort='int'}]\neach='xs'\nitem='x'\nmin=1\nmax=10"}
+{"cmd":"launch","spec":"ten","data":{"xs":[0,1,2,3,4,5,6,7,8,9]}}
+{"cmd":"show","case":"1"}
+{"cmd":"enter","who":"ann","case":"1","task":"m"}
+{"cmd":"start","who":"ann","item":"1.10"}
+{"cmd":"show","case":"1"}
+{"cmd":"show","case":"1.10"}
+{"cmd":"ended","case":"1"}
+{"cmd":"cancel","case":"1"}
+{"cmd":"show","case":"1"}
+{"cmd":"ended","case":"1"}
+{"cmd":"specs"}
+"#,
+        replies: br#"{"answer":[],"n":1,"ok":true}
+{"n":2,"ok":true,"quiet":true,"steps":["person ann"]}
+{"n":3,"ok":true,"quiet":true,"steps":["load ten"]}
+{"n":4,"ok":true,"quiet":true,"steps":["launch 1 ten"]}
+{"answer":{"due":[],"items":[],"nets":[["1","ten","main",{"a":"q","xs":[0,1,2,3,4,5,6,7,8,9]}]],"runs":[],"suspended":[],"tokens":[["1","i",1]]},"n":5,"ok":true}
+{"n":6,"ok":true,"quiet":true,"steps":["enter 1 m from i as 1.2,1.3,1.4,1.5,1.6,1.7,1.8,1.9,1.10,1.11"]}
+{"n":7,"ok":true,"quiet":true,"steps":["start 1.10"]}
+{"answer":{"due":[],"items":[["1.2","m","ready",""],["1.3","m","ready",""],["1.4","m","ready",""],["1.5","m","ready",""],["1.6","m","ready",""],["1.7","m","ready",""],["1.8","m","ready",""],["1.9","m","ready",""],["1.10","m","executing","ann"],["1.11","m","ready",""]],"nets":[["1","ten","main",{"a":"q","xs":[0,1,2,3,4,5,6,7,8,9]}]],"runs":[],"suspended":[],"tokens":[]},"n":8,"ok":true}
+{"at":"","n":9,"ok":false,"rule":"UnknownCase"}
+{"at":"","n":10,"ok":false,"rule":"UnknownCase"}
+{"n":11,"ok":true,"quiet":true,"steps":["cancel 1"]}
+{"at":"","n":12,"ok":false,"rule":"UnknownCase"}
+{"answer":"cancelled","n":13,"ok":true}
+{"answer":["ten"],"n":14,"ok":true}
+"#,
+        opening: 12,
+        calls: 50,
+    }
+}
+
 /// A line that comes behind them, and its entry.
 const NEW_LINE: &[u8] = br#"{"cmd":"person","name":"new","roles":["clerk"]}"#;
 
@@ -292,6 +332,12 @@ fn case_is_answered(alloc: Global, case: &Case) -> Result<bool, AllocError> {
 #[test]
 fn a_case_runs_to_its_end(rt: HostRuntime) -> Result<(), AllocError> {
     assert!(rt; case_is_answered(rt.alloc(), &whole_case())?);
+    Ok(())
+}
+
+#[test]
+fn queries_are_told(rt: HostRuntime) -> Result<(), AllocError> {
+    assert!(rt; case_is_answered(rt.alloc(), &queried())?);
     Ok(())
 }
 

@@ -22,10 +22,11 @@ returns-in-Ok-Command-clause-plan c =
 pub returns-in-Ok-Query-clause-plan : goal.returns-in-Ok-Query-clause-plan
 returns-in-Ok-Query-clause-plan c =
     let s = engine.state_of c.args.engine.now in
-    let q = c.in-Ok-Query.field-0-0 in
-    IfOk-weaker c.refuse_by.result _ _ (λ plan plans. query_line s c.args.n c.args.line.now q plan c.args.buffer.now.items (c.in-Ok-Query.ensures.ok ∙ ap Ok c.in-Ok-Query.field-0-is) plans) c.refuse_by.ensures
+    let q = c.in-Ok-Query.query in
+    let means = c.in-Ok-Query.ensures.ok ∙ ap Ok c.in-Ok-Query.field-0-is in
+    IfOk-weaker c.plan_query.result _ _ (λ plan plans. query_line s c.args.n c.args.line.now q plan c.args.buffer.now.items means plans) c.plan_query.ensures
 
-pub returns-clause-plan : goal.returns-clause-plan
-returns-clause-plan c =
+pub returns-in-Err-clause-plan : goal.returns-in-Err-clause-plan
+returns-in-Err-clause-plan c =
     let s = engine.state_of c.args.engine.now in
     IfOk-weaker c.plan_fault.result _ _ (λ plan plans. fault_line s c.args.n c.args.line.now (rule_of c.in-Err.fault) plan c.args.buffer.now.items c.in-Err.ensures.err plans) c.plan_fault.ensures

@@ -16,7 +16,7 @@ use Rattle.yw_serve.specs.Session.{OfSteps, Why, bytes_of, file_after}
 use Rattle.yw_serve.specs.declared.server.Stop.{Stop}
 use Rattle.yw_serve.specs.Plans.{Does, CanBeAppended}
 use Rattle.yw_serve.specs.declared.plan.Plan.{Plan}
-use Rattle.yw_serve.specs.declared.plan.Plan.TheVariants.{Refuse, Accept}
+use Rattle.yw_serve.specs.declared.plan.Plan.TheVariants.{Say, Accept}
 use Rattle.yw_serve.proofs.Doing.{leaves_nothing}
 use Rattle.yw_serve.proofs.FaultLemmas.{call_then}
 use Rattle.yw_serve.proofs.Telling.{not_begun, of_append, leaves_telling, done_by_telling, current_none, current_one, current_same, same_file}
@@ -36,12 +36,12 @@ framed_as items bytes whole e h = subst (λ (l : List ℕ). IsFramed l bytes) (s
 fits : {T : Type 0} (limit end : ℕ) (result : Result T AppendFault) → (limit < end → result ≡ Err (Full end)) → ((n : ℕ) → result ≢ Err (Full n)) → end ≤ limit
 fits limit end result full never = elim (cases_lt limit end) [ inl over ↦ absurd (never end (full over)) | inr within ↦ within ]
 
-pub returns-in-Refuse-clause-ok : goal.returns-in-Refuse-clause-ok
-returns-in-Refuse-clause-ok g c = IfOk-weaker c.tell.result _ _ (λ x said tells content current step does.
+pub returns-in-Say-clause-ok : goal.returns-in-Say-clause-ok
+returns-in-Say-clause-ok g c = IfOk-weaker c.tell.result _ _ (λ x said tells content current step does.
     let D = g.D.Desk in
     let old = c.args.desk.now in
     let journal = c.args.journal.now in
-    let d = does_as c.args.plan.now (Refuse c.in-Refuse.reply) c.args.entry.now step c.in-Refuse.is does in
+    let d = does_as c.args.plan.now (Say c.in-Say.reply) c.args.entry.now step c.in-Say.is does in
     let settled = c.requires.stands.settled tells in
     let told = c.tell.ensures in
     let first = leaves_nothing D old (OfSteps journal.file content (step ∷ []) (D.state old)) settled (g.met.D.Desk.said_by_now old) (g.met.D.Desk.only_now old)
@@ -50,12 +50,12 @@ returns-in-Refuse-clause-ok g c = IfOk-weaker c.tell.result _ _ (λ x said tells
     (current_none journal content step (D.state old) d.0 current) refl refl first (told.any_moment tells settled)
     (inl (taken_none step d.0)) (file_after-none (file_in journal.file (D.state old)) (file_in journal.file (D.state old)) content step d.0 refl) told.a told.b (said tells) (told.settled tells settled)) c.tell.ensures.said
 
-pub returns-in-Refuse-clause-moments : goal.returns-in-Refuse-clause-moments
-returns-in-Refuse-clause-moments g c = IfErr-weaker c.tell.result _ _ (λ x write tells content current step does.
+pub returns-in-Say-clause-moments : goal.returns-in-Say-clause-moments
+returns-in-Say-clause-moments g c = IfErr-weaker c.tell.result _ _ (λ x write tells content current step does.
     let D = g.D.Desk in
     let old = c.args.desk.now in
     let journal = c.args.journal.now in
-    let d = does_as c.args.plan.now (Refuse c.in-Refuse.reply) c.args.entry.now step c.in-Refuse.is does in
+    let d = does_as c.args.plan.now (Say c.in-Say.reply) c.args.entry.now step c.in-Say.is does in
     let settled = c.requires.stands.settled tells in
     let first = leaves_nothing D old (OfSteps journal.file content (step ∷ []) (D.state old)) settled (g.met.D.Desk.said_by_now old) (g.met.D.Desk.only_now old)
     (not_begun journal.file content step (D.state old) (D.state old) (journal.end, current.holds) refl refl) in
@@ -159,12 +159,12 @@ returns-in-Err-Full-clause-moments g c = λ tells content current step does.
     weakened D old c.append.new.desk (IsBeforeOrAfter before.file content bytes (D.state old)) (OfSteps before.file content (step ∷ []) (D.state old)) (c.append.ensures.any_moment tells content bytes current whole)
     (λ i h. of_append before.file content step e (D.state old) i d.taken d.has.written h)
 
-pub returns-in-Refuse-clause-why : goal.returns-in-Refuse-clause-why
-returns-in-Refuse-clause-why g c = IfErr-weaker c.tell.result _ _ (λ x write tells content current step does.
+pub returns-in-Say-clause-why : goal.returns-in-Say-clause-why
+returns-in-Say-clause-why g c = IfErr-weaker c.tell.result _ _ (λ x write tells content current step does.
     let D = g.D.Desk in
     let old = c.args.desk.now in
     let journal = c.args.journal.now in
-    let d = does_as c.args.plan.now (Refuse c.in-Refuse.reply) c.args.entry.now step c.in-Refuse.is does in
+    let d = does_as c.args.plan.now (Say c.in-Say.reply) c.args.entry.now step c.in-Say.is does in
     subst (λ (stop : Stop). Why D content stop journal (step ∷ []) old c.tell.new.desk) (sym write)
     (inl (taken_none step d.0), file_after-none _ _ content step d.0 (same_file journal.file (D.state old) (D.state c.tell.new.desk) c.tell.ensures.a c.tell.ensures.b))) c.tell.ensures.write
 
