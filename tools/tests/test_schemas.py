@@ -61,6 +61,7 @@ RIGHT_LINES = [
     '{"task":"vote","value":["a"],"who":"ann","case":"1.3","cmd":"add"}',
     '{"cmd":"launch","spec":"a","data":{"b":true,"c":-9223372036854775808,"d":"","e":[],"f":[1,2],"g":["x"]}}',
     '{"cmd":"advance","case":"281474976710655"}',
+    '{"case":"1","cmd":"show"}', '{"cmd":"ended","case":"7"}', '{"cmd":"specs"}',
 ]
 WRONG_LINES = [
     "[]", "7", "{}", '{"cmd":"walk"}', '{"cmd":7}', '{"name":"ann","roles":[]}',
@@ -88,11 +89,15 @@ WRONG_LINES = [
     '{"cmd":"complete","who":"ann","item":"1.2"}',
     '{"cmd":"add","who":"ann","case":"1","task":"vote","value":null}',
     '{"cmd":"cancel","case":"1","who":"ann"}',
+    '{"cmd":"show"}', '{"cmd":"show","case":1}', '{"cmd":"ended","case":"1","who":"ann"}', '{"cmd":"specs","case":"1"}',
 ]
 RIGHT_REPLIES = [
     '{"n":7,"ok":true,"quiet":false,"steps":["add 1.3 vote as 1.3.9"]}',
     '{"n":1,"ok":true,"quiet":true,"steps":["enter 1 a from i,b->c as 1.2,1.3","completeempty 1.2"]}',
     '{"at":"V3 main x","n":1,"ok":false,"rule":"SpecCheck"}',
+    '{"answer":{"due":[["1.2","select"]],"items":[["1.3","x","executing","ann"]],"nets":[["1","xj","main",{"v":[1]}]],"runs":[],'
+    '"suspended":["1"],"tokens":[["1","c->x",2]]},"n":1,"ok":true}',
+    '{"answer":"finished","n":1,"ok":true}', '{"answer":[],"n":9,"ok":true}', '{"answer":["order","seq"],"n":9,"ok":true}',
     '{"full":120}', '{"at":29,"damaged":"a"}', '{"ok":true,"spec":"order"}', '{"at":"","ok":false,"rule":"SpecText"}',
 ]
 WRONG_REPLIES = [
@@ -100,6 +105,10 @@ WRONG_REPLIES = [
     '{"n":1,"ok":true,"quiet":true,"steps":["started 1.2"]}', '{"n":1,"ok":true,"steps":["start 1.2"]}',
     '{"n":1,"ok":false,"rule":"Stage"}', '{"at":"","n":1,"ok":false,"rule":"Nope"}', '{"at":"","n":1,"ok":true,"rule":"Stage"}',
     '{"at":"","ok":false,"rule":"Stage"}', '{"at":29,"damaged":"c"}', '{"full":true}',
+    '{"answer":"gone","n":1,"ok":true}', '{"answer":["a","a"],"n":1,"ok":true}', '{"answer":{},"n":1,"ok":true}',
+    '{"answer":{"due":[],"items":[["1.2","x","Ready",""]],"nets":[],"runs":[],"suspended":[],"tokens":[]},"n":1,"ok":true}',
+    '{"answer":{"due":[],"items":[],"nets":[],"runs":[],"suspended":[],"tokens":[["1","c"]]},"n":1,"ok":true}',
+    '{"answer":"finished","n":1,"ok":true,"quiet":true}',
 ]
 
 

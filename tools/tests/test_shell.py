@@ -60,6 +60,18 @@ class SessionTest(FolderTest):
                          ["refused: Stage", "refused: BadData amount", "launch 3 order", "refused: UnknownCase"])
         self.assertIn("isn't executing", said[1])
 
+    def test_queries(self):
+        given = ORDER.partition("enter pack")[0] + "show\nspecs\ncancel 1\nended 1\nshow 1\nended\n"
+        said = run(SHELL, self.folder, given=given)[1].splitlines()
+        begin = next(number for number, line in enumerate(said) if line == "{")
+        text = "\n".join(said[begin:])
+        shown, end = json.JSONDecoder().raw_decode(text)
+        self.assertEqual((shown["nets"][0][:3], shown["items"], shown["runs"]), (["1", "order", "main"], [], []))
+        names, behind = json.JSONDecoder().raw_decode(text[end:].lstrip())
+        self.assertEqual(names, ["order"])
+        self.assertEqual([line for line in text[end:].lstrip()[behind:].split("\n") if line and line[0] != " "],
+                         ["cancel 1", '"cancelled"', "refused: UnknownCase", "? it lacks which case: ended CASE"])
+
     def test_what_is_unclear_is_told(self):
         typed = ["enter receive", "walk", "start", "load none.toml", "complete x", "person 'ann", "help start", "cancel"]
         said = run(SHELL, self.folder, given="\n".join(typed))[1].splitlines()
@@ -87,6 +99,8 @@ class KnownTest(unittest.TestCase):
         self.assertEqual(self.typed("start", known=known), {"cmd": "start", "who": "ann", "item": "1.2.3"})
         self.assertEqual(self.typed("enter", "vote", known=known)["case"], "1.2")
         self.assertEqual(self.typed("advance", known=known), {"cmd": "advance", "case": "1"})
+        self.assertEqual(self.typed("show", known=known), {"cmd": "show", "case": "1"})
+        self.assertEqual(self.typed("specs", known=known), {"cmd": "specs"})
         known.learn(Event("start", {"item": "1.2.4", "who": "ann"}, ""))
         self.assertEqual(self.typed("complete", "v=1", "w=a", known=known),
                          {"cmd": "complete", "who": "ann", "item": "1.2.4", "out": {"v": 1, "w": "a"}})

@@ -93,7 +93,11 @@ class Validator:
         return not isinstance(value, dict) or all(self.meets(key, part) for key in value)
 
     def check_items(self, value, part, _) -> bool:
-        return not isinstance(value, list) or all(self.meets(it, part) for it in value)
+        """One schema for each entry, or a list of them in turn."""
+        if not isinstance(value, list):
+            return True
+        parts = part if isinstance(part, list) else [part] * len(value)
+        return all(map(self.meets, value, parts))
 
     def check_allof(self, value, parts, _) -> bool:
         return all(self.meets(value, part) for part in parts)

@@ -9,6 +9,10 @@ from yawl.known import Known
 
 # What a field may be typed as, beside the forms that docs/LINES.md has: a file's name for its text.
 SHOWN = {"TEXT": "FILE", "[NAME,..]": "NAME ..", "{NAME:VALUE,..}": "NAME=VALUE .."}
+# Words whose case has to be typed: one goes for good, the other asks for a case that isn't known any more.
+TYPED = ("cancel", "ended")
+# Words that take the number of a case and no net within it.
+OF_CASE = ("advance", "show")
 
 
 class Unclear(Exception):
@@ -28,7 +32,7 @@ def usage(word: str) -> str:
     shown = [word]
     for name, kind in rules.forms()[word].items():
         if name != "who":
-            shown.append(f"[{name.upper()}]" if kind == "ID" and word != "cancel" else SHOWN.get(kind, name.upper()))
+            shown.append(f"[{name.upper()}]" if kind == "ID" and word not in TYPED else SHOWN.get(kind, name.upper()))
     return " ".join(shown)
 
 
@@ -64,14 +68,14 @@ class Typed:
         return self.text(typed) if kind == "TEXT" else value_of(typed) if kind == "VALUE" else typed
 
     def identity(self, name: str) -> str:
-        """An identity: the one that was typed, else the last of its kind. What is cancelled has to be typed."""
+        """An identity: the one that was typed, else the last of its kind, but for the words of `TYPED`."""
         if self.rest and self.rest[0][0].isdigit() and self.rest[0].replace(".", "").isdigit():
             return self.rest.pop(0)
-        if self.word == "cancel":
+        if self.word in TYPED:
             return self.lacks("which case")
         if name == "case":
             net = self.known.nets[-1] if self.known.nets else self.lacks("a case: none is known")
-            return net.partition(".")[0] if self.word == "advance" else net
+            return net.partition(".")[0] if self.word in OF_CASE else net
         items = list(self.known.working)[::-1] if self.word == "complete" else list(self.known.ready)
         return items[0] if items else self.lacks("an item: none is known")
 
