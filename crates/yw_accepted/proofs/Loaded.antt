@@ -3,8 +3,8 @@ use Rattle.std.specs.Prelude.{◌≡◌, ℕ, List, Bool, true, false, cond, Res
 use Rattle.std.specs.Str.{is_utf8}
 use Rattle.yw_accepted.proofs.Soundness.{is_sound, said_inits}
 use Rattle.yw_accepted.proofs.Whole.{is_within}
-use Rattle.yw_model.specs.Accepted.{document_in}
-use Rattle.yw_model.specs.Texts.{reader}
+use Rattle.yw_texts.specs.Accepted.{document_in}
+use Rattle.yw_texts.specs.Texts.{reader}
 use Rattle.yw_read.specs.Reading.{spec_in}
 use Rattle.yw_read.specs.declared.raw.RawSpec.{RawSpec}
 use Rattle.yw_read.specs.declared.raw.ReadFault.{ReadFault}

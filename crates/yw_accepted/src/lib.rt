@@ -5,7 +5,7 @@
 ghost use Rattle.std.specs.Prelude.{◌≡◌, ℕ, List, None, Ok};
 ghost use Rattle.yw_accept.specs.Built.{IsSpec};
 ghost use Rattle.yw_accept.specs.Verdict.{IsVerdict};
-ghost use Rattle.yw_model.specs.Texts.{reader};
+ghost use Rattle.yw_texts.specs.Texts.{reader};
 ghost use Rattle.yw_read.specs.Inits.{HasInits};
 ghost use Rattle.yw_read.specs.Reading.{spec_in};
 ghost use Rattle.yw_read.specs.declared.raw.RawSpec.{RawSpec};

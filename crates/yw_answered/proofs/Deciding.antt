@@ -8,11 +8,12 @@ use Rattle.yw_asked.proofs.TreesAsked.{raise_has_event, rule_has_event}
 use Rattle.yw_asked.proofs.Unbroken.{none_broken, some_of}
 use Rattle.yw_asked.specs.Asked.{HasEvent}
 use Rattle.yw_expr.specs.Tree.{Tree}
-use Rattle.yw_model.proofs.Lacking.{decided, follows, here}
+use Rattle.yw_texts.proofs.Lacking.{decided, follows, here}
 use Rattle.yw_lines.specs.Meaning.{IsProper}
 use Rattle.yw_lines.specs.Replies.{done_line, refused_line}
-use Rattle.yw_model.specs.Run.{CannotLack, Entry}
-use Rattle.yw_model.specs.Texts.{reader}
+use Rattle.yw_model.specs.Run.{Entry}
+use Rattle.yw_texts.specs.Lacking.{CannotLack}
+use Rattle.yw_texts.specs.Texts.{reader}
 use Rattle.yw_spec.specs.declared.spec.Spec.{Spec}
 use Rattle.yw_state.specs.Broken.{Breaks, Check, First, checks, fact, fact_at, fault, placed, placeless, test, test_at}
 use Rattle.yw_state.specs.NewRule.{tree_scope}

@@ -8,8 +8,8 @@ use Rattle.yw_lex.specs.Tokens as tokens
 use Rattle.yw_lex.specs.Tokens.{AreTokens, HasNoFront, IsLongestToken, StopsAt, is_blank, token}
 use Rattle.yw_lex.specs.declared.token.Token.{Token}
 use Rattle.yw_lex.specs.declared.token.Word.{Word}
-use Rattle.yw_model.proofs.Lacking.{decided, follows, here}
-use Rattle.yw_model.specs.Run.{CannotLack}
+use Rattle.yw_texts.proofs.Lacking.{decided, follows, here}
+use Rattle.yw_texts.specs.Lacking.{CannotLack}
 use Rattle.yw_state.proofs.Tests.{by_test}
 
 -- ---- the longest token at the front

@@ -1,12 +1,13 @@
 -- In a state that is well no line lacks an answer.
 use Rattle.std.specs.Prelude.{◌≡◌, ℕ, List, [], Result, Ok, Err, refl}
 use Rattle.yw_accepted.proofs.Loaded.{accepted_are_within}
-use Rattle.yw_model.proofs.Lacking.{here}
+use Rattle.yw_texts.proofs.Lacking.{here}
 use Rattle.yw_lines.proofs.Asking.{asks_properly}
 use Rattle.yw_lines.specs.Meaning.{IsProper, meaning}
 use Rattle.yw_lines.specs.Replies.{refused_line}
-use Rattle.yw_model.specs.Run.{CannotLack, MeaningAnswers, Step}
-use Rattle.yw_model.specs.Texts.{reader}
+use Rattle.yw_model.specs.Run.{MeaningAnswers, Step}
+use Rattle.yw_texts.specs.Lacking.{CannotLack}
+use Rattle.yw_texts.specs.Texts.{reader}
 use Rattle.yw_lines.specs.declared.word.Word.{Word}
 use Rattle.yw_state.specs.Broken.{placeless}
 use Rattle.yw_state.specs.State.{State}

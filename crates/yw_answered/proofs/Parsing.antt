@@ -17,8 +17,8 @@ use Rattle.yw_grammar.specs.declared.symbol.Symbol.TheVariants.{Atom}
 use Rattle.yw_lex.specs.Tokens.{AreTokens}
 use Rattle.yw_lex.specs.Tokens as tokens
 use Rattle.yw_lex.specs.declared.token.Token.{Token}
-use Rattle.yw_model.proofs.Lacking.{decided, follows, here}
-use Rattle.yw_model.specs.Run.{CannotLack}
+use Rattle.yw_texts.proofs.Lacking.{decided, follows, here}
+use Rattle.yw_texts.specs.Lacking.{CannotLack}
 use Rattle.yw_state.proofs.Tests.{by_option}
 use Rattle.yw_answered.proofs.Lexing.{is_lexed}
 

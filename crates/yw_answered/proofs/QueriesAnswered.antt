@@ -9,8 +9,9 @@ use Rattle.yw_base.specs.Identity.{case_number}
 use Rattle.yw_lines.specs.Answers.{answer_line, names_data, shown_data}
 use Rattle.yw_lines.specs.Replies.{refused_line}
 use Rattle.yw_lines.specs.Ways.{way_text}
-use Rattle.yw_model.proofs.Lacking.{follows, here}
-use Rattle.yw_model.specs.Run.{CannotLack, FoundTells, QueryAnswers, Refuses, Step, Tells}
+use Rattle.yw_texts.proofs.Lacking.{follows, here}
+use Rattle.yw_model.specs.Run.{FoundTells, QueryAnswers, Refuses, Step, Tells}
+use Rattle.yw_texts.specs.Lacking.{CannotLack}
 use Rattle.yw_model.specs.Told.{IsTold}
 use Rattle.yw_state.proofs.Tests.{and_right, there}
 use Rattle.yw_state.specs.Answers.{IsShown, due_rows, ended_way, item_row, net_row, of_case, run_row, spec_names}

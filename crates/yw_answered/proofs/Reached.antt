@@ -2,7 +2,7 @@
 use Rattle.std.specs.Prelude.{List}
 use Rattle.yw_accepted.proofs.Loaded.{accepted_are_sound, accepted_are_within}
 use Rattle.yw_invariant.proofs.FromOpening as opened
-use Rattle.yw_model.specs.Texts.{reader}
+use Rattle.yw_texts.specs.Texts.{reader}
 use Rattle.yw_state.specs.Events.{LeadAll}
 use Rattle.yw_state.specs.State.{State, opening}
 use Rattle.yw_state.specs.Well.{IsWell}

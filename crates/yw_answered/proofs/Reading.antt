@@ -10,11 +10,11 @@ use Rattle.yw_expr.specs.Tree.{Tree}
 use Rattle.yw_expr.specs.declared.fault.ExprFault.{ExprFault}
 use Rattle.yw_expr.specs.declared.scope.Binding.{Binding}
 use Rattle.yw_model.proofs.Answering.{says}
-use Rattle.yw_model.proofs.Judging.{verdict_finds}
-use Rattle.yw_model.proofs.Lacking.{decided, follows, here}
-use Rattle.yw_model.specs.Accepted.{JudgesSaid, check_refusal, document_in}
-use Rattle.yw_model.specs.Run.{CannotLack}
-use Rattle.yw_model.specs.Texts.{ReadsCondition, ReadsSpec, fault_text, reader}
+use Rattle.yw_texts.proofs.Judging.{verdict_finds}
+use Rattle.yw_texts.proofs.Lacking.{decided, follows, here}
+use Rattle.yw_texts.specs.Accepted.{JudgesSaid, check_refusal, document_in}
+use Rattle.yw_texts.specs.Lacking.{CannotLack}
+use Rattle.yw_texts.specs.Texts.{ReadsCondition, ReadsSpec, fault_text, reader}
 use Rattle.yw_read.specs.declared.raw.RawSpec.{RawSpec}
 use Rattle.yw_read.specs.declared.raw.ReadFault.{ReadFault}
 use Rattle.yw_read.specs.declared.raw.ReadFault.TheVariants.{NotToml, Shape, Memory}

@@ -5,10 +5,11 @@ use Rattle.yw_answered.proofs.LinesAnswered.{line_has_answer}
 use Rattle.yw_accepted.proofs.Loaded.{accepted_are_sound}
 use Rattle.yw_invariant.proofs.FromOpening.{events_keep_well}
 use Rattle.yw_lines.specs.Meaning.{meaning}
-use Rattle.yw_model.proofs.Lacking.{follows, here}
+use Rattle.yw_texts.proofs.Lacking.{follows, here}
 use Rattle.yw_model.proofs.RunLemmas.{EntriesLead-append}
-use Rattle.yw_model.specs.Run.{Accepts, Answers, CannotLack, EntriesLead, Entry, FoundAnswers, FoundTells, HasRun, MeaningAnswers, QueryAnswers, Refuses, Run, Step, Tells, built_words, taken_by}
-use Rattle.yw_model.specs.Texts.{reader}
+use Rattle.yw_model.specs.Run.{Accepts, Answers, EntriesLead, Entry, FoundAnswers, FoundTells, HasRun, MeaningAnswers, QueryAnswers, Refuses, Run, Step, Tells, built_words, taken_by}
+use Rattle.yw_texts.specs.Lacking.{CannotLack}
+use Rattle.yw_texts.specs.Texts.{reader}
 use Rattle.yw_state.specs.Broken.{placeless}
 use Rattle.yw_state.specs.State.{State}
 use Rattle.yw_state.specs.Well.{IsWell}

@@ -7,8 +7,8 @@ use Rattle.std.specs.declared.cmp.Ordering.{Ordering}
 use Rattle.std.specs.declared.cmp.Ordering.TheVariants.{Less, Equal, Greater}
 use Rattle.std.proofs.Common.{arith, sym, ◌∙◌, ap, subst, inl, inr}
 use Rattle.std.proofs.lemmas.Bool.{and_parts, and_from}
-use Rattle.yw_model.proofs.Lacking.{decided, follows, here}
-use Rattle.yw_model.specs.Run.{CannotLack}
+use Rattle.yw_texts.proofs.Lacking.{decided, follows, here}
+use Rattle.yw_texts.specs.Lacking.{CannotLack}
 use Rattle.yw_spec.specs.Net.{place_text}
 use Rattle.yw_spec.specs.declared.spec.Net.{Net}
 use Rattle.yw_spec.specs.declared.spec.Place.{Place}

@@ -3,7 +3,8 @@ use Rattle.std.specs.Prelude.{ℕ, List, Option, Result}
 use Rattle.yw_expr.specs.Tree.{Tree}
 use Rattle.yw_expr.specs.declared.scope.Binding.{Binding}
 use Rattle.yw_lines.specs.Meaning.{meaning}
-use Rattle.yw_model.specs.Run.{CannotLack, CommandAnswers, MeaningAnswers, QueryAnswers, Step}
+use Rattle.yw_model.specs.Run.{CommandAnswers, MeaningAnswers, QueryAnswers, Step}
+use Rattle.yw_texts.specs.Lacking.{CannotLack}
 use Rattle.yw_lines.specs.declared.word.Word.{Word}
 use Rattle.yw_spec.specs.declared.spec.Spec.{Spec}
 use Rattle.yw_state.specs.Broken.{Breaks}

@@ -6,8 +6,9 @@
 ghost use Rattle.std.specs.Prelude.{◌≡◌, ◌+◌, ◌++◌, ℕ, Bool, List, None, Some, length};
 ghost use Rattle.yw_answered.specs.Answered.{CommandHasAnswer, FindsRule, LineHasAnswer, QueryHasAnswer, ReadsAll};
 ghost use Rattle.yw_answered.specs.Sessions.{SameButNumbers};
-ghost use Rattle.yw_model.specs.Run.{Answers, CannotLack, EntriesLead, HasRun, Run, Step, taken_by};
-ghost use Rattle.yw_model.specs.Texts.{reader};
+ghost use Rattle.yw_model.specs.Run.{Answers, EntriesLead, HasRun, Run, Step, taken_by};
+ghost use Rattle.yw_texts.specs.Lacking.{CannotLack};
+ghost use Rattle.yw_texts.specs.Texts.{reader};
 ghost use Rattle.yw_lines.specs.Meaning.{IsProper};
 ghost use Rattle.yw_lines.specs.declared.word.Word.{Word};
 ghost use Rattle.yw_sound.specs.Sound.{ReadsSound};

@@ -7,7 +7,7 @@ use Rattle.yw_asked.proofs.TasksAsked.{add_has_event}
 use Rattle.yw_asked.specs.Asked.{HasEvent}
 use Rattle.yw_base.specs.declared.value.Value.{Value}
 use Rattle.yw_breaks.specs.Events.{IsAllowed}
-use Rattle.yw_model.specs.Texts.{reader}
+use Rattle.yw_texts.specs.Texts.{reader}
 use Rattle.yw_spec.specs.declared.spec.Net.{Net}
 use Rattle.yw_state.proofs.Tests.{map_some, some_same}
 use Rattle.yw_state.specs.Allowed.{Allowed}

@@ -1,35 +1,35 @@
 -- The event that a command asks for.
-use Rattle.std.proofs.Common.{List, None, Option, Some, ap, refl, sym, ℕ, ◌∙◌, ◌≡◌}
+use Rattle.std.proofs.Common.{List, None, Option, Some, ap, length, refl, sym, ℕ, ◌∙◌, ◌≡◌}
+use Rattle.std.proofs.lemmas.Bool.{ltb-true}
 use Rattle.std.specs.Prelude.{option_and_then, option_map, slice_get}
 use Rattle.yw_base.specs.declared.value.Value.{Value}
-use Rattle.yw_breaks.proofs.Enters.{no_task}
 use Rattle.yw_breaks.specs.Nets.{IsTaskNamed}
-use Rattle.yw_known.proofs.Standing.{kept_called, specs_are}
+use Rattle.yw_known.proofs.Lists.{not_before}
+use Rattle.yw_known.proofs.Standing.{kept_called}
 use Rattle.yw_library.specs.Held.{IsHeld}
-use Rattle.yw_known.specs.Here.{IsItemHere, IsNetHere, as_item_at}
+use Rattle.yw_known.specs.Here.{IsItemHere, IsNetHere}
 use Rattle.yw_library.specs.Names.{names_of}
 use Rattle.yw_known.specs.declared.here.ItemHere.{ItemHere}
 use Rattle.yw_known.specs.declared.here.NetHere.{NetHere}
-use Rattle.yw_library.specs.Holdings.{Holdings, IsKept, state_of}
-use Rattle.yw_model.specs.Texts.{reader}
+use Rattle.yw_library.specs.Holdings.{Holdings, IsKept}
+use Rattle.yw_texts.specs.Texts.{reader}
 use Rattle.yw_spec.specs.declared.spec.Net.{Net}
 use Rattle.yw_spec.specs.declared.spec.Spec.{Spec}
 use Rattle.yw_spec.specs.declared.task.Task.{Task}
-use Rattle.yw_state.proofs.Tests.{nowhere, some_same}
-use Rattle.yw_state.specs.Given.{element_value, launch_values, made_values, misfit}
+use Rattle.yw_state.proofs.Tests.{some_same}
+use Rattle.yw_state.specs.Given.{element_value, launch_values, made_values}
 use Rattle.yw_state.specs.Identity.{Ident}
 use Rattle.yw_base.specs.Identity.{case_number}
 use Rattle.yw_state.specs.Legal.{IsAsked}
-use Rattle.yw_state.specs.Map.{get}
-use Rattle.yw_state.specs.Nets.{task_number, top_net}
-use Rattle.yw_state.specs.State.{ItemAt, State, TaskAt, item_at, task_at, top_called}
+use Rattle.yw_state.specs.Nets.{top_net}
+use Rattle.yw_state.specs.State.{ItemAt, State, TaskAt, task_at, top_called}
 use Rattle.yw_state.specs.Values.{Row}
 use Rattle.yw_state.specs.declared.command.Command.TheVariants as commands
 use Rattle.yw_state.specs.declared.command.Given.{Given}
 use Rattle.yw_state.specs.declared.event.Event.TheVariants as events
-use Rattle.yw_state.specs.declared.loaded.Loaded.{Loaded}
 use Rattle.yw_task.proofs.EnterAsk.{task_stands}
 use Rattle.yw_tree.specs.declared.Forest.{Forest}
+use Rattle.yw_within.specs.Within.{IsWithin}
 
 module _ (s : State) (j : Ident) where
   pub start_asks : (who : List ℕ) → IsAsked reader s (commands.Start who j) (events.Start j who)
@@ -44,25 +44,20 @@ module _ (s : State) (j : Ident) where
   unfolding IsAsked
   advance_asks n e = ap events.Advance e
 
-module _ (known : Holdings) (f : Forest) (s : State) (h : IsHeld known f s) (name : List ℕ) where
-  pub no_spec : get (state_of known).specs name ≡ None → top_called s name ≡ None
-  no_spec none =
-      ap (λ m. option_and_then top_net (option_map (λ (l : Loaded). l.spec) (get m name))) (specs_are known f s h)
-      ∙ ap (λ o. option_and_then top_net (option_map (λ (l : Loaded). l.spec) o)) none
+-- a specification that is within has a top net
+pub has_top : {A : Type 0} (spec : Spec) → IsWithin spec → top_net spec ≡ None → A
+has_top spec within none = not_before spec.nets spec.top none (ltb-true spec.top (length spec.nets) within.top)
 
-  module _ (spec : Spec) (number : ℕ) (kept : IsKept known name spec number) where
-    its_top : (o : Option Net) → top_net spec ≡ o → top_called s name ≡ o
-    its_top o e = ap (option_and_then top_net) (kept_called known f s h name spec number kept) ∙ e
+module _ (known : Holdings) (f : Forest) (s : State) (h : IsHeld known f s) (name : List ℕ) (spec : Spec) (number : ℕ) (kept : IsKept known name spec number) where
+  its_top : (o : Option Net) → top_net spec ≡ o → top_called s name ≡ o
+  its_top o e = ap (option_and_then top_net) (kept_called known f s h name spec number kept) ∙ e
 
-    pub no_top : top_net spec ≡ None → top_called s name ≡ None
-    no_top e = its_top None e
-
-    pub launch_asks : (net : Net) → top_net spec ≡ Some net → (next : ℕ) → s.next ≡ next → (gs : List Given)
-        → IsAsked reader s (commands.Launch name gs) (events.Launch next name (launch_values net.vars gs))
-    unfolding IsAsked
-    launch_asks net e next drawn gs =
-        ap (λ n. Some (events.Launch n name (launch_values net.vars gs))) (sym drawn)
-        ∙ sym (ap (option_map (λ (w : Net). events.Launch s.next name (launch_values w.vars gs))) (its_top (Some net) e))
+  pub launch_asks : (net : Net) → top_net spec ≡ Some net → (next : ℕ) → s.next ≡ next → (gs : List Given)
+      → IsAsked reader s (commands.Launch name gs) (events.Launch next name (launch_values net.vars gs))
+  unfolding IsAsked
+  launch_asks net e next drawn gs =
+      ap (λ n. Some (events.Launch n name (launch_values net.vars gs))) (sym drawn)
+      ∙ sym (ap (option_map (λ (w : Net). events.Launch s.next name (launch_values w.vars gs))) (its_top (Some net) e))
 
 -- ---- additions
 
@@ -71,9 +66,6 @@ module _ (known : Holdings) (f : Forest) (s : State) (h : IsHeld known f s) (i :
   element x = element_value x.task value
 
   module _ (x : NetHere) (here : IsNetHere known f s i x) (name : List ℕ) where
-    pub no_task_asked : task_number x.net.now name ≡ None → option_and_then element (task_at s i name) ≡ None
-    no_task_asked e = ap (option_and_then element) (no_task known f s i x name here e)
-
     module _ (t : ℕ) (is : IsTaskNamed x.net.now name t) (u : Task) (at : slice_get x.net.now.tasks t ≡ Some u) where
       pub element_asked : option_and_then element (task_at s i name) ≡ element_value u value
       element_asked =
@@ -97,8 +89,3 @@ module _ (known : Holdings) (f : Forest) (s : State) (j : Ident) (h : ItemHere) 
   pub complete_asks : (out : Row) → made_values h.task.now.outs gs ≡ Some out → (who : List ℕ) → IsAsked reader s (commands.Complete who j gs) (events.Complete j out)
   unfolding IsAsked
   complete_asks out e who = sym (ap (λ o. option_map (events.Complete j) (option_and_then (makes gs) o)) here.at ∙ ap (option_map (events.Complete j)) e)
-
-  -- nor do values fit it that don't fit its task
-  pub complete_misfits : (at : List ℕ) → misfit h.task.now.outs gs ≡ Some at → (x : ItemAt) → item_at s j ≡ Some x → misfit x.of_task.task.outs gs ≡ None → ⊥
-  complete_misfits at e x is none =
-      nowhere (sym none ∙ ap (λ (y : ItemAt). misfit y.of_task.task.outs gs) (some_same x (as_item_at known h) (sym is ∙ here.at)) ∙ e)

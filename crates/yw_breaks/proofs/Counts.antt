@@ -1,25 +1,29 @@
 -- What keeps the items of an entry from coming, by how many its list has.
-use Rattle.std.proofs.Common.{List, None, Option, Some, [], ap, false, length, map, refl, subst, suc, sym, true, ℕ, ◌∙◌, ◌∷◌, ◌≡◌}
+use Rattle.std.proofs.Common.{List, None, Option, Some, [], ap, false, length, map, refl, subst, suc, sym, true, ℕ, ◌+◌, ◌∙◌, ◌∷◌, ◌≡◌}
+use Rattle.std.proofs.lemmas.Bool.{le-leb, ltb-false}
 use Rattle.std.proofs.lemmas.List.Elements.{All-head, All-tail}
 use Rattle.std.specs.List.{All}
 use Rattle.std.specs.Option.{option_or}
-use Rattle.std.specs.Prelude.{codes, find, is_none, is_some, option_and_then, option_map, unwrap_or, if◌then◌else◌}
+use Rattle.std.specs.Prelude.{codes, find, is_none, is_some, nat_le, nat_lt, not, option_and_then, option_map, unwrap_or, if◌then◌else◌}
+use Rattle.yw_base.specs.Identity.{number_end}
 use Rattle.yw_base.specs.declared.value.Value.{Value}
 use Rattle.yw_base.specs.declared.value.Value.TheVariants as values
-use Rattle.yw_breaks.specs.Enter.{IsFed, item_count}
+use Rattle.yw_breaks.specs.Enter.{IsFed, ItemsFit, item_count}
 use Rattle.yw_expr.specs.Meaning.{val}
 use Rattle.yw_expr.specs.Tree.{Tree}
 use Rattle.yw_spec.specs.declared.task.Many.{Many}
 use Rattle.yw_spec.specs.declared.task.Param.{Param}
 use Rattle.yw_spec.specs.declared.task.Task.{Task}
-use Rattle.yw_state.proofs.Tests.{map_some, never, nowhere, some_same}
+use Rattle.yw_state.proofs.Tests.{by_option, by_test, map_some, never, nowhere, some_same}
 use Rattle.yw_state.specs.Broken.{placed, placeless}
 use Rattle.yw_state.specs.Options.{all_of}
-use Rattle.yw_state.specs.Passing.{elements_for, given_values}
+use Rattle.yw_state.specs.Passing.{elements_for, entry_values, given_values, within_bounds}
 use Rattle.yw_state.specs.Values.{Row}
+use Rattle.yw_state.specs.declared.rule.Refusal.{Refusal}
+use Rattle.yw_state.specs.declared.rule.Rule.{Rule}
 use Rattle.yw_state.specs.declared.rule.Rule.TheVariants as rules
 use Rattle.yw_task.proofs.AddTable.{is_given}
-use Rattle.yw_task.specs.Giving.{count_rule, entry_fault, entry_rows, given_value, lacks_value, undefined_param, value_or}
+use Rattle.yw_task.specs.Giving.{count_rule, entry_fault, entry_rows, given_value, lacks_value, undefined_entry, undefined_param, value_or}
 
 -- ---- each item is given something
 
@@ -113,3 +117,46 @@ module _ (task : Task) (vals : Row) (next : ℕ) where
         let none : undefined_param task vals ≡ None = ap (option_map (λ (q : Param). q.name)) e in
         sym (fault_is ∙ ap (λ o. option_or (option_map (placed rules.Mapping) o) (option_map placeless (count_rule task next (length (entry_rows task vals))))) none
         ∙ ap (λ k. option_map placeless (count_rule task next k)) (rows_are task vals fed none count counts))
+
+-- ---- where nothing is found
+
+module _ (task : Task) (vals : Row) (next : ℕ) (fed : IsFed task) where
+  abbrev count : ℕ
+  count = length (entry_rows task vals)
+
+  abbrev later : Option Refusal
+  later = option_map placeless (count_rule task next count)
+
+  by_rows : undefined_entry task vals ≡ None → within_bounds task.many count ≡ true → nat_lt number_end (next + count) ≡ false → ItemsFit task vals next
+  by_rows defined bounds fits = by_option (elements_for task.many vals)
+      (λ none. nowhere (sym defined ∙ ap (λ (o : Option (List (Option Value))). if is_none o then Some (codes "each") else undefined_param task vals) none))
+      (λ es some.
+      let params : undefined_param task vals ≡ None =
+      sym (ap (λ (o : Option (List (Option Value))). if is_none o then Some (codes "each") else undefined_param task vals) some) ∙ defined in
+      let all = by_list task vals fed params task.many refl es some in
+      let are : entry_values task vals ≡ Some all.rows =
+      ap (option_and_then (λ (xs : List (Option Value)). all_of (map (given_values task vals) xs))) some ∙ all.are in
+      let many : count ≡ length all.rows = ap (λ (o : Option (List Row)). length (unwrap_or o [])) are in
+      record {
+        rows = all.rows;
+        are = are;
+        bounds = ap (within_bounds task.many) (sym many) ∙ bounds;
+        room = ap (λ k. nat_le (next + k) number_end) (sym many) ∙ le-leb (next + count) number_end (ltb-false number_end (next + count) fits);
+      })
+
+  by_rule : undefined_entry task vals ≡ None → count_rule task next count ≡ None → ItemsFit task vals next
+  by_rule defined none = by_test (within_bounds task.many count)
+      (λ bounds.
+      let room : (if nat_lt number_end (next + count) then Some rules.Numbers else None) ≡ None =
+      sym (ap (λ b. if not b then Some rules.Count else (if nat_lt number_end (next + count) then Some rules.Numbers else None)) bounds) ∙ none in
+      by_test (nat_lt number_end (next + count))
+      (λ over. nowhere (sym room ∙ ap (λ b. if b then Some rules.Numbers else None) over))
+      (λ fits. by_rows defined bounds fits))
+      (λ out. nowhere (sym none ∙ ap (λ b. if not b then Some rules.Count else (if nat_lt number_end (next + count) then Some rules.Numbers else None)) out))
+
+  pub items_fit : None ≡ entry_fault task vals next → ItemsFit task vals next
+  items_fit e = by_option (undefined_entry task vals)
+      (λ defined. by_option (count_rule task next count)
+      (λ none. by_rule defined none)
+      (λ r some. nowhere (e ∙ ap (λ o. option_or (option_map (placed rules.Mapping) o) later) defined ∙ ap (λ (o : Option Rule). option_map placeless o) some)))
+      (λ at some. nowhere (e ∙ ap (λ o. option_or (option_map (placed rules.Mapping) o) later) some))

@@ -7,7 +7,7 @@ use Rattle.yw_breaks.proofs.Joining.{behind, in_front}
 use Rattle.yw_breaks.proofs.Rows.{broken_row, idle_row, place_row, rule_row}
 use Rattle.yw_breaks.specs.Enter.{EnterBreaks}
 use Rattle.yw_breaks.specs.Nets.{IsTaskNamed}
-use Rattle.yw_breaks.specs.Persons.{lacks_role, worker_rule}
+use Rattle.yw_breaks.specs.Persons.{HasRoles, lacks_role, worker_rule}
 use Rattle.yw_breaks.specs.Tables.{enter_rest}
 use Rattle.yw_library.specs.Held.{IsHeld}
 use Rattle.yw_known.specs.Here.{IsNetHere, as_net_at}
@@ -57,7 +57,7 @@ lacks s who x = not (has_role (unwrap_or (get s.persons who) []) x.task.role)
 abbrev spent : State → TaskAt → Bool
 spent s x = is_spent s (length (entry_rows x.task x.within.part.vals))
 
-module _ (known : Holdings) (f : Forest) (s : State) (who : List ℕ) (i : Ident) (x : NetHere) (t next : ℕ) (task : Task) (h : IsHeld known f s) (plain : IsPlain s) (drawn : s.next ≡ next) (here : IsNetHere known f s i x) (at : slice_get x.net.now.tasks t ≡ Some task) where
+module _ (known : Holdings) (f : Forest) (s : State) (who : List ℕ) (roles : List (List ℕ)) (has : HasRoles known who roles) (i : Ident) (x : NetHere) (t next : ℕ) (task : Task) (h : IsHeld known f s) (plain : IsPlain s) (drawn : s.next ≡ next) (here : IsNetHere known f s i x) (at : slice_get x.net.now.tasks t ≡ Some task) where
   abbrev its : TaskAt
   its = record { number = t; task = task; within = net_with (names_of known) x.net.now x.state.now }
 
@@ -67,11 +67,11 @@ module _ (known : Holdings) (f : Forest) (s : State) (who : List ℕ) (i : Ident
   told : (p : TaskAt → Bool) → is_some_and (task_at s i task.name) p ≡ p (record { number = t; task = task; within = net_with (names_of known) x.net.now x.state.now })
   told p = ap (λ o. is_some_and o p) stands
 
-  worker : First (take 2 (drop 4 (enter_checks s who i task.name))) (option_map placeless (worker_rule known who task))
+  worker : First (take 2 (drop 4 (enter_checks s who i task.name))) (option_map placeless (worker_rule roles task))
   worker =
       rule_row (is_some_and (task_at s i task.name) (by_itself s)) (not (is_atomic task)) (told (by_itself s) ∙ ap not ((words s plain).manual its)) rules.ByItself
-      (test (is_some_and (task_at s i task.name) (lacks s who)) rules.Role ∷ []) (if lacks_role known who task then Some rules.Role else None)
-      (rule_row (is_some_and (task_at s i task.name) (lacks s who)) (lacks_role known who task) (told (lacks s who) ∙ role_is known f s h who task) rules.Role [] None refl)
+      (test (is_some_and (task_at s i task.name) (lacks s who)) rules.Role ∷ []) (if lacks_role roles task then Some rules.Role else None)
+      (rule_row (is_some_and (task_at s i task.name) (lacks s who)) (lacks_role roles task) (told (lacks s who) ∙ role_is known f s h who roles has task) rules.Role [] None refl)
 
   shown : (o : Option Rule) → AsksEnter x.net.now x.state.now t o → First (take 4 (drop 6 (enter_checks s who i task.name))) (option_map placeless o)
   shown o asks =
@@ -88,12 +88,12 @@ module _ (known : Holdings) (f : Forest) (s : State) (who : List ℕ) (i : Ident
       (test (is_some_and (task_at s i task.name) (spent s)) rules.Numbers ∷ []) (if nat_lt number_end (next + count) then Some rules.Numbers else None)
       (rule_row (is_some_and (task_at s i task.name) (spent s)) (nat_lt number_end (next + count)) (told (spent s) ∙ ap (λ n. nat_lt number_end (n + count)) drawn) rules.Numbers [] None refl))
 
-  by_worker : (r : Rule) → worker_rule known who task ≡ Some r → First (drop 4 (enter_checks s who i task.name)) (Some (placeless r))
+  by_worker : (r : Rule) → worker_rule roles task ≡ Some r → First (drop 4 (enter_checks s who i task.name)) (Some (placeless r))
   by_worker r e =
       in_front (take 2 (drop 4 (enter_checks s who i task.name))) (drop 6 (enter_checks s who i task.name)) (placeless r)
       (subst (λ (o : Option Rule). First (take 2 (drop 4 (enter_checks s who i task.name))) (option_map placeless o)) e worker)
 
-  past_worker : worker_rule known who task ≡ None → (found : Option Refusal) → First (drop 6 (enter_checks s who i task.name)) found → First (drop 4 (enter_checks s who i task.name)) found
+  past_worker : worker_rule roles task ≡ None → (found : Option Refusal) → First (drop 6 (enter_checks s who i task.name)) found → First (drop 4 (enter_checks s who i task.name)) found
   past_worker e found g =
       behind (take 2 (drop 4 (enter_checks s who i task.name))) (drop 6 (enter_checks s who i task.name)) found
       (subst (λ (o : Option Rule). First (take 2 (drop 4 (enter_checks s who i task.name))) (option_map placeless o)) e worker) g
@@ -109,26 +109,27 @@ module _ (known : Holdings) (f : Forest) (s : State) (who : List ℕ) (i : Ident
 
 -- ---- whatever the state
 
-module _ (known : Holdings) (who : List ℕ) (x : NetHere) (t next : ℕ) (u : Task) (mine : slice_get x.net.now.tasks t ≡ Some u) where
-  pub worker_breaks : (r : Rule) → worker_rule known who u ≡ Some r → EnterBreaks known who x t next (Some (placeless r))
-  worker_breaks r e = λ f s i task h plain drawn here at.
-      by_worker known f s who i x t next task h plain drawn here at r (ap (worker_rule known who) (sym (some_same u task (sym mine ∙ at))) ∙ e)
+module _ (roles : List (List ℕ)) (x : NetHere) (t next : ℕ) (u : Task) (mine : slice_get x.net.now.tasks t ≡ Some u) where
+  pub worker_breaks : (r : Rule) → worker_rule roles u ≡ Some r → EnterBreaks roles x t next (Some (placeless r))
+  worker_breaks r e = λ known who has f s i task h plain drawn here at.
+      by_worker known f s who roles has i x t next task h plain drawn here at r (ap (worker_rule roles) (sym (some_same u task (sym mine ∙ at))) ∙ e)
 
-  pub net_breaks : worker_rule known who u ≡ None → (r : Rule) → AsksEnter x.net.now x.state.now t (Some r) → EnterBreaks known who x t next (Some (placeless r))
-  net_breaks e r asks = λ f s i task h plain drawn here at.
-      past_worker known f s who i x t next task h plain drawn here at (ap (worker_rule known who) (sym (some_same u task (sym mine ∙ at))) ∙ e) (Some (placeless r))
-      (by_net known f s who i x t next task h plain drawn here at r asks)
+  pub net_breaks : worker_rule roles u ≡ None → (r : Rule) → AsksEnter x.net.now x.state.now t (Some r) → EnterBreaks roles x t next (Some (placeless r))
+  net_breaks e r asks = λ known who has f s i task h plain drawn here at.
+      past_worker known f s who roles has i x t next task h plain drawn here at (ap (worker_rule roles) (sym (some_same u task (sym mine ∙ at))) ∙ e) (Some (placeless r))
+      (by_net known f s who roles has i x t next task h plain drawn here at r asks)
 
-  pub values_break : worker_rule known who u ≡ None → AsksEnter x.net.now x.state.now t None → EnterBreaks known who x t next (entry_fault u (out-NetState x.state.now).vals next)
-  values_break e asks = λ f s i task h plain drawn here at.
+  pub values_break : worker_rule roles u ≡ None → AsksEnter x.net.now x.state.now t None → EnterBreaks roles x t next (entry_fault u (out-NetState x.state.now).vals next)
+  values_break e asks = λ known who has f s i task h plain drawn here at.
       let same : task ≡ u = sym (some_same u task (sym mine ∙ at)) in
       subst (λ (z : Task). First (drop 4 (enter_checks s who i task.name)) (entry_fault z (out-NetState x.state.now).vals next)) same
-      (past_worker known f s who i x t next task h plain drawn here at (ap (worker_rule known who) same ∙ e) (entry_fault task (out-NetState x.state.now).vals next)
-      (by_values known f s who i x t next task h plain drawn here at asks))
+      (past_worker known f s who roles has i x t next task h plain drawn here at (ap (worker_rule roles) same ∙ e) (entry_fault task (out-NetState x.state.now).vals next)
+      (by_values known f s who roles has i x t next task h plain drawn here at asks))
 
   -- by the task's name
-  pub named_breaks : (name : List ℕ) → IsTaskNamed x.net.now name t → (found : Option Refusal) → EnterBreaks known who x t next found
+  pub named_breaks : (name : List ℕ) → IsTaskNamed x.net.now name t → (found : Option Refusal) → EnterBreaks roles x t next found
+      → (known : Holdings) (who : List ℕ) → HasRoles known who roles
       → (f : Forest) (s : State) (i : Ident) → IsHeld known f s → IsPlain s → s.next ≡ next → IsNetHere known f s i x → First (enter_rest s who i name) found
-  named_breaks name is found breaks f s i h plain drawn here =
+  named_breaks name is found breaks known who has f s i h plain drawn here =
       subst (λ n. First (enter_rest s who i n) found) is.named
-      (known_task known f s who i x t next is.task h plain drawn here is.at found (breaks f s i is.task h plain drawn here is.at))
+      (known_task known f s who roles has i x t next is.task h plain drawn here is.at found (breaks known who has f s i is.task h plain drawn here is.at))

@@ -1,7 +1,7 @@
 -- What a state that is held has of persons, items and nets.
 use Rattle.std.proofs.Common.{List, None, Option, Some, [], ap, false, refl, sym, true, ℕ, ◌∙◌, ◌≡◌}
 use Rattle.std.specs.Prelude.{is_none, is_some, not, option_and_then, option_map, unwrap_or}
-use Rattle.yw_breaks.specs.Persons.{is_stranger, lacks_role}
+use Rattle.yw_breaks.specs.Persons.{HasRoles, lacks_role, roles_of}
 use Rattle.yw_library.specs.Held.{IsHeld}
 use Rattle.yw_library.specs.Holdings.{Holdings, state_of, with_library}
 use Rattle.yw_spec.specs.declared.spec.Net.{Net}
@@ -13,6 +13,10 @@ use Rattle.yw_base.specs.Identity.{parent}
 use Rattle.yw_state.specs.Map.{get, has_key}
 use Rattle.yw_state.specs.State.{ItemAt, ItemPart, NetAt, NetPart, State, TaskAt, is_item, item_at, item_part, net_at, net_of, net_part, task_in}
 use Rattle.yw_tree.specs.declared.Forest.{Forest}
+
+not_some : {A : Type 0} (o : Option A) → not (is_some o) ≡ is_none o
+not_some None = refl
+not_some (Some x) = refl
 
 none_of : {A : Type 0} (o : Option A) → is_some o ≡ false → o ≡ None
 none_of None e = refl
@@ -37,8 +41,13 @@ module _ (known : Holdings) (f : Forest) (s : State) (h : IsHeld known f s) wher
   unfolding with_library
   persons_are = ap (λ (z : State). z.persons) h.library
 
-  pub stranger_is : (who : List ℕ) → not (has_key s.persons who) ≡ is_stranger known who
-  stranger_is who = ap (λ m. not (has_key m who)) persons_are
+  -- whether nobody has the name
+  pub stranger_is : (who : List ℕ) (o : Option (List (List ℕ))) → roles_of known who ≡ o → not (has_key s.persons who) ≡ is_none o
+  stranger_is who o e = ap (λ m. not (has_key m who)) persons_are ∙ ap (λ (z : Option (List (List ℕ))). not (is_some z)) e ∙ not_some o
 
-  pub role_is : (who : List ℕ) (t : Task) → not (has_role (unwrap_or (get s.persons who) []) t.role) ≡ lacks_role known who t
-  role_is who t = ap (λ m. not (has_role (unwrap_or (get m who) []) t.role)) persons_are
+  -- whether who has these roles lacks the task's
+  pub role_is : (who : List ℕ) (roles : List (List ℕ)) → HasRoles known who roles → (t : Task)
+      → not (has_role (unwrap_or (get s.persons who) []) t.role) ≡ lacks_role roles t
+  role_is who roles has t =
+      ap (λ m. not (has_role (unwrap_or (get m who) []) t.role)) persons_are
+      ∙ ap (λ (z : Option (List (List ℕ))). not (has_role (unwrap_or z []) t.role)) has

@@ -4,7 +4,7 @@ use Rattle.std.specs.Prelude.{drop, not, option_map, take, unwrap_or, if◌then�
 use Rattle.yw_breaks.proofs.Held.{role_is}
 use Rattle.yw_breaks.proofs.Joining.{then_or}
 use Rattle.yw_breaks.proofs.Rows.{idle_row, rule_row}
-use Rattle.yw_breaks.specs.Persons.{lacks_role, worker_rule}
+use Rattle.yw_breaks.specs.Persons.{HasRoles, lacks_role, worker_rule}
 use Rattle.yw_breaks.specs.Start.{start_rule}
 use Rattle.yw_breaks.specs.Tables.{start_rest}
 use Rattle.yw_library.specs.Held.{IsHeld}
@@ -32,14 +32,15 @@ by_itself x = not (is_atomic x.of_task.task)
 abbrev lacks : State → List ℕ → ItemAt → Bool
 lacks s who x = not (has_role (unwrap_or (get s.persons who) []) x.of_task.task.role)
 
-pub starts_first : (known : Holdings) (f : Forest) (s : State) (who : List ℕ) (j : Ident) (x : ItemHere) → IsHeld known f s → IsPlain s → IsItemHere known f s j x
-    → First (start_rest s who j) (option_map placeless (start_rule known who x))
-starts_first known f s who j x h plain here =
+pub starts_first : (known : Holdings) (f : Forest) (s : State) (who : List ℕ) (roles : List (List ℕ)) → HasRoles known who roles
+    → (j : Ident) (x : ItemHere) → IsHeld known f s → IsPlain s → IsItemHere known f s j x
+    → First (start_rest s who j) (option_map placeless (start_rule roles x))
+starts_first known f s who roles has j x h plain here =
     let y = as_item_at known x in
     let n = x.item.now in
     let shown : First (start_shown s who j) (option_map placeless (start_fault n)) =
     subst (λ i. First (start_shown s who i) (option_map placeless (start_fault n))) here.identity (asks_start n (names_of known) f s y who here.stands (ap (item_at s) here.identity ∙ here.at)) in
-    then_or (take 2 (start_rest s who j)) (drop 2 (start_rest s who j)) (worker_rule known who x.task.now) (start_fault n)
-    (rule_row (is_some_and (item_at s j) by_itself) (not (is_atomic x.task.now)) (ap (λ o. is_some_and o by_itself) here.at) rules.ByItself (test (is_some_and (item_at s j) (lacks s who)) rules.Role ∷ []) (if lacks_role known who x.task.now then Some rules.Role else None)
-    (rule_row (is_some_and (item_at s j) (lacks s who)) (lacks_role known who x.task.now) (ap (λ o. is_some_and o (lacks s who)) here.at ∙ role_is known f s h who x.task.now) rules.Role [] None refl))
+    then_or (take 2 (start_rest s who j)) (drop 2 (start_rest s who j)) (worker_rule roles x.task.now) (start_fault n)
+    (rule_row (is_some_and (item_at s j) by_itself) (not (is_atomic x.task.now)) (ap (λ o. is_some_and o by_itself) here.at) rules.ByItself (test (is_some_and (item_at s j) (lacks s who)) rules.Role ∷ []) (if lacks_role roles x.task.now then Some rules.Role else None)
+    (rule_row (is_some_and (item_at s j) (lacks s who)) (lacks_role roles x.task.now) (ap (λ o. is_some_and o (lacks s who)) here.at ∙ role_is known f s h who roles has x.task.now) rules.Role [] None refl))
     (idle_row (word.held s j) ((words s plain).held j) rules.Held (start_shown s who j) (option_map placeless (start_fault n)) shown)

@@ -3,7 +3,7 @@ use Rattle.std.specs.Prelude.{◌≡◌, Bool, ℕ, List, None, Option, Some, co
 use Rattle.std.specs.Option.{option_or}
 use Rattle.yw_base.specs.declared.value.Value.{Value}
 use Rattle.yw_breaks.specs.Launch.{number_rule}
-use Rattle.yw_breaks.specs.Persons.{lacks_role}
+use Rattle.yw_breaks.specs.Persons.{HasRoles, lacks_role}
 use Rattle.yw_breaks.specs.Tables.{add_rest}
 use Rattle.yw_library.specs.Held.{IsHeld}
 use Rattle.yw_known.specs.Here.{IsNetHere}
@@ -29,22 +29,26 @@ use Rattle.yw_tree.specs.declared.NetState.{NetState}
 abbrev pub is_dynamic : Task → Bool
 is_dynamic t = is_some_and t.many (λ m. m.dynamic)
 
--- the rules without a place
-abbrev pub add_rule : Holdings → List ℕ → NetState → Task → ℕ → Option Rule
-add_rule known who state task t =
-    if not (is_dynamic task) then Some rules.NotDynamic else (if lacks_role known who task then Some rules.Role else room_rule state task t)
+-- the rules without a place, of who has these roles
+abbrev pub add_rule : List (List ℕ) → NetState → Task → ℕ → Option Rule
+add_rule roles state task t =
+    if not (is_dynamic task) then Some rules.NotDynamic else (if lacks_role roles task then Some rules.Role else room_rule state task t)
 
 abbrev pub lacks_element : Task → Option Value → Bool
 lacks_element task value = is_none (element_value task value)
 
+-- of the parameters but the element, and the number
+abbrev pub rest_fault : Task → Row → ℕ → Option Refusal
+rest_fault task vals next = option_or (option_map (placed rules.Mapping) (undefined_param task vals)) (option_map placeless (number_rule next))
+
 -- of the value, the other parameters and the number
 abbrev pub value_fault : Task → Row → Option Value → ℕ → Option Refusal
 value_fault task vals value next =
-    option_or (option_map (placed rules.BadData) (if lacks_element task value then Some (codes "value") else None))
-    (option_or (option_map (placed rules.Mapping) (undefined_param task vals)) (option_map placeless (number_rule next)))
+    option_or (option_map (placed rules.BadData) (if lacks_element task value then Some (codes "value") else None)) (rest_fault task vals next)
 
--- wherever the net stands, whoever adds to its task with this number, where this number is drawn next
-abbrev pub AddBreaks : Holdings → List ℕ → NetHere → ℕ → Option Value → ℕ → Option Refusal → Type 0
-AddBreaks known who h t value next found =
-    (f : Forest) (s : State) (i : Ident) (task : Task) → IsHeld known f s → IsPlain s → s.next ≡ next → IsNetHere known f s i h
+-- wherever the net stands, whoever with these roles adds to its task with this number, where this number is drawn next
+abbrev pub AddBreaks : List (List ℕ) → NetHere → ℕ → Option Value → ℕ → Option Refusal → Type 0
+AddBreaks roles h t value next found =
+    (known : Holdings) (who : List ℕ) → HasRoles known who roles
+    → (f : Forest) (s : State) (i : Ident) (task : Task) → IsHeld known f s → IsPlain s → s.next ≡ next → IsNetHere known f s i h
     → slice_get h.net.now.tasks t ≡ Some task → First (drop 1 (add_rest s who i task.name value)) found

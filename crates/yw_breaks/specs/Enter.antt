@@ -1,20 +1,31 @@
 -- What an entry breaks first behind the check that the case is quiet, where the net has the task.
-use Rattle.std.specs.Prelude.{◌≡◌, ℕ, List, None, Option, Some, drop, is_some, length, option_map, slice_get, true}
+use Rattle.std.specs.Prelude.{◌+◌, ◌≡◌, ℕ, List, None, Option, Some, Result, Ok, Err, drop, false, is_some, length, nat_le, option_map, slice_get, true}
 use Rattle.std.specs.List.{All}
+use Rattle.yw_base.specs.Identity.{number_end}
+use Rattle.yw_breaks.specs.Finds.{FindsNext}
+use Rattle.yw_breaks.specs.Nets.{IsTaskNamed}
+use Rattle.yw_breaks.specs.Persons.{HasRoles}
+use Rattle.yw_breaks.specs.Tables.{enter_rest}
+use Rattle.yw_breaks.specs.declared.asked.EntryAsked.{EntryAsked}
 use Rattle.yw_library.specs.Held.{IsHeld}
-use Rattle.yw_known.specs.Here.{IsNetHere}
+use Rattle.yw_known.specs.Here.{IsNetHere, SaysNet}
 use Rattle.yw_known.specs.declared.here.NetHere.{NetHere}
 use Rattle.yw_library.specs.Holdings.{Holdings}
+use Rattle.yw_mark.specs.Taking.{Chooses, HasTokens, OfTask}
+use Rattle.yw_mark.specs.declared.join.Taken.{Taken}
 use Rattle.yw_plain.specs.Plain.{IsPlain}
 use Rattle.yw_spec.specs.declared.task.Param.{Param}
 use Rattle.yw_spec.specs.declared.task.Task.{Task}
 use Rattle.yw_state.specs.Broken.{First, enter_checks}
 use Rattle.yw_state.specs.Identity.{Ident}
-use Rattle.yw_state.specs.Passing.{elements_for}
+use Rattle.yw_state.specs.Passing.{elements_for, entry_values, within_bounds}
 use Rattle.yw_state.specs.State.{State}
 use Rattle.yw_state.specs.Values.{Row}
 use Rattle.yw_state.specs.declared.rule.Refusal.{Refusal}
+use Rattle.yw_state.specs.declared.rule.Rule.{Rule}
+use Rattle.yw_task.specs.Asked.{AsksEnter, OrWaitsAs, is_active}
 use Rattle.yw_tree.specs.declared.Forest.{Forest}
+use Rattle.yw_tree.specs.declared.NetState.{out-NetState}
 
 -- a parameter without an expression is given an element, so there is a list
 abbrev pub IsFed : Task → Type 0
@@ -24,8 +35,60 @@ IsFed task = All (λ (p : Param). p.value ≡ None → is_some task.many ≡ tru
 abbrev pub item_count : Task → Row → Option ℕ
 item_count task vals = option_map (λ es. length es) (elements_for task.many vals)
 
--- wherever the net stands, whoever enters its task with this number, where this number is drawn next
-abbrev pub EnterBreaks : Holdings → List ℕ → NetHere → ℕ → ℕ → Option Refusal → Type 0
-EnterBreaks known who h t next found =
-    (f : Forest) (s : State) (i : Ident) (task : Task) → IsHeld known f s → IsPlain s → s.next ≡ next → IsNetHere known f s i h
+-- wherever the net stands, whoever with these roles enters its task with this number, where this number is drawn next
+abbrev pub EnterBreaks : List (List ℕ) → NetHere → ℕ → ℕ → Option Refusal → Type 0
+EnterBreaks roles h t next found =
+    (known : Holdings) (who : List ℕ) → HasRoles known who roles
+    → (f : Forest) (s : State) (i : Ident) (task : Task) → IsHeld known f s → IsPlain s → s.next ≡ next → IsNetHere known f s i h
     → slice_get h.net.now.tasks t ≡ Some task → First (drop 4 (enter_checks s who i task.name)) found
+
+-- ---- a task that may be entered
+
+-- Nothing that the net shows keeps the task with this number from being entered, and its join takes by this choice.
+pub record IsChosen (h : NetHere) (t : ℕ) (taken : Taken) : Type 0 where
+  pub asks : AsksEnter h.net.now h.state.now t None
+  pub idle : is_active h.state.now t ≡ false
+  pub chooses : OfTask h.net.now t (λ task. Chooses (out-NetState h.state.now).marks task taken)
+  pub tokens : OfTask h.net.now t (λ task. HasTokens (out-NetState h.state.now).marks task true)
+  pub goes : OfTask h.net.now t (λ task. OrWaitsAs h.net.now h.state.now task false)
+
+-- so it is, or this rule is the first that the net shows
+abbrev pub FindsChosen : NetHere → ℕ → Result Taken Rule → Type 0
+FindsChosen h t (Ok taken) = IsChosen h t taken
+FindsChosen h t (Err rule) = AsksEnter h.net.now h.state.now t (Some rule)
+
+-- What items are given is defined. They are as many as may come, numbered from this on.
+pub record ItemsFit (task : Task) (vals : Row) (next : ℕ) : Type 0 where
+  pub rows : List Row
+  pub are : entry_values task vals ≡ Some rows
+  pub bounds : within_bounds task.many (length rows) ≡ true
+  pub room : nat_le (next + length rows) number_end ≡ true
+
+-- The task with this number may be entered, and its join takes by this choice.
+pub record IsEnterable (h : NetHere) (t next : ℕ) (taken : Taken) : Type 0 where
+  pub chosen : IsChosen h t taken
+  pub task : Task
+  pub at : slice_get h.net.now.tasks t ≡ Some task
+  pub fit : ItemsFit task (out-NetState h.state.now).vals next
+
+-- so it is, and no rule is broken wherever the net stands; or this is the first that is
+abbrev pub EntersBy : List (List ℕ) → NetHere → ℕ → ℕ → Result Taken Refusal → Type 0
+EntersBy roles h t next (Ok taken) = EnterBreaks roles h t next None × IsEnterable h t next taken
+EntersBy roles h t next (Err refusal) = EnterBreaks roles h t next (Some refusal)
+
+-- this is the first of the checks behind that is broken, wherever the net stands, whoever with these roles enters its task of this name
+abbrev pub EnterFinds : List (List ℕ) → NetHere → ℕ → List ℕ → Option Refusal → Type 0
+EnterFinds roles h next name found =
+    (known : Holdings) (f : Forest) (who : List ℕ) (i : Ident) → HasRoles known who roles → SaysNet known f i h
+    → FindsNext known f next (λ s. enter_rest s who i name) found
+
+-- None is broken. The task of this name may be entered so.
+pub record IsEntryAsked (roles : List (List ℕ)) (h : NetHere) (next : ℕ) (name : List ℕ) (x : EntryAsked) : Type 0 where
+  pub unbroken : EnterFinds roles h next name None
+  pub named : IsTaskNamed h.net.now name x.task
+  pub enterable : IsEnterable h x.task next x.taken
+
+-- so it is, or this is the first that is
+abbrev pub EnterMakes : List (List ℕ) → NetHere → ℕ → List ℕ → Result EntryAsked Refusal → Type 0
+EnterMakes roles h next name (Ok x) = IsEntryAsked roles h next name x
+EnterMakes roles h next name (Err refusal) = EnterFinds roles h next name (Some refusal)

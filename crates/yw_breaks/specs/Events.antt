@@ -1,15 +1,19 @@
 -- The event that a command asks for, where the command breaks no rule.
-use Rattle.std.specs.Prelude.{◌≡◌, ℕ, List, None, Option, Some, option_and_then}
+use Rattle.std.specs.Prelude.{◌≡◌, ℕ, List, None, Option, Some, Result, Ok, Err}
 use Rattle.yw_base.specs.declared.value.Value.{Value}
+use Rattle.yw_breaks.specs.Finds.{FindsNext}
+use Rattle.yw_breaks.specs.Persons.{HasRoles}
+use Rattle.yw_breaks.specs.Tables.{add_rest}
+use Rattle.yw_known.specs.Here.{SaysNet}
+use Rattle.yw_known.specs.declared.here.NetHere.{NetHere}
 use Rattle.yw_library.specs.Held.{IsHeld}
 use Rattle.yw_library.specs.Holdings.{Holdings}
-use Rattle.yw_model.specs.Texts.{reader}
+use Rattle.yw_texts.specs.Texts.{reader}
 use Rattle.yw_state.specs.Allowed.{Allowed}
 use Rattle.yw_state.specs.Broken.{Breaks}
-use Rattle.yw_state.specs.Given.{element_value, misfit}
 use Rattle.yw_state.specs.Identity.{Ident}
 use Rattle.yw_state.specs.Legal.{IsAsked}
-use Rattle.yw_state.specs.State.{ItemAt, State, TaskAt, item_at, task_at, top_called}
+use Rattle.yw_state.specs.State.{State}
 use Rattle.yw_state.specs.Texts.{nothing}
 use Rattle.yw_state.specs.Values.{Row}
 use Rattle.yw_state.specs.declared.command.Command.{Command}
@@ -17,30 +21,33 @@ use Rattle.yw_state.specs.declared.command.Command.TheVariants as commands
 use Rattle.yw_state.specs.declared.command.Given.{Given}
 use Rattle.yw_state.specs.declared.event.Event.{Event}
 use Rattle.yw_state.specs.declared.event.Event.TheVariants as events
+use Rattle.yw_state.specs.declared.rule.Refusal.{Refusal}
 use Rattle.yw_tree.specs.declared.Forest.{Forest}
 
 -- where the command breaks no rule, the event that it asks for is allowed
 abbrev pub IsAllowed : State → Command → Event → Type 0
 IsAllowed s c e = Breaks reader s c None → IsAsked reader s c e → Allowed s e nothing
 
--- In each state that is held, whatever stands in cases, and in which this number is drawn next, the launch asks for this event; or
--- none of the name has a top net there.
-abbrev pub LaunchAsks : Holdings → ℕ → List ℕ → List Given → Option Event → Type 0
-LaunchAsks known next name gs None = (f : Forest) (s : State) → IsHeld known f s → top_called s name ≡ None
-LaunchAsks known next name gs (Some e) =
+-- in each state that is held, whatever stands in cases, and in which this number is drawn next, the launch asks for this event
+abbrev pub LaunchAsks : Holdings → ℕ → List ℕ → List Given → Event → Type 0
+LaunchAsks known next name gs e =
     (f : Forest) (s : State) → IsHeld known f s → s.next ≡ next → IsAsked reader s (commands.Launch name gs) e
 
--- In each state that is held and in which this number is drawn next, the addition asks for this event; or there is nothing to add, or
--- nothing to add to.
-abbrev pub AddAsks : Holdings → Forest → ℕ → Ident → List ℕ → Option Value → Option Event → Type 0
-AddAsks known f next i t value None =
-    (s : State) → IsHeld known f s → option_and_then (λ (x : TaskAt). element_value x.task value) (task_at s i t) ≡ None
-AddAsks known f next i t value (Some e) =
-    (s : State) → IsHeld known f s → s.next ≡ next → (who : List ℕ) → IsAsked reader s (commands.Add who i t value) e
+-- in each state that is held and in which this number is drawn next, the addition asks for this event
+abbrev pub AddAsks : Holdings → Forest → ℕ → List ℕ → Ident → List ℕ → Option Value → Event → Type 0
+AddAsks known f next who i t value e = (s : State) → IsHeld known f s → s.next ≡ next → IsAsked reader s (commands.Add who i t value) e
 
--- In each state that is held the completion asks for the event with these values; or no item stands there, or the values don't fit it.
-abbrev pub CompleteMakes : Holdings → Forest → Ident → List Given → Option Row → Type 0
-CompleteMakes known f j gs None =
-    (s : State) → IsHeld known f s → (x : ItemAt) → item_at s j ≡ Some x → misfit x.of_task.task.outs gs ≡ None → ⊥
-CompleteMakes known f j gs (Some out) =
+-- None of the checks behind is broken by an addition, which asks for this event; or this is the first that is.
+abbrev pub FindsAdd : Holdings → Forest → ℕ → List ℕ → Ident → List ℕ → Option Value → Result Event Refusal → Type 0
+FindsAdd known f next who i t value (Ok e) = FindsNext known f next (λ s. add_rest s who i t value) None × AddAsks known f next who i t value e
+FindsAdd known f next who i t value (Err refusal) = FindsNext known f next (λ s. add_rest s who i t value) (Some refusal)
+
+-- so it is wherever the net stands, whoever with these roles adds to its task of this name
+abbrev pub AddMakes : List (List ℕ) → NetHere → ℕ → Ident → List ℕ → Option Value → Result Event Refusal → Type 0
+AddMakes roles h next i t value made =
+    (known : Holdings) (f : Forest) (who : List ℕ) → HasRoles known who roles → SaysNet known f i h → FindsAdd known f next who i t value made
+
+-- in each state that is held the completion asks for the event with these values
+abbrev pub CompleteMakes : Holdings → Forest → Ident → List Given → Row → Type 0
+CompleteMakes known f j gs out =
     (s : State) → IsHeld known f s → (who : List ℕ) → IsAsked reader s (commands.Complete who j gs) (events.Complete j out)

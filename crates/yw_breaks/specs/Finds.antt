@@ -1,16 +1,22 @@
 -- What is found, whatever the state is that is held.
+use Rattle.std.specs.Borrow.{Bor}
 use Rattle.std.specs.Prelude.{◌≡◌, ℕ, List, None, Option, Some, Result, Ok, Err}
+use Rattle.yw_breaks.specs.Launch.{SaysSpec}
+use Rattle.yw_breaks.specs.Persons.{HasRoles}
+use Rattle.yw_breaks.specs.declared.asked.ItemAsked.{ItemAsked}
+use Rattle.yw_breaks.specs.declared.asked.NetAsked.{NetAsked}
 use Rattle.yw_library.specs.Held.{IsHeld}
 use Rattle.yw_known.specs.Here.{SaysItem, SaysNet}
-use Rattle.yw_known.specs.declared.here.ItemHere.{ItemHere}
-use Rattle.yw_known.specs.declared.here.NetHere.{NetHere}
 use Rattle.yw_library.specs.Holdings.{Holdings}
-use Rattle.yw_model.specs.Texts.{reader}
+use Rattle.yw_texts.specs.Texts.{reader}
 use Rattle.yw_plain.specs.Plain.{IsPlain}
+use Rattle.yw_spec.specs.declared.spec.Spec.{Spec}
 use Rattle.yw_state.specs.Broken.{Breaks, Check, First, placeless}
 use Rattle.yw_state.specs.Identity.{Ident}
 use Rattle.yw_state.specs.State.{State}
 use Rattle.yw_state.specs.declared.command.Command.{Command}
+use Rattle.yw_state.specs.declared.command.Command.TheVariants as commands
+use Rattle.yw_state.specs.declared.command.Given.{Given}
 use Rattle.yw_state.specs.declared.rule.Refusal.{Refusal}
 use Rattle.yw_state.specs.declared.rule.Rule.{Rule}
 use Rattle.yw_tree.specs.declared.Forest.{Forest}
@@ -19,15 +25,27 @@ use Rattle.yw_tree.specs.declared.Forest.{Forest}
 abbrev pub Finds : Holdings → Forest → (State → List Check) → Option Refusal → Type 0
 Finds known f table found = (s : State) → IsHeld known f s → First (table s) found
 
--- in each none of the checks is broken, and this is the item at j; or this rule is the first that is broken
-abbrev pub FindsItem : Holdings → Forest → (State → List Check) → Ident → Result ItemHere Rule → Type 0
-FindsItem known f table j (Ok here) = Finds known f table None × SaysItem known f j here
-FindsItem known f table j (Err rule) = Finds known f table (Some (placeless rule))
+-- In each none of the checks is broken. The person has these roles, and this is the item at j.
+pub record AsksItem (known : Holdings) (f : Forest) (table : State → List Check) (who : List ℕ) (j : Ident) (x : ItemAsked) : Type 0 where
+  pub unbroken : Finds known f table None
+  pub roles : HasRoles known who x.roles.now
+  pub says : SaysItem known f j x.here
 
--- in each none of the checks is broken, and this is the net at i; or this rule is the first that is broken
-abbrev pub FindsNet : Holdings → Forest → (State → List Check) → Ident → Result NetHere Rule → Type 0
-FindsNet known f table i (Ok here) = Finds known f table None × SaysNet known f i here
-FindsNet known f table i (Err rule) = Finds known f table (Some (placeless rule))
+-- so it is, or this rule is the first that is broken
+abbrev pub FindsItem : Holdings → Forest → (State → List Check) → List ℕ → Ident → Result ItemAsked Rule → Type 0
+FindsItem known f table who j (Ok x) = AsksItem known f table who j x
+FindsItem known f table who j (Err rule) = Finds known f table (Some (placeless rule))
+
+-- In each none of the checks is broken. The person has these roles, and this is the net at i.
+pub record AsksNet (known : Holdings) (f : Forest) (table : State → List Check) (who : List ℕ) (i : Ident) (x : NetAsked) : Type 0 where
+  pub unbroken : Finds known f table None
+  pub roles : HasRoles known who x.roles.now
+  pub says : SaysNet known f i x.here
+
+-- so it is, or this rule is the first that is broken
+abbrev pub FindsNet : Holdings → Forest → (State → List Check) → List ℕ → Ident → Result NetAsked Rule → Type 0
+FindsNet known f table who i (Ok x) = AsksNet known f table who i x
+FindsNet known f table who i (Err rule) = Finds known f table (Some (placeless rule))
 
 -- in each that is plain too
 abbrev pub FindsPlain : Holdings → Forest → (State → List Check) → Option Refusal → Type 0
@@ -37,6 +55,13 @@ FindsPlain known f table found = (s : State) → IsHeld known f s → IsPlain s 
 abbrev pub FindsNext : Holdings → Forest → ℕ → (State → List Check) → Option Refusal → Type 0
 FindsNext known f next table found = (s : State) → IsHeld known f s → IsPlain s → s.next ≡ next → First (table s) found
 
+-- ---- a launch
+
 -- in each state that is held, whatever stands in cases, and in which this number is drawn next, this is what the command breaks first
 abbrev pub BreaksNext : Holdings → ℕ → Command → Option Refusal → Type 0
 BreaksNext known next c found = (f : Forest) (s : State) → IsHeld known f s → s.next ≡ next → Breaks reader s c found
+
+-- this is the specification of the name; or this rule is the first that a launch of the name breaks, whatever values are given
+abbrev pub FindsSpec : Holdings → List ℕ → Result (Bor Spec) Rule → Type 0
+FindsSpec known name (Ok spec) = SaysSpec known name spec.now
+FindsSpec known name (Err rule) = (next : ℕ) (gs : List Given) → BreaksNext known next (commands.Launch name gs) (Some (placeless rule))

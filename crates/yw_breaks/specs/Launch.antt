@@ -2,6 +2,7 @@
 use Rattle.std.specs.Prelude.{◌+◌, ℕ, List, None, Option, Some, nat_lt, option_and_then, option_map, if◌then◌else◌}
 use Rattle.std.specs.Option.{option_or}
 use Rattle.yw_base.specs.Identity.{number_end}
+use Rattle.yw_library.specs.Holdings.{Holdings, IsKept}
 use Rattle.yw_spec.specs.declared.spec.Net.{Net}
 use Rattle.yw_spec.specs.declared.spec.Spec.{Spec}
 use Rattle.yw_state.specs.Broken.{placed, placeless}
@@ -11,6 +12,11 @@ use Rattle.yw_state.specs.declared.command.Given.{Given}
 use Rattle.yw_state.specs.declared.rule.Refusal.{Refusal}
 use Rattle.yw_state.specs.declared.rule.Rule.{Rule}
 use Rattle.yw_state.specs.declared.rule.Rule.TheVariants as rules
+
+-- Under the name a text is loaded that says this specification.
+pub record SaysSpec (known : Holdings) (name : List ℕ) (spec : Spec) : Type 0 where
+  pub number : ℕ
+  pub kept : IsKept known name spec number
 
 -- no number is left, where this is drawn next
 abbrev pub number_rule : ℕ → Option Rule

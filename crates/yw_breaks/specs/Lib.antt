@@ -1,10 +1,10 @@
 pub mod Tables
-pub mod Finds
 pub mod Persons
+pub mod Launch
+pub mod Finds
 pub mod Nets
 pub mod Start
 pub mod Enter
-pub mod Launch
 pub mod Complete
 pub mod Add
 pub mod Events

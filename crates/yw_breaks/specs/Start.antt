@@ -3,9 +3,9 @@ use Rattle.std.specs.Prelude.{ℕ, List, Option}
 use Rattle.std.specs.Option.{option_or}
 use Rattle.yw_breaks.specs.Persons.{worker_rule}
 use Rattle.yw_known.specs.declared.here.ItemHere.{ItemHere}
-use Rattle.yw_library.specs.Holdings.{Holdings}
 use Rattle.yw_state.specs.declared.rule.Rule.{Rule}
 use Rattle.yw_task.specs.Asked.{start_fault}
 
-abbrev pub start_rule : Holdings → List ℕ → ItemHere → Option Rule
-start_rule known who h = option_or (worker_rule known who h.task.now) (start_fault h.item.now)
+-- of who has these roles
+abbrev pub start_rule : List (List ℕ) → ItemHere → Option Rule
+start_rule roles h = option_or (worker_rule roles h.task.now) (start_fault h.item.now)

@@ -1,10 +1,9 @@
 -- The checks of each command in two parts: those before the check that the case is quiet, and those behind it. They are pieces of the
 -- tables of `yw_state`.
-use Rattle.std.specs.Prelude.{◌∷◌, ℕ, [], Bool, List, None, Option, Some, codes, drop, if◌then◌else◌, is_none, length, nat_le, not, option_and_then, take, unwrap_or}
+use Rattle.std.specs.Prelude.{◌∷◌, ℕ, [], Bool, List, None, Option, Some, drop, is_none, length, nat_le, not, option_and_then, take, unwrap_or}
 use Rattle.yw_base.specs.declared.value.Value.{Value}
 use Rattle.yw_state.specs.Automatic.{IsQuiet}
 use Rattle.yw_state.specs.Broken.{Breaks, Check, First, bad_element, complete_checks, enter_checks, has_role, is_spent, placeless, start_checks, test, test_at, undefined_in}
-use Rattle.yw_state.specs.Given.{element_value}
 use Rattle.yw_state.specs.Identity.{Ident}
 use Rattle.yw_base.specs.Identity.{case_number}
 use Rattle.yw_state.specs.Map.{get}

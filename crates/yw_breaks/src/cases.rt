@@ -3,7 +3,7 @@ ghost use Rattle.std.specs.Prelude.{◌≡◌, option_map};
 ghost use Rattle.yw_breaks.specs.Persons.{case_rule};
 ghost use Rattle.yw_library.specs.Held.{IsHeld};
 ghost use Rattle.yw_library.specs.Holdings.{Holdings};
-ghost use Rattle.yw_model.specs.Texts.{reader};
+ghost use Rattle.yw_texts.specs.Texts.{reader};
 ghost use Rattle.yw_state.specs.Broken.{Breaks, placeless};
 ghost use Rattle.yw_state.specs.State.{State, is_case};
 ghost use Rattle.yw_state.specs.declared.command.Command.TheVariants as commands;

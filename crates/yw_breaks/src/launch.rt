@@ -1,11 +1,12 @@
 // A case is launched.
-ghost use Rattle.std.specs.Prelude.{◌≡◌, IfOk};
-ghost use Rattle.yw_breaks.specs.Finds.{BreaksNext};
-ghost use Rattle.yw_breaks.specs.Launch.{launch_fault, unwanted_at};
+ghost use Rattle.std.specs.Prelude.{◌≡◌, ℕ, IfOk, List};
+ghost use Rattle.yw_breaks.specs.Finds.{BreaksNext, FindsSpec};
+ghost use Rattle.yw_breaks.specs.Launch.{SaysSpec, launch_fault, unwanted_at};
+ghost use Rattle.yw_library.specs.Holdings.{Holdings};
 ghost use Rattle.yw_state.specs.declared.command.Command.TheVariants as commands;
 ghost use Rattle.yw_within.specs.Within.{IsWithin};
 
-use crate::refusals::{number_rule, placeless, refusal};
+use crate::refusals::{number_rule, refusal};
 use std::alloc::{AllocError, Global};
 use yw_base::{Name, Text};
 use yw_given::unwanted;
@@ -43,20 +44,29 @@ fn launch_fault(
     }
 }
 
-/// The first rule that a launch breaks: `UnknownSpec` where no specification of this name is loaded; `BadData` where a value is given that
-/// no variable of the top net takes, at the first such name in byte order; `Numbers` where no number is left, of which `next` is drawn
-/// next; `None` where it breaks none. An `Err` says that no memory was left.
-pub fn launch_breaks(
+/// The specification that a launch names. An `Err` has the first rule that it breaks: `UnknownSpec` where none of this name is loaded. It takes no
+/// memory.
+pub fn launch_front<'a>(known: &'a Known, name: &Name) -> Result<&'a Spec, Rule>
+    ensures { FindsSpec known.now name.now result }
+{
+    match known.spec_named(name) {
+        Some((spec, _)) => Ok(spec),
+        None => Err(Rule::UnknownSpec),
+    }
+}
+
+/// The first rule that a launch of this specification breaks: `BadData` where a value is given that no variable of the top net takes, at the first
+/// such name in byte order; `Numbers` where no number is left, of which `next` is drawn next; `None` where it breaks none. An `Err` says that no
+/// memory was left.
+pub fn launch_rest(
     alloc: Global,
-    known: &Known,
+    spec: &Spec,
     next: u64,
-    spec: &Name,
     given: &GivenList,
 ) -> Result<Option<Refusal>, AllocError>
-    ensures { IfOk result (BreaksNext known.now next (commands.Launch spec.now given.now)) }
+    requires { IsWithin spec.now }
+    ensures { (known : Holdings) (name : List ℕ) → SaysSpec known name spec.now
+        → IfOk result (BreaksNext known next (commands.Launch name given.now)) }
 {
-    match known.spec_named(spec) {
-        Some((found, _)) => launch_fault(alloc, found, next, given),
-        None => Ok(Some(placeless(alloc, Rule::UnknownSpec))),
-    }
+    launch_fault(alloc, spec, next, given)
 }

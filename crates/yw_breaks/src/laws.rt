@@ -5,7 +5,7 @@ ghost use Rattle.yw_base.specs.declared.value.Value.{Value};
 ghost use Rattle.yw_breaks.specs.Events.{IsAllowed};
 ghost use Rattle.yw_breaks.specs.Tables.{Joins, add_front, add_rest, complete_front, complete_most, complete_rest};
 ghost use Rattle.yw_breaks.specs.Tables.{enter_front, enter_rest, start_front, start_rest};
-ghost use Rattle.yw_model.specs.Texts.{reader};
+ghost use Rattle.yw_texts.specs.Texts.{reader};
 ghost use Rattle.yw_state.specs.Broken.{First};
 ghost use Rattle.yw_state.specs.Identity.{Ident};
 ghost use Rattle.yw_state.specs.State.{State};

@@ -2,6 +2,7 @@
 #![tactic(auto)]
 
 mod add;
+mod asked;
 mod cases;
 mod complete;
 mod enter;
@@ -14,14 +15,14 @@ mod persons;
 mod refusals;
 mod start;
 
-pub use add::add_rest;
+pub use add::add_asked;
+pub use asked::{EntryAsked, ItemAsked, NetAsked};
 pub use cases::{advance_breaks, cancel_breaks};
 pub use complete::complete_most;
-pub use enter::enter_rest;
-pub use events::{
-    add_event, advance_event, cancel_event, complete_values, launch_event, start_event,
-};
+pub use enter::enter_asked;
+pub use events::{advance_event, cancel_event, complete_values, launch_event, start_event};
 pub use front::item_front;
-pub use launch::launch_breaks;
+pub use launch::{launch_front, launch_rest};
 pub use nets::net_front;
+pub use persons::roles_of;
 pub use start::start_rest;

@@ -8,7 +8,8 @@ ghost use Rattle.yw_known.specs.Here.{IsNetHere};
 ghost use Rattle.yw_state.specs.Nets.{task_number};
 ghost use Rattle.yw_state.specs.State.{State, net_part};
 
-use crate::persons::is_stranger;
+use crate::asked::NetAsked;
+use crate::persons::roles_of;
 use yw_base::{Ident, Name};
 use yw_known::{Known, NetHere, task_called};
 use yw_spec::Net;
@@ -33,23 +34,23 @@ fn net_there<'a>(known: &'a Known, forest: &'a Forest, at: &Ident) -> Option<Net
     })
 }
 
-/// The net that a command of a person names; its specification is within, whatever the state. An `Err` has the first rule that an entry or an
-/// addition breaks, of those that are tried before the case must be quiet: `UnknownPerson` where nobody has this name, and else `UnknownCase`
-/// where no net stands at the identity. It takes no memory.
+/// The net that a command of a person names, with the person's roles; its specification is within, whatever the state. An `Err` has the first rule
+/// that an entry or an addition breaks, of those that are tried before the case must be quiet: `UnknownPerson` where nobody has this name, and else
+/// `UnknownCase` where no net stands at the identity. It takes no memory.
 pub fn net_front<'a>(
     known: &'a Known,
     forest: &'a Forest,
     who: &Name,
     at: &Ident,
-) -> Result<NetHere<'a>, Rule>
-    ensures finds { FindsNet known.now forest.now (λ s. net_front s who.now at.now) at.now result }
-    ensures within { IfOk result IsWithinHere }
+) -> Result<NetAsked<'a>, Rule>
+    ensures finds { FindsNet known.now forest.now (λ s. net_front s who.now at.now) who.now at.now result }
+    ensures within { IfOk result (λ asked. IsWithinHere asked.here) }
 {
-    if is_stranger(known.library(), who) {
+    let Some(roles) = roles_of(known, who) else {
         return Err(Rule::UnknownPerson);
-    }
+    };
     match net_there(known, forest, at) {
-        Some(here) => Ok(here),
+        Some(here) => Ok(NetAsked { roles, here }),
         None => Err(Rule::UnknownCase),
     }
 }

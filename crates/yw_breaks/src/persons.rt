@@ -1,20 +1,21 @@
 // Persons and their roles.
 ghost use Rattle.std.specs.Prelude.{◌≡◌};
 ghost use Rattle.std.specs.List.{list_any};
+ghost use Rattle.std.specs.Option.{option_copied};
 ghost use Rattle.std.specs.Str.{bytes_eq};
-ghost use Rattle.yw_breaks.specs.Persons.{is_stranger, lacks_role, worker_rule};
+ghost use Rattle.yw_breaks.specs.Persons.{lacks_role, roles_of, worker_rule};
 ghost use Rattle.yw_state.specs.Nets.{is_atomic};
 
-use yw_base::Name;
-use yw_library::Library;
+use yw_base::{Name, NameList};
+use yw_known::Known;
 use yw_spec::{Kind, Task};
 use yw_state::Rule;
 
-/// Nobody has this name.
-pub fn is_stranger(library: &Library, who: &Name) -> bool
-    ensures { result ≡ is_stranger library.now who.now }
+/// The roles of the person with this name, or `None` where nobody has it. It takes no memory.
+pub fn roles_of<'a>(known: &'a Known, who: &Name) -> Option<&'a NameList>
+    ensures { option_copied result ≡ roles_of known.now who.now }
 {
-    library.roles(who).is_none()
+    known.library().roles(who)
 }
 
 /// Persons do the task's items.
@@ -34,23 +35,22 @@ fn is_among(roles: &[Name], role: &Name) -> bool
     roles.iter().any(|one| role.as_str() == one.as_str())
 }
 
-/// The task has a role, and the person of this name hasn't that role.
-pub fn lacks_role(library: &Library, who: &Name, task: &Task) -> bool
-    ensures { result ≡ lacks_role library.now who.now task.now }
+/// The task has a role, and it is none of these.
+pub fn lacks_role(roles: &NameList, task: &Task) -> bool
+    ensures { result ≡ lacks_role roles.now task.now }
 {
-    match (&task.role, library.roles(who)) {
-        (None, _) => false,
-        (Some(_), None) => true,
-        (Some(role), Some(roles)) => !is_among(roles.as_slice(), role),
+    match &task.role {
+        Some(role) => !is_among(roles.as_slice(), role),
+        None => false,
     }
 }
 
-/// `ByItself` where persons don't do the task's items, `Role` where the person lacks its role.
-pub fn worker_rule(library: &Library, who: &Name, task: &Task) -> Option<Rule>
-    ensures { result ≡ worker_rule library.now who.now task.now }
+/// `ByItself` where persons don't do the task's items, `Role` where its role is none of these.
+pub fn worker_rule(roles: &NameList, task: &Task) -> Option<Rule>
+    ensures { result ≡ worker_rule roles.now task.now }
 {
     if !is_atomic(task) {
         return Some(Rule::ByItself);
     }
-    lacks_role(library, who, task).then_some(Rule::Role)
+    lacks_role(roles, task).then_some(Rule::Role)
 }

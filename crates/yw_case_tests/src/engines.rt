@@ -1,6 +1,6 @@
 // What no clause says: that an engine which is made of parts answers where memory is there, and tells what comes of itself.
 ghost use Rattle.std.specs.Prelude.{IfSome};
-ghost use Rattle.yw_model.specs.Run.{CanBeAsked};
+ghost use Rattle.yw_built.specs.Asked.{CanBeAsked};
 
 use crate::events::is_built;
 use std::alloc::{AllocError, Global};

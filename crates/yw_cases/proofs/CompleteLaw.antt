@@ -14,7 +14,7 @@ use Rattle.yw_invariant.proofs.Tasks.{atomic_has_no_child}
 use Rattle.yw_known.specs.Here.{IsItemHere, as_item_at, as_net_at}
 use Rattle.yw_library.specs.Names.{names_of}
 use Rattle.yw_known.specs.declared.here.ItemHere.{ItemHere}
-use Rattle.yw_model.specs.Texts.{reader}
+use Rattle.yw_texts.specs.Texts.{reader}
 use Rattle.yw_nest.proofs.FromState.{item_stands}
 use Rattle.yw_nest.specs.Does.{all_else}
 use Rattle.yw_spec.specs.declared.spec.Net.{Net}

@@ -1,5 +1,5 @@
 -- A task is entered, and gets items.
-use Rattle.std.proofs.Common.{Fits, List, ap, arith, length, refl, subst, sym, w64, ◌+◌, ◌<◌, ◌^◌, ◌∙◌, ◌≤◌}
+use Rattle.std.proofs.Common.{Fits, List, ap, arith, length, refl, subst, sym, w64, ◌+◌, ◌<◌, ◌∙◌, ◌≤◌}
 use Rattle.std.proofs.lemmas.Bool.{leb-true}
 use Rattle.std.specs.Prelude.{Option, Some, [], slice_get, true, unwrap_or, ℕ, ◌≡◌}
 use Rattle.yw_accepted.proofs.Loaded.{accepted_are_sound, accepted_are_within}
@@ -17,7 +17,7 @@ use Rattle.yw_library.specs.Names.{names_of}
 use Rattle.yw_known.specs.declared.known.KnownNet.{KnownNet}
 use Rattle.yw_mark.specs.Taking.{taken_places}
 use Rattle.yw_mark.specs.declared.join.Taken.{Taken}
-use Rattle.yw_model.specs.Texts.{reader}
+use Rattle.yw_texts.specs.Texts.{reader}
 use Rattle.yw_spec.specs.declared.spec.Place.{Place}
 use Rattle.yw_spec.specs.declared.task.Task.{Task}
 use Rattle.yw_state.proofs.Tests.{is_not, some_same, there_and}
@@ -32,7 +32,7 @@ use Rattle.yw_state.specs.Values.{Row}
 use Rattle.yw_state.specs.Words.{active}
 use Rattle.yw_state.specs.declared.event.Event.TheVariants as events
 use Rattle.yw_steps.proofs.FromState.{may_get}
-use Rattle.yw_steps.specs.Enters.{Enters, MayComeAt, StandsFor}
+use Rattle.yw_steps.specs.Enters.{AreEntryRowsAt, Enters, MayComeAt, StandsFor}
 use Rattle.yw_steps.specs.Stands.{MayGetItems, TaskMayGrow}
 use Rattle.yw_task.proofs.EnterAsk.{its_active}
 use Rattle.yw_task.specs.Due.{AreDue}
@@ -89,7 +89,7 @@ module _ (old : Standing) (may : MayStand old) (i : Ident) (name : List ℕ) (pl
   pub entered_task : (x : TaskAt) × (task_at s i name ≡ Some x) × (may_enter s i places first count x ≡ true)
   entered_task = there_and (task_at s i name) (may_enter s i places first count) (sym (enter_as old may i name places first count leads.1.said) ∙ leads.1.allowed.0)
 
-  module _ (w : KnownNet) (known : IsNetKnown old.known old.forest s i w) (t : ℕ) (taken : Taken) (takes : EntryTakes s i name places t taken) where
+  module _ (w : KnownNet) (known : IsNetKnown old.known old.forest s i w) (t : ℕ) (taken : Taken) (rows : List Row) (takes : EntryTakes s i name places t taken rows) where
     pub entry_number : task_number w.net.now name ≡ Some t
     entry_number = numbered_by old i (with_state w known.state) known.here name takes.of_task takes.named t takes.number
 
@@ -121,15 +121,14 @@ module _ (old : Standing) (may : MayStand old) (i : Ident) (name : List ℕ) (pl
     many_rows : length (entry_rows task (out-NetState known.state.now).vals) ≡ count
     many_rows = ap (λ (o : Option (List Row)). length (unwrap_or o [])) facts.made ∙ facts.as_many
 
-    pub may_come : count < 2 ^ 32 → MayComeAt old.forest w.net.now i t first
-    may_come fits = λ state found.
+    pub may_come : MayComeAt old.forest w.net.now i t first
+    may_come = λ state found.
         subst (λ (z : NetState). MayCome w.net.now z t first) (some_same known.state.now state (sym known.here.stands.found ∙ found))
         (record {
           task = task;
           of_net = of_net;
           idle = sym (its_active (names_of old.known) old.forest s i w.net.now known.state.now known.here.stands t) ∙ is_not (active s i t) facts.idle;
           numbers = subst (λ k. first + k ≤ number_end) (sym many_rows) room_there;
-          few = subst (λ k. k < 2 ^ 32) (sym many_rows) fits;
         })
 
     -- ---- it is done
@@ -140,8 +139,14 @@ module _ (old : Standing) (may : MayStand old) (i : Ident) (name : List ℕ) (pl
     needs : Needs s
     needs = gets_items old may i w known t task of_net first facts.same
 
-    stands : (taken : Taken) → EntryTakes s i name places t taken → StandsFor old.forest i w.net.now task taken places
-    stands taken takes =
+    pub rows_there : (taken : Taken) (rows : List Row) → EntryTakes s i name places t taken rows → AreEntryRowsAt old.forest w.net.now i t rows
+    rows_there taken rows takes = λ state found u at.
+        takes.gives ∙ ap (λ (z : TaskAt). entry_rows z.task z.within.part.vals) (some_same takes.of_task x (sym takes.named ∙ there))
+        ∙ ap (λ (v : Task). entry_rows v (out-NetState known.state.now).vals) (some_same task u (sym of_net ∙ at))
+        ∙ ap (λ (z : NetState). entry_rows u (out-NetState z).vals) (some_same known.state.now state (sym known.here.stands.found ∙ found))
+
+    stands : (taken : Taken) (rows : List Row) → EntryTakes s i name places t taken rows → StandsFor old.forest i w.net.now task taken places
+    stands taken rows takes =
         record {
           state = known.state.now;
           found = known.here.stands.found;
@@ -159,10 +164,10 @@ module _ (old : Standing) (may : MayStand old) (i : Ident) (name : List ℕ) (pl
         let many = many_rows in
         omega (arith, drawn, many)
 
-    pub entered : (taken : Taken) → EntryTakes s i name places t taken → (f : Forest) (c : ℕ) → Enters w.net.now i t taken first no_checks old.forest f c
+    pub entered : (taken : Taken) (rows : List Row) → EntryTakes s i name places t taken rows → (f : Forest) (c : ℕ) → Enters w.net.now i t taken first no_checks old.forest f c
         → IsDone old (events.Enter i name places first count) (record old { forest = f; next = first + count })
-    entered taken takes f c does =
-        let so = does task places of_net (stands taken takes) (names_of old.known) s may.held.sites needs in
+    entered taken rows takes f c does =
+        let so = does task places of_net (stands taken rows takes) (names_of old.known) s may.held.sites needs in
         let on = so.leads (names_of old.known) s nothing may.held.sites needs in
         let same : c ≡ count =
         next_is c c _ (ap (λ n. after s (events.Enter i n places first c) nothing) (sym its_name) ∙ on) refl in

@@ -1,36 +1,36 @@
 -- Whether a task's entry is allowed.
-use Rattle.std.proofs.Common.{ap, length, refl, subst, suc, sym, ◌∙◌}
+use Rattle.std.proofs.Common.{ap, length, refl, subst, sym, ◌∙◌}
 use Rattle.std.proofs.lemmas.Bool.{and_from, and_parts, eq-eqb, eqb-true}
-use Rattle.std.specs.Prelude.{Bool, List, None, Option, Some, [], false, map, nat_le, not, option_map, slice_get, true, ℕ, ◌&&◌, ◌+◌, ◌==◌, ◌∷◌, ◌≡◌}
+use Rattle.std.specs.Prelude.{List, None, Option, Some, Vec, [], false, nat_le, not, slice_get, true, unwrap_or, ℕ, ◌&&◌, ◌+◌, ◌==◌, ◌≡◌}
+use Rattle.std.specs.declared.alloc.Global.{Global}
 use Rattle.yw_base.specs.Identity.{number_end}
-use Rattle.yw_base.specs.declared.value.Value.{Value}
 use Rattle.yw_cases.proofs.Allows.{only_clear}
 use Rattle.yw_accepted.proofs.Loaded.{accepted_are_within}
 use Rattle.yw_cases.proofs.TaskHere.{its, named, named_so, numbered}
 use Rattle.yw_cases.proofs.Taking.{joined, taken_by}
 use Rattle.yw_cases.proofs.Trying.{fails, leads_plainly, next_is, words_of}
-use Rattle.yw_cases.specs.Entering.{IsChoice, candidate, counts, stands_for}
+use Rattle.yw_cases.specs.Entering.{IsChoice, candidate, stands_for}
 use Rattle.yw_cases.specs.State.{MayStand, state_of}
 use Rattle.yw_cases.specs.Tried.{LeadsNowhere, LeadsOn, MayAct}
 use Rattle.yw_cases.specs.declared.standing.Standing.{Standing}
-use Rattle.yw_enabled.specs.Entered.{MayEnter, MayNotEnter, item_count}
+use Rattle.yw_enabled.specs.Entered.{MayEnter, MayNotEnter}
 use Rattle.yw_enabled.specs.Free.{MayDraw}
 use Rattle.yw_known.specs.Here.{IsNetHere}
 use Rattle.yw_library.specs.Names.{names_of}
 use Rattle.yw_known.specs.declared.here.NetHere.{NetHere}
 use Rattle.yw_mark.specs.Taking.{taken_places}
 use Rattle.yw_mark.specs.declared.join.Taken.{Taken}
-use Rattle.yw_model.specs.Texts.{reader}
+use Rattle.yw_texts.specs.Texts.{reader}
 use Rattle.yw_spec.specs.declared.spec.Place.{Place}
 use Rattle.yw_spec.specs.declared.task.Task.{Task}
-use Rattle.yw_state.proofs.Tests.{map_some, never, some_same, then_some, there_and}
+use Rattle.yw_state.proofs.Tests.{never, some_same, there_and}
 use Rattle.yw_state.specs.Allowed.{allows, draws, makes, may_enter, place_numbers, takes_from}
 use Rattle.yw_state.specs.Events.{Leads}
 use Rattle.yw_state.specs.Identity.{Ident}
 use Rattle.yw_state.specs.Joins.{NoWait, has_tokens, joins}
 use Rattle.yw_state.specs.Nets.{task_number}
-use Rattle.yw_state.specs.Options.{all_of, is_some_and}
-use Rattle.yw_state.specs.Passing.{elements_for, entry_values, given_values, within_bounds}
+use Rattle.yw_state.specs.Options.{is_some_and}
+use Rattle.yw_state.specs.Passing.{entry_values, within_bounds}
 use Rattle.yw_state.specs.State.{State, TaskAt, task_at}
 use Rattle.yw_state.specs.Texts.{Said, nothing}
 use Rattle.yw_state.specs.Values.{Row}
@@ -39,6 +39,7 @@ use Rattle.yw_state.specs.declared.event.Event.TheVariants as events
 use Rattle.yw_still.proofs.Joining.{joins_tokens}
 use Rattle.yw_still.specs.Still.{can_be_entered, may_be_made}
 use Rattle.yw_task.proofs.EnterAsk.{has_marks}
+use Rattle.yw_task.specs.Giving.{entry_rows}
 use Rattle.yw_tree.specs.declared.NetState.{out-NetState}
 use Rattle.yw_walk.specs.Finds as walks
 use Rattle.yw_walk.specs.Finds.{IsEntered}
@@ -47,20 +48,6 @@ use Rattle.yw_walk.specs.declared.found.Found.{Found}
 use Rattle.yw_within.proofs.Finding.{well_holds_within}
 
 -- ---- as the definitions have it
-
--- ---- how many items come
-
-pub all_long : {A B : Type 0} (f : A → Option B) (xs : List A) (ys : List B) → all_of (map f xs) ≡ Some ys → length ys ≡ length xs
-all_long f [] ys e = ap length (sym (some_same [] ys e))
-all_long {B = B} f (x ∷ xs) ys e =
-    let y = then_some (λ (z : B). option_map (λ zs. z ∷ zs) (all_of (map f xs))) (f x) ys e in
-    let rest = map_some (λ zs. y.0 ∷ zs) (all_of (map f xs)) ys y.2 in
-    ap length (sym rest.2) ∙ ap (λ k. suc k) (all_long f xs rest.0 rest.1)
-
-pub rows_counted : (t : Task) (vals : Row) (rows : List Row) → entry_values t vals ≡ Some rows → item_count t vals ≡ Some (length rows)
-rows_counted t vals rows e =
-    let es = then_some (λ (os : List (Option Value)). all_of (map (given_values t vals) os)) (elements_for t.many vals) rows e in
-    ap (option_map (λ (os : List (Option Value)). length os)) es.1 ∙ ap Some (sym (all_long (given_values t vals) es.0 rows es.2))
 
 module _ (old : Standing) (may : MayStand old) (i : Ident) (name : List ℕ) (places : List Place) (first count : ℕ) where
   abbrev s : State
@@ -92,6 +79,10 @@ module _ (old : Standing) (may : MayStand old) (i : Ident) (name : List ℕ) (pl
           within = here.within;
           next = next_is old;
         }
+
+    -- so many rows are given as are made
+    so_many : (rows : List Row) → entry_values task vals ≡ Some rows → length (entry_rows task vals) ≡ length rows
+    so_many rows made = ap (λ (o : Option (List Row)). length (unwrap_or o [])) made
 
     -- ---- what an entry that is allowed tells
 
@@ -149,11 +140,11 @@ module _ (old : Standing) (may : MayStand old) (i : Ident) (name : List ℕ) (pl
         let waits = out (names_of old.known) old.forest s i x draw_there (numbered old i w here name t number task of_net) (can_enter (entering (its_entry z leads))) in
         leads.allowed.1 x (named old i w here name t number task of_net) waits.0 waits.1
 
-    pub not_drawn : (first == old.next && counts task vals count) ≡ false → LeadsNowhere old (events.Enter i name places first count)
+    pub not_drawn : (first == old.next && length (entry_rows task vals) == count) ≡ false → LeadsNowhere old (events.Enter i name places first count)
     not_drawn e z leads =
         let h = entering (its_entry z leads) in
-        never (sym e ∙ and_from (first == old.next) (counts task vals count) (eq-eqb first old.next (h.same ∙ next_is old))
-        (ap (λ o. is_some_and o (λ k. k == count)) (rows_counted task vals h.rows h.made) ∙ eq-eqb (length h.rows) count h.as_many))
+        never (sym e ∙ and_from (first == old.next) (length (entry_rows task vals) == count) (eq-eqb first old.next (h.same ∙ next_is old))
+        (eq-eqb (length (entry_rows task vals)) count (so_many h.rows h.made ∙ h.as_many)))
 
     pub not_taken : stands_for w.net.now marks task.before places (candidate task.join w.net.now places) ≡ false → LeadsNowhere old (events.Enter i name places first count)
     not_taken e z leads =
@@ -168,7 +159,7 @@ module _ (old : Standing) (may : MayStand old) (i : Ident) (name : List ℕ) (pl
         let one = and_parts (clear s i && not (active s i t) && has_tokens task.join s i task.before) (is_some_and (entry_values task vals) (may_be_made s x)) from.may in
         (and_parts (clear s i && not (active s i t)) (has_tokens task.join s i task.before) one.0).1
 
-    leads_in : (own : Taken) → MayEnter w.net.now w.state.now t old.next own → (first == old.next && counts task vals count) ≡ true
+    leads_in : (own : Taken) → MayEnter w.net.now w.state.now t old.next own → (first == old.next && length (entry_rows task vals) == count) ≡ true
         → stands_for w.net.now marks task.before places (candidate task.join w.net.now places) ≡ true → LeadsOn old (events.Enter i name places first count)
     leads_in own enters drawn stands =
         let from = enters (names_of old.known) old.forest s i x draw_there (numbered old i w here name t number task of_net) in
@@ -177,9 +168,8 @@ module _ (old : Standing) (may : MayStand old) (i : Ident) (name : List ℕ) (pl
         let idle = (and_parts (clear s i) (not (active s i t)) two.0).1 in
         let rows = there_and (entry_values task vals) (may_be_made s x) one.1 in
         let fits = and_parts (within_bounds task.many (length rows.0)) (nat_le (s.next + length rows.0) number_end) rows.2 in
-        let both = and_parts (first == old.next) (counts task vals count) drawn in
-        let as_many : length rows.0 ≡ count =
-        eqb-true (length rows.0) count (sym (ap (λ o. is_some_and o (λ k. k == count)) (rows_counted task vals rows.0 rows.1)) ∙ both.1) in
+        let both = and_parts (first == old.next) (length (entry_rows task vals) == count) drawn in
+        let as_many : length rows.0 ≡ count = sym (so_many rows.0 rows.1) ∙ eqb-true (length (entry_rows task vals)) count both.1 in
         let same : first ≡ s.next = eqb-true first old.next both.0 ∙ sym (next_is old) in
         let marked = has_marks (names_of old.known) old.forest s i w.net.now w.state.now here.stands in
         let by = taken_by s i marks marked w.net.now task.before places task.join two.1 stands in
@@ -199,18 +189,20 @@ module _ (old : Standing) (may : MayStand old) (i : Ident) (name : List ℕ) (pl
 
     -- ---- what is computed of it
 
-    pub enters_by : (own : Taken) → MayEnter w.net.now w.state.now t old.next own → (first == old.next && counts task vals count) ≡ true
-        → (taken : Taken) → IsChoice w.net.now marks task places taken → MayAct old (events.Enter i name places first count) (computed.Enter t taken)
-    enters_by own enters drawn taken choice =
+    pub enters_by : (own : Taken) → MayEnter w.net.now w.state.now t old.next own → (rows : Vec Row Global) → rows.items ≡ entry_rows task vals
+        → (first == old.next && length rows.items == count) ≡ true → (taken : Taken) → IsChoice w.net.now marks task places taken
+        → MayAct old (events.Enter i name places first count) (computed.Enter t taken rows)
+    enters_by own enters rows gives drawn taken choice =
         let marked = has_marks (names_of old.known) old.forest s i w.net.now w.state.now here.stands in
         let by = taken_by s i marks marked w.net.now task.before places task.join (tokens_there own enters) choice.stands in
         record {
-          leads = leads_in own enters drawn choice.stands;
+          leads = leads_in own enters (subst (λ (rs : List Row). (first == old.next && length rs == count) ≡ true) gives drawn) choice.stands;
           computed = record {
             of_task = x;
             named = named old i w here name t number task of_net;
             number = refl;
             takes = by.numbers ∙ ap (λ (z : Taken). Some (taken_places marks task.before z)) (sym choice.is);
+            gives = gives;
           };
         }
 

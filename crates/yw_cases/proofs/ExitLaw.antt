@@ -3,55 +3,52 @@ use Rattle.std.proofs.Common.{ap, length, refl, subst, sym, ◌<◌, ◌∙◌}
 use Rattle.std.proofs.lemmas.Bool.{and_from, and_parts}
 use Rattle.std.specs.Cmp.Lexicographic.{pointwise}
 use Rattle.std.specs.List.{list_all}
-use Rattle.std.specs.Prelude.{Bool, IsSome, List, MatchOption, None, Option, Some, false, is_some, nat_eq, slice_get, true, ℕ, ◌&&◌, ◌≡◌}
+use Rattle.std.specs.Prelude.{Bool, IsSome, List, None, Some, false, fold, is_some, nat_eq, slice_get, true, ℕ, ◌&&◌, ◌≡◌}
 use Rattle.yw_cases.proofs.Allows.{only_clear}
-use Rattle.yw_cases.proofs.HereLaw.{no_net}
-use Rattle.yw_cases.proofs.TaskHere.{its, named, named_so, no_name_no_task, no_net_no_task, no_number_no_task, numbered}
+use Rattle.yw_cases.proofs.TaskHere.{its, named, named_so, numbered, numbered_by, task_known}
 use Rattle.yw_cases.proofs.Trying.{done, fails, leads_plainly, placed, words_of}
-use Rattle.yw_cases.specs.Exiting.{IsExit, IsSplitTo}
 use Rattle.yw_cases.specs.Here.{IsNetKnown, with_state}
 use Rattle.yw_cases.specs.State.{MayStand, state_of}
-use Rattle.yw_cases.specs.Tried.{IsDone, LeadsNowhere, LeadsOn, TellsLeads}
+use Rattle.yw_cases.specs.Tried.{IsDone, LeadsNowhere, LeadsOn, MayAct}
 use Rattle.yw_cases.specs.declared.standing.Standing.{Standing}
+use Rattle.yw_enabled.proofs.LeaveLaw.{values_are}
 use Rattle.yw_enabled.specs.Free.{StandsFree}
-use Rattle.yw_enabled.specs.Left.{IsLeavingAs}
+use Rattle.yw_enabled.specs.Left.{IsLeavingAs, LeavesWith}
+use Rattle.yw_expr.specs.Rows.{put_in}
 use Rattle.yw_known.specs.Here.{IsNetHere, as_net_at}
 use Rattle.yw_library.specs.Names.{names_of}
 use Rattle.yw_known.specs.declared.here.NetHere.{NetHere}
 use Rattle.yw_known.specs.declared.known.KnownNet.{KnownNet}
-use Rattle.yw_model.specs.Texts.{reader}
+use Rattle.yw_texts.specs.Texts.{reader}
 use Rattle.yw_nest.specs.Does.{all_else}
-use Rattle.yw_spec.specs.declared.spec.Net.{Net}
 use Rattle.yw_spec.specs.declared.spec.Place.{Place}
 use Rattle.yw_spec.specs.declared.task.Task.{Task}
-use Rattle.yw_state.proofs.Tests.{and_right, by_option, never, nowhere, same_numbers, some_same, there_and}
+use Rattle.yw_state.proofs.Tests.{and_right, never, same_numbers, some_same, there_and}
 use Rattle.yw_state.specs.Allowed.{Allowed, allows, exit_values, has_room_for, may_exit, may_leave, place_numbers, puts_on}
 use Rattle.yw_state.specs.Events.{Leads}
 use Rattle.yw_state.specs.Identity.{Ident}
 use Rattle.yw_state.specs.Judged.{case_place}
 use Rattle.yw_state.specs.Nets.{task_number}
 use Rattle.yw_state.specs.Options.{is_some_and}
-use Rattle.yw_state.specs.Passing.{kept_values, made_rows, split_places}
-use Rattle.yw_state.specs.State.{NetAt, State, TaskAt, net_part, task_at}
+use Rattle.yw_state.specs.Passing.{kept_values, split_places}
+use Rattle.yw_state.specs.State.{State, TaskAt, task_at}
 use Rattle.yw_state.specs.Texts.{Said, nothing}
 use Rattle.yw_state.specs.Words.{active, clear}
 use Rattle.yw_state.specs.declared.event.Event.TheVariants as events
 use Rattle.yw_state.specs.declared.tree.TreeKind.TheVariants.{Post}
-use Rattle.yw_steps.specs.Exits.{Exits, MayExit}
+use Rattle.yw_steps.specs.Exits.{Exits, IsOutcomeIn, MayExit}
 use Rattle.yw_steps.specs.Stands.{NetIs}
 use Rattle.yw_still.specs.Still.{is_leaving}
-use Rattle.yw_task.proofs.EnterAsk.{its_items}
-use Rattle.yw_task.proofs.MadeLaw.{made_rows_are}
+use Rattle.yw_task.specs.Leaving.{IsOutcome}
 use Rattle.yw_task.specs.Making.{rows_made}
+use Rattle.yw_task.specs.declared.exits.Outcome.{Outcome}
 use Rattle.yw_tree.proofs.Removed.{within}
 use Rattle.yw_tree.specs.Places.{net_at as net_found}
 use Rattle.yw_tree.specs.Shows.{items_in}
 use Rattle.yw_tree.specs.declared.Forest.{Forest}
-use Rattle.yw_tree.specs.declared.NetState.{out-NetState}
-
--- where a net is found, one stands
-pub not_gone : {A : Type 0} (old : Standing) (i : Ident) (w : NetHere) → IsNetHere old.known old.forest (state_of old) i w → net_part (state_of old) i ≡ None → A
-not_gone old i w here none = nowhere (sym (no_net (state_of old) i none) ∙ here.at)
+use Rattle.yw_tree.specs.declared.NetState.{NetState, out-NetState}
+use Rattle.yw_walk.specs.Computed.{ExitLeaves}
+use Rattle.yw_walk.specs.declared.found.Computed.TheVariants as computed
 
 module _ (old : Standing) (may : MayStand old) (i : Ident) (name : List ℕ) (places : List Place) where
   abbrev s : State
@@ -72,13 +69,9 @@ module _ (old : Standing) (may : MayStand old) (i : Ident) (name : List ℕ) (pl
     abbrev split : List ℕ
     split = split_places task (exit_values s i x)
 
-    values_are : exit_values s i x ≡ kept_values task (rows_made (items_in w.state.now t)) (out-NetState w.state.now).vals
-    values_are =
-        ap (λ es. kept_values task (made_rows es) (out-NetState w.state.now).vals) (its_items (names_of old.known) old.forest s i w.net.now w.state.now here.stands t)
-        ∙ ap (λ rows. kept_values task rows (out-NetState w.state.now).vals) (made_rows_are (items_in w.state.now t))
-
-    split_as : IsSplitTo w.net.now w.state.now t task places ≡ is_some_and (place_numbers w.net.now places) (λ cs. pointwise nat_eq cs split)
-    split_as = sym (ap (λ row. is_some_and (place_numbers w.net.now places) (λ cs. pointwise nat_eq cs (split_places task row))) values_are)
+    -- these are the numbers of its places
+    abbrev has_numbers : List ℕ → Bool
+    has_numbers ds = is_some_and (place_numbers w.net.now places) (λ cs. pointwise nat_eq cs ds)
 
     free_there : StandsFree (names_of old.known) old.forest s i w.net.now w.state.now
     free_there = record { stands = here.stands; numbers = may.held.well.numbers; free = (words_of old may).clear i }
@@ -86,8 +79,12 @@ module _ (old : Standing) (may : MayStand old) (i : Ident) (name : List ℕ) (pl
     leaving : (b : Bool) → IsLeavingAs w.net.now w.state.now t b → is_leaving s i x ≡ b
     leaving b is = is (names_of old.known) old.forest s i x free_there (numbered old i w here name t number task of_net)
 
+    -- the values that the assignments leave, read off the boxes
+    kept_there : exit_values s i x ≡ kept_values task (rows_made (items_in w.state.now t)) (out-NetState w.state.now).vals
+    kept_there = values_are (names_of old.known) old.forest s i w.net.now w.state.now free_there t task
+
     -- what an exit that is allowed tells
-    exits_so : may_exit s i places x ≡ true → (is_leaving s i x ≡ true) × (is_some_and (place_numbers w.net.now places) (λ cs. pointwise nat_eq cs split) ≡ true)
+    exits_so : may_exit s i places x ≡ true → (is_leaving s i x ≡ true) × (has_numbers split ≡ true)
     exits_so e =
         let both = and_parts (active s i t && may_leave s i x) (is_some_and (place_numbers w.net.now places) (puts_on s i x)) e in
         let two = and_parts (active s i t) (may_leave s i x) both.0 in
@@ -107,78 +104,92 @@ module _ (old : Standing) (may : MayStand old) (i : Ident) (name : List ℕ) (pl
     pub not_leaving : IsLeavingAs w.net.now w.state.now t false → LeadsNowhere old (events.Exit i name places)
     not_leaving is z leads = never (sym (leaving false is) ∙ (exits_so (its_exit z leads)).0)
 
-    not_split : IsSplitTo w.net.now w.state.now t task places ≡ false → LeadsNowhere old (events.Exit i name places)
-    not_split is z leads = never (sym is ∙ split_as ∙ (exits_so (its_exit z leads)).1)
-
-    allowed_here : IsLeavingAs w.net.now w.state.now t true → IsSplitTo w.net.now w.state.now t task places ≡ true → Allowed s (events.Exit i name places) nothing
-    allowed_here leaves splits =
-        let parts = and_parts (clear s i && active s i t && may_leave s i x) (list_all (has_room_for s i x) split) (leaving true leaves) in
-        let two = and_parts (clear s i && active s i t) (may_leave s i x) parts.0 in
-        let put = there_and (place_numbers w.net.now places) (λ cs. pointwise nat_eq cs split) (sym split_as ∙ splits) in
-        let room : list_all (has_room_for s i x) put.0 ≡ true = subst (λ cs. list_all (has_room_for s i x) cs ≡ true) (sym (same_numbers put.0 split put.2)) parts.1 in
-        let puts : is_some_and (place_numbers w.net.now places) (puts_on s i x) ≡ true =
-        ap (λ o. is_some_and o (puts_on s i x)) put.1 ∙ and_from (pointwise nat_eq put.0 split) (list_all (has_room_for s i x) put.0) put.2 room in
-        let exits : may_exit s i places x ≡ true =
-        and_from (active s i t && may_leave s i x) (is_some_and (place_numbers w.net.now places) (puts_on s i x))
-        (and_from (active s i t) (may_leave s i x) (and_right (clear s i) (active s i t) two.0) two.1) puts in
-        (exit_as nothing ∙ ap (λ o. is_some_and o (may_exit s i places)) (named old i w here name t number task of_net) ∙ exits, tt)
-
     -- where the task may be left, the places decide
-    pub tells_exit : IsLeavingAs w.net.now w.state.now t true → (b : Bool) → IsSplitTo w.net.now w.state.now t task places ≡ b → TellsLeads old (events.Exit i name places) b
-    tells_exit leaves true splits = leads_plainly old (events.Exit i name places) refl (allowed_here leaves splits)
-    tells_exit leaves false splits = not_split splits
+    module _ (out : Outcome) (left : LeavesWith w.net.now w.state.now t out) where
+      split_is : out.places ≡ split
+      split_is = let is = left.outcome task of_net in is.places ∙ ap (split_places task) (sym kept_there)
 
-  -- ---- it is done
+      pub not_split : has_numbers out.places ≡ false → LeadsNowhere old (events.Exit i name places)
+      not_split is z leads = never (sym is ∙ ap has_numbers split_is ∙ (exits_so (its_exit z leads)).1)
 
-  module _ (t : ℕ) (exit : IsExit old i name places t) (w : KnownNet) (known : IsNetKnown old.known old.forest s i w) where
-    same_net : exit.net.net.now ≡ w.net.now
-    same_net =
-        let same = some_same (as_net_at old.known exit.net) (as_net_at old.known (with_state w known.state)) (sym exit.here.at ∙ known.here.at) in
-        ap (λ (n : NetAt). n.net) same
+      allowed_here : has_numbers out.places ≡ true → Allowed s (events.Exit i name places) nothing
+      allowed_here splits =
+          let parts = and_parts (clear s i && active s i t && may_leave s i x) (list_all (has_room_for s i x) split) (leaving true left.leaves) in
+          let two = and_parts (clear s i && active s i t) (may_leave s i x) parts.0 in
+          let put = there_and (place_numbers w.net.now places) (λ cs. pointwise nat_eq cs split) (ap has_numbers (sym split_is) ∙ splits) in
+          let room : list_all (has_room_for s i x) put.0 ≡ true = subst (λ cs. list_all (has_room_for s i x) cs ≡ true) (sym (same_numbers put.0 split put.2)) parts.1 in
+          let puts : is_some_and (place_numbers w.net.now places) (puts_on s i x) ≡ true =
+          ap (λ o. is_some_and o (puts_on s i x)) put.1 ∙ and_from (pointwise nat_eq put.0 split) (list_all (has_room_for s i x) put.0) put.2 room in
+          let exits : may_exit s i places x ≡ true =
+          and_from (active s i t && may_leave s i x) (is_some_and (place_numbers w.net.now places) (puts_on s i x))
+          (and_from (active s i t) (may_leave s i x) (and_right (clear s i) (active s i t) two.0) two.1) puts in
+          (exit_as nothing ∙ ap (λ o. is_some_and o (may_exit s i places)) (named old i w here name t number task of_net) ∙ exits, tt)
 
-    of_known : slice_get w.net.now.tasks t ≡ Some exit.task
-    of_known = ap (λ (n : Net). slice_get n.tasks t) (sym same_net) ∙ exit.of_net
+      pub exits_by : has_numbers out.places ≡ true → MayAct old (events.Exit i name places) (computed.Exit t out)
+      exits_by splits = record {
+        leads = leads_plainly old (events.Exit i name places) refl (allowed_here splits);
+        computed = record {
+          of_task = x;
+          named = named old i w here name t number task of_net;
+          number = refl;
+          values = (let is = left.outcome task of_net in is.values ∙ sym kept_there);
+          places = split_is;
+        };
+      }
 
-    pub net_stands : IsSome (net_found old.forest i)
-    net_stands = ap is_some known.here.stands.found
-
-    pub has_task : t < length w.net.now.tasks
-    has_task = within w.net.now.tasks t exit.task of_known
-
-    its_name : exit.task.name ≡ name
-    its_name = named_so exit.net.net.now t exit.task name exit.of_net exit.number
-
-    pub exited : (f : Forest) → Exits w.net.now i t false old.forest f → IsDone old (events.Exit i name places) (record old { forest = f })
-    exited f does =
-        let allowed : Allowed s (events.Exit i exit.task.name places) nothing = subst (λ n. Allowed s (events.Exit i n places) nothing) (sym its_name) exit.allowed in
-        let net_is : NetIs s i w.net.now =
-        record { there = as_net_at old.known (with_state w known.state); stands = known.here.at; same = refl; spec = w.spec.now; within = known.here.within } in
-        let needs : MayExit w.net.now i exit.task places false s = record { net_is = net_is; allowed = allowed; rule = λ case. sym ((words_of old may).rule (case_place net_is.there.part.spec Post)) } in
-        done old may (λ names. events.Exit i exit.task.name places) (λ names. MayExit w.net.now i exit.task places false) all_else (events.Exit i name places)
-        (record old { forest = f }) (does exit.task places of_known (names_of old.known) s may.held.sites needs) needs (ap (λ n. events.Exit i n places) its_name) (placed old f) refl exit.allowed
-
--- ---- where it is allowed
+-- ---- it is done, where it is allowed
 
 module _ (old : Standing) (may : MayStand old) (i : Ident) (name : List ℕ) (places : List Place) (leads : LeadsOn old (events.Exit i name places)) where
   exit_allowed : Allowed (state_of old) (events.Exit i name places) nothing
   exit_allowed = (exit_as old may i name places nothing ∙ sym (exit_as old may i name places leads.1.said) ∙ leads.1.allowed.0, tt)
 
   -- its task is there
-  exit_task : (x : TaskAt) × (task_at (state_of old) i name ≡ Some x) × (may_exit (state_of old) i places x ≡ true)
+  pub exit_task : (x : TaskAt) × (task_at (state_of old) i name ≡ Some x) × (may_exit (state_of old) i places x ≡ true)
   exit_task = there_and (task_at (state_of old) i name) (may_exit (state_of old) i places) (sym (exit_as old may i name places leads.1.said) ∙ leads.1.allowed.0)
 
-  -- so is the net, known by these words
-  pub exit_net : {A : Type 0} (o : Option KnownNet) → o ≡ None → MatchOption o (net_part (state_of old) i ≡ None) (IsNetKnown old.known old.forest (state_of old) i) → A
-  exit_net o is found =
-      let none : net_part (state_of old) i ≡ None = subst (λ z. MatchOption z (net_part (state_of old) i ≡ None) (IsNetKnown old.known old.forest (state_of old) i)) is found in
-      nowhere (sym (no_net_no_task (state_of old) i name none) ∙ exit_task.1)
+  module _ (w : KnownNet) (known : IsNetKnown old.known old.forest (state_of old) i w) (t : ℕ) (out : Outcome) (left : ExitLeaves (state_of old) i name t out) where
+    number : task_number w.net.now name ≡ Some t
+    number = numbered_by old i (with_state w known.state) known.here name left.of_task left.named t left.number
 
-  module _ (w : KnownNet) (known : IsNetKnown old.known old.forest (state_of old) i w) where
-    pub exit_named : {A : Type 0} → task_number w.net.now name ≡ None → A
-    exit_named none = nowhere (sym (no_name_no_task old i (with_state w known.state) known.here name none) ∙ exit_task.1)
+    of_net : (task : Task) × (slice_get w.net.now.tasks t ≡ Some task)
+    of_net = task_known old i name left.of_task left.named w known t number
 
-    pub is_exit_so : (t : ℕ) → task_number w.net.now name ≡ Some t → IsExit old i name places t
-    is_exit_so t number =
-        by_option (slice_get w.net.now.tasks t)
-        (λ none. nowhere (sym (no_number_no_task old i (with_state w known.state) known.here name t number none) ∙ exit_task.1))
-        (λ task of_net. record { net = with_state w known.state; here = known.here; task = task; number = number; of_net = of_net; allowed = exit_allowed })
+    abbrev task : Task
+    task = of_net.0
+
+    its_name : task.name ≡ name
+    its_name = named_so w.net.now t task name of_net.1 number
+
+    pub net_stands : IsSome (net_found old.forest i)
+    net_stands = ap is_some known.here.stands.found
+
+    pub has_task : t < length w.net.now.tasks
+    has_task = within w.net.now.tasks t task of_net.1
+
+    -- what its exit leaves, as the net stands
+    outcome_here : IsOutcome task (items_in known.state.now t) (out-NetState known.state.now).vals out
+    outcome_here =
+        let s = state_of old in
+        let x : TaskAt = its old i (with_state w known.state) known.here name t number task of_net.1 in
+        let same : left.of_task ≡ x = some_same left.of_task x (sym left.named ∙ named old i (with_state w known.state) known.here name t number task of_net.1) in
+        let kept = kept_there old may i name places (with_state w known.state) known.here t number task of_net.1 in
+        record {
+          values = subst (λ (z : TaskAt). fold put_in z.within.part.vals out.puts ≡ exit_values s i z) same left.values ∙ kept;
+          places = subst (λ (z : TaskAt). out.places ≡ split_places z.task (exit_values s i z)) same left.places ∙ ap (split_places task) kept;
+        }
+
+    pub outcome_there : IsOutcomeIn old.forest w.net.now i t out
+    outcome_there = λ state found u at.
+        subst (λ (z : NetState). IsOutcome u (items_in z t) (out-NetState z).vals out) (some_same known.state.now state (sym known.here.stands.found ∙ found))
+        (subst (λ (v : Task). IsOutcome v (items_in known.state.now t) (out-NetState known.state.now).vals out) (some_same task u (sym of_net.1 ∙ at)) outcome_here)
+
+    pub exited : (f : Forest) → Exits w.net.now i t false old.forest f → IsDone old (events.Exit i name places) (record old { forest = f })
+    exited f does =
+        let allowed : Allowed (state_of old) (events.Exit i task.name places) nothing =
+        subst (λ n. Allowed (state_of old) (events.Exit i n places) nothing) (sym its_name) exit_allowed in
+        let net_is : NetIs (state_of old) i w.net.now =
+        record { there = as_net_at old.known (with_state w known.state); stands = known.here.at; same = refl; spec = w.spec.now; within = known.here.within } in
+        let needs : MayExit w.net.now i task places false (state_of old) =
+        record { net_is = net_is; allowed = allowed; rule = λ case. sym ((words_of old may).rule (case_place net_is.there.part.spec Post)) } in
+        done old may (λ names. events.Exit i task.name places) (λ names. MayExit w.net.now i task places false) all_else (events.Exit i name places)
+        (record old { forest = f }) (does task places of_net.1 (names_of old.known) (state_of old) may.held.sites needs) needs (ap (λ n. events.Exit i n places) its_name) (placed old f) refl exit_allowed

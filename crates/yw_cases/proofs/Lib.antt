@@ -14,3 +14,4 @@ pub mod EntryLaw
 pub mod EnterLaw
 pub mod AddLaw
 pub mod Opening
+pub mod PlaceLaw

@@ -1,12 +1,12 @@
 -- A person, and a specification that is loaded.
-use Rattle.std.proofs.Common.{ap, subst, sym, ◌∙◌}
+use Rattle.std.proofs.Common.{ap, refl, subst, sym, ◌∙◌}
 use Rattle.std.proofs.lemmas.Slice.Eq.{bytes_eq-Decides}
-use Rattle.std.specs.Prelude.{Bool, List, None, Ok, Some, false, is_some, true, ℕ, ◌≡◌}
+use Rattle.std.specs.Prelude.{Bool, Err, IfOk, List, None, Ok, Result, Some, false, is_some, true, ℕ, ◌≡◌}
 use Rattle.std.specs.Str.{bytes_eq}
 use Rattle.yw_library.proofs.AcceptsLemmas.{load-breaks-one}
 use Rattle.yw_library.proofs.HoldingsLemmas.{spec-free}
 use Rattle.yw_library.specs.Ended.{ended_of}
-use Rattle.yw_cases.specs.Said.{SaysNamed, TellsNamed}
+use Rattle.yw_cases.specs.Said.{SaysNamed, TellsLoaded, TellsNamed}
 use Rattle.yw_cases.specs.State.{MayStand, state_of}
 use Rattle.yw_cases.specs.Tried.{IsDone, LeadsNowhere, LeadsOn, TellsLeads}
 use Rattle.yw_cases.specs.declared.standing.Standing.{Standing}
@@ -16,9 +16,9 @@ use Rattle.yw_library.specs.Names.{names_of}
 use Rattle.yw_library.specs.Always.{AlwaysBreaks, AlwaysLeads, IsTried}
 use Rattle.yw_library.specs.Holdings as library
 use Rattle.yw_library.specs.Holdings.{AddsSpec, Holdings, IsKept, nothing as nothing_held, with_library, with_person}
-use Rattle.yw_model.proofs.Loading.{load_leads, load_told, new_unbroken, person_leads, person_leads_to, person_roles}
-use Rattle.yw_model.proofs.ReadingOnce.{reads_one}
-use Rattle.yw_model.specs.Texts.{reader}
+use Rattle.yw_texts.proofs.Loading.{load_leads, load_told, new_unbroken, person_leads, person_leads_to, person_roles}
+use Rattle.yw_texts.proofs.ReadingOnce.{reads_one}
+use Rattle.yw_texts.specs.Texts.{reader}
 use Rattle.yw_spec.specs.declared.spec.Spec.{Spec}
 use Rattle.yw_state.proofs.Tests.{never, nowhere}
 use Rattle.yw_state.specs.Allowed.{are_roles}
@@ -61,6 +61,14 @@ module _ (old : Standing) where
               (always (base (sites_of (names_of old.known) old.forest)));
           boxed = may.held.boxed;
         }
+
+    -- a load under a name leads on, or nowhere
+    pub loads_as : {E : Type 0} (name text : List ℕ) (result : Result Bool E) → IfOk result (λ leads. IsTried old.known (events.Load name text) leads new)
+        → (result ≡ Ok true → AddsSpec old.known new name text) → IfOk result (λ leads. TellsLoaded old name text leads (record old { known = new }))
+    loads_as name text (Ok true) tried adds = load_done name text tried (adds refl)
+    loads_as name text (Ok false) tried adds =
+        (λ t leads. tried.0 (base (sites_of (names_of old.known) old.forest)) t leads, ap (λ (z : Holdings). record old { known = z }) tried.1)
+    loads_as name text (Err fault) tried adds = tt
 
     -- one that leads on isn't refused
     pub load_not_refused : {A : Type 0} (name text : List ℕ) (leads : Bool) → leads ≡ false → IsTried old.known (events.Load name text) leads new → LeadsOn old (events.Load name text) → A

@@ -1,8 +1,9 @@
 -- What is kept of where something may come of itself is so of the state after an event.
-use Rattle.std.specs.Prelude.{◌≡◌, Err, IfOk, List, MatchOption, Ok, Option, Result, false, refl, true, ℕ}
+use Rattle.std.specs.Prelude.{◌≡◌, Bool, Err, IfOk, List, MatchOption, Ok, Option, Result, false, refl, true, ℕ}
 use Rattle.std.proofs.Common.{subst, sym}
 use Rattle.yw_cases.proofs.Trying.{done_stands, next_is}
 use Rattle.yw_cases.specs.Rested.{StandsRested}
+use Rattle.yw_cases.specs.Said.{TellsLoaded}
 use Rattle.yw_cases.specs.State.{state_of}
 use Rattle.yw_cases.specs.Tried.{IsDone}
 use Rattle.yw_cases.specs.declared.standing.Standing.{Standing}
@@ -15,7 +16,7 @@ use Rattle.yw_loose.specs.Counts.{Follows}
 use Rattle.yw_loose.specs.Loose.{IsRested, Loosens}
 use Rattle.yw_loose.specs.Next.{FindsLoose, StaysRested}
 use Rattle.yw_loose.specs.declared.loose.Loose.{Loose}
-use Rattle.yw_model.specs.Texts.{reader}
+use Rattle.yw_texts.specs.Texts.{reader}
 use Rattle.yw_moved.specs.Moved.{is_moved}
 use Rattle.yw_plain.specs.Plain.{IsPlain, is_plain_event}
 use Rattle.yw_state.specs.Automatic.{IsQuiet}
@@ -54,6 +55,11 @@ module _ (old : Standing) (before : Loose) (is : StandsRested old before) where
 
   pub rested_same : (new : Standing) → new ≡ old → StandsRested new before
   rested_same new same = subst (λ (h : Standing). StandsRested h before) (sym same) is
+
+  -- so it is after a load that may lead nowhere
+  pub rested_loaded : (name text : List ℕ) (leads : Bool) (new : Standing) → TellsLoaded old name text leads new → StandsRested new before
+  rested_loaded name text true new done = rested_load name text new done
+  rested_loaded name text false new told = rested_same new told.1
 
   -- ---- a look
 

@@ -1,6 +1,6 @@
 -- What an event leads to, from what is done to the forest; and that one whose test fails leads nowhere.
 use Rattle.std.proofs.Common.{ap, subst, sym, ◌∙◌}
-use Rattle.std.specs.Prelude.{Bool, List, [], false, refl, true, ℕ, ◌≡◌}
+use Rattle.std.specs.Prelude.{List, [], false, refl, true, ℕ, ◌≡◌}
 use Rattle.yw_accepted.proofs.Loaded.{accepted_are_sound}
 use Rattle.yw_library.specs.Ended.{ended_of}
 use Rattle.yw_cases.specs.State.{MayStand, state_of}
@@ -11,7 +11,7 @@ use Rattle.yw_invariant.proofs.FromOpening.{opening_is_well}
 use Rattle.yw_library.specs.Names.{names_of}
 use Rattle.yw_library.specs.Holdings as library
 use Rattle.yw_library.specs.Holdings.{Holdings, with_library}
-use Rattle.yw_model.specs.Texts.{reader}
+use Rattle.yw_texts.specs.Texts.{reader}
 use Rattle.yw_nest.specs.Cases.{with_ended}
 use Rattle.yw_nest.specs.Does.{Does}
 use Rattle.yw_nest.specs.Stands.{StandsWell}

@@ -1,9 +1,8 @@
 -- What is asked before the entry of a task.
 use Rattle.std.specs.Cmp.Lexicographic.{pointwise}
-use Rattle.std.specs.Prelude.{Bool, List, MatchOption, Option, [], false, filter, nat_eq, true, unwrap_or, ℕ, ◌&&◌, ◌==◌, ◌≡◌, ◌∷◌}
+use Rattle.std.specs.Prelude.{Bool, List, MatchOption, Option, [], false, filter, nat_eq, true, unwrap_or, ℕ, ◌&&◌, ◌≡◌, ◌∷◌}
 use Rattle.yw_base.specs.declared.gate.Gate.{Gate}
 use Rattle.yw_base.specs.declared.gate.Gate.TheVariants.{And, Or, Xor}
-use Rattle.yw_enabled.specs.Entered.{item_count}
 use Rattle.yw_mark.specs.Tokens.{is_marked}
 use Rattle.yw_mark.specs.declared.join.Taken.{Taken}
 use Rattle.yw_mark.specs.declared.join.Taken.TheVariants.{All, Marked, One}
@@ -13,11 +12,6 @@ use Rattle.yw_spec.specs.declared.task.Task.{Task}
 use Rattle.yw_state.specs.Allowed.{place_numbers}
 use Rattle.yw_state.specs.Nets.{is_among, place_number}
 use Rattle.yw_state.specs.Options.{is_some_and}
-use Rattle.yw_state.specs.Values.{Row}
-
--- the entry makes so many items
-abbrev pub counts : Task → Row → ℕ → Bool
-counts task vals count = is_some_and (item_count task vals) (λ k. k == count)
 
 abbrev pub first_number : Net → List Place → ℕ
 first_number net [] = 0

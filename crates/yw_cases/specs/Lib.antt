@@ -6,6 +6,6 @@ pub mod Tried
 pub mod Rested
 pub mod Completing
 pub mod Said
-pub mod Exiting
 pub mod Entering
 pub mod Adding
+pub mod Places

@@ -1,8 +1,8 @@
 -- Whether an event leads on, and what it leads to.
-use Rattle.std.specs.Prelude.{Bool, List, MatchOption, Option, Some, false, true, ℕ, ◌≡◌}
+use Rattle.std.specs.Prelude.{Bool, List, MatchOption, Option, Some, false, true, ℕ}
 use Rattle.yw_cases.specs.State.{state_of}
 use Rattle.yw_cases.specs.declared.standing.Standing.{Standing}
-use Rattle.yw_model.specs.Texts.{reader}
+use Rattle.yw_texts.specs.Texts.{reader}
 use Rattle.yw_spec.specs.declared.spec.Place.{Place}
 use Rattle.yw_state.specs.Broken.{Breaks}
 use Rattle.yw_state.specs.Events.{Leads}

@@ -1,10 +1,11 @@
 // All that is kept, so that an event leads from one state that is well to another.
 ghost use Rattle.std.specs.Prelude.{◌≡◌, IfOk, MatchOption, OnErr, OnOk, true};
 ghost use Rattle.yw_library.specs.Ended.{ended_of};
+ghost use Rattle.yw_cases.specs.Said.{TellsLoaded};
 ghost use Rattle.yw_cases.specs.State.{MayStand, standing_of, state_of};
 ghost use Rattle.yw_cases.specs.Tried.{IsEnteredNowhere, IsUnfit, LeadsOn, TellsComputed};
 ghost use Rattle.yw_library.specs.Accepts.{IfRefused};
-ghost use Rattle.yw_model.specs.Texts.{reader};
+ghost use Rattle.yw_texts.specs.Texts.{reader};
 ghost use Rattle.yw_plain.specs.Plain.{is_plain_event};
 ghost use Rattle.yw_state.specs.Automatic.{IsQuiet};
 ghost use Rattle.yw_state.specs.Events.{Leads};
@@ -16,7 +17,7 @@ ghost use Rattle.yw_walk.specs.Finds.{IsEntered, IsFound};
 
 use crate::entered::entry_event;
 use crate::event::{act, may};
-use crate::library::load;
+use crate::library::{load, load_as};
 use crate::standing::Standing;
 use std::alloc::{AllocError, Global};
 use std::marker::Model;
@@ -161,6 +162,23 @@ impl Cases {
                 forget(self.alloc, &mut self.standing);
                 self.loose.forget();
                 Err(LibraryFault::Memory)
+            }
+        }
+    }
+
+    /// Loads the specification that a text says under this name, as an event tells it: `true` where that event leads on, and the state is then that
+    /// after it; `false` where it leads nowhere, since the text can't be loaded or says another name, and nothing has changed. The text is read once,
+    /// where `may` and then `act` would read it twice. An `Err` says that no memory was left; then nothing is kept any more.
+    pub fn load_as(&mut self, name: &Name, text: &str) -> Result<bool, AllocError>
+        ensures told { IfOk result (λ leads. TellsLoaded self.old name.now text.now leads self.new) }
+        ensures err { OnErr result (state_of self.new ≡ opening) }
+    {
+        match load_as(&mut self.standing, name, text) {
+            Ok(leads) => Ok(leads),
+            Err(AllocError) => {
+                forget(self.alloc, &mut self.standing);
+                self.loose.forget();
+                Err(AllocError)
             }
         }
     }

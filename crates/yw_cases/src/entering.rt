@@ -1,9 +1,9 @@
 // A task is entered.
 ghost use Rattle.std.specs.Prelude.{◌≡◌, ◌==◌, ◌&&◌, IfOk, OnOk, filter};
-ghost use Rattle.yw_cases.specs.Entering.{FindsChoice, candidate, counts, first_number, stands_for};
+ghost use Rattle.yw_cases.specs.Entering.{FindsChoice, candidate, first_number, stands_for};
+ghost use Rattle.yw_cases.specs.Places.{ArePlacesApart};
 ghost use Rattle.yw_cases.specs.State.{MayStand, state_of};
 ghost use Rattle.yw_cases.specs.Tried.{IsDone, LeadsOn, TellsComputed};
-ghost use Rattle.yw_enabled.specs.Entered.{item_count};
 ghost use Rattle.yw_mark.specs.Tokens.{is_marked};
 ghost use Rattle.yw_state.specs.declared.event.Event.TheVariants as events;
 ghost use Rattle.yw_walk.specs.Computed.{IsComputedOf};
@@ -13,31 +13,20 @@ use crate::places::{are_numbered, place_number};
 use crate::standing::Standing;
 use crate::whole::NO_CHECKS;
 use std::alloc::{AllocError, Global};
-use yw_base::{Gate, Ident, Name, Row};
+use yw_base::{Gate, Ident, Name};
 use yw_enabled::may_be_entered;
-use yw_expr::view;
 use yw_known::{net_here, task_called};
 use yw_mark::{Taken, is_among, is_marked};
 use yw_spec::{Net, Place, PlaceList, Task};
 use yw_state::Marks;
-use yw_task::element_count;
+use yw_task::entry_rows;
 use yw_walk::Computed;
 
-/// How many items an entry makes: one, or one for each element of the list over which the task runs. `None` where the list is undefined.
-fn item_count(task: &Task, vals: &Row) -> Option<usize>
-    ensures { result ≡ item_count task.now vals.now }
+/// An entry that gives so many rows makes so many items, numbered from `first` on, which is drawn next.
+fn draws_items(rows: usize, next: u64, first: u64, count: u32) -> bool
+    ensures { result ≡ (first == next && rows == count) }
 {
-    match &task.many {
-        Some(many) => Some(element_count(view(&many.each, vals)?)),
-        None => Some(1),
-    }
-}
-
-/// An entry makes so many items, numbered from `first` on, which is drawn next.
-fn draws_items(task: &Task, vals: &Row, next: u64, first: u64, count: u32) -> bool
-    ensures { result ≡ (first == next && counts task.now vals.now count) }
-{
-    first == next && item_count(task, vals) == Some(count as usize)
+    first == next && rows == count as usize
 }
 
 /// The number of the first of these places, or 0.
@@ -81,6 +70,7 @@ fn stands_for(
     places: &[Place],
     taken: Taken,
 ) -> Result<bool, AllocError>
+    requires { ArePlacesApart net.now }
     ensures { IfOk result (λ is. is ≡ stands_for net.now marks.now before.now places.now taken) }
 {
     match taken {
@@ -103,6 +93,7 @@ fn choice_of(
     task: &Task,
     places: &[Place],
 ) -> Result<Option<Taken>, AllocError>
+    requires { ArePlacesApart net.now }
     ensures { IfOk result (FindsChoice net.now marks.now task.now places.now) }
 {
     let taken = candidate(net, task.join, places);
@@ -112,8 +103,8 @@ fn choice_of(
     Ok(None)
 }
 
-/// Whether a task may be entered from these places, and so many items come, numbered from `first` on, with the choice of its join. An `Err` says
-/// that no memory was left.
+/// Whether a task may be entered from these places, and so many items come, numbered from `first` on, with the choice of its join and what they are
+/// given. An `Err` says that no memory was left.
 pub fn may_enter(
     alloc: Global,
     standing: &Standing,
@@ -138,17 +129,22 @@ pub fn may_enter(
     let Some(_) = may_be_entered(here.net, here.state, here.up, t, standing.next) else {
         return Ok(None);
     };
-    if !draws_items(task, &here.state.vals, standing.next, first, count) {
+    let rows = entry_rows(alloc, task, &here.state.vals)?;
+    if !draws_items(rows.len(), standing.next, first, count) {
         return Ok(None);
     }
     match choice_of(alloc, here.net, &here.state.marks, task, places.as_slice())? {
-        Some(taken) => Ok(Some(Computed::Enter { task: t, taken })),
+        Some(taken) => Ok(Some(Computed::Enter {
+            task: t,
+            taken,
+            rows,
+        })),
         None => Ok(None),
     }
 }
 
-/// A task is entered, and so many items come, numbered from `first` on, as is allowed, by the choice of its join that was computed of it. An `Err`
-/// says that no memory was left.
+/// A task is entered, and so many items come, numbered from `first` on, as is allowed, by the choice of its join and the rows that were computed of
+/// it. An `Err` says that no memory was left.
 pub fn act_enter(
     alloc: Global,
     standing: &mut Standing,
@@ -164,14 +160,16 @@ pub fn act_enter(
     requires computed { IsComputedOf (state_of standing.old) (events.Enter at.now _name.now _places.now first count) computed }
     ensures { OnOk result (IsDone standing.old (events.Enter at.now _name.now _places.now first count) standing.new) }
 {
-    let Computed::Enter { task, taken } = computed else {
+    let Computed::Enter { task, taken, rows } = computed else {
         unreachable!();
     };
     let Some(found) = known_net(&standing.known, &standing.forest, at) else {
         unreachable!();
     };
     let forest = &mut standing.forest;
-    yw_steps::come_at(alloc, forest, found.net, at, task, taken, first, NO_CHECKS)?;
+    yw_steps::come_at(
+        alloc, forest, found.net, at, task, taken, first, rows, NO_CHECKS,
+    )?;
     standing.next = first + count as u64;
     Ok(())
 }

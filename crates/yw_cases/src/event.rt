@@ -36,7 +36,6 @@ fn may_plainly(alloc: Global, standing: &Standing, event: &Event) -> Result<bool
         Event::Launch { case, spec, values } => Ok(may_launch(standing, *case, spec, values)),
         Event::Start { item, who } => Ok(may_start(standing, item, who)),
         Event::Complete { item, out } => may_complete(alloc, standing, item, out),
-        Event::Exit { net, task, places } => may_exit(alloc, standing, net, task, places),
         Event::Add {
             net,
             task,
@@ -88,7 +87,42 @@ pub fn may(
             first,
             count,
         } => may_enter(alloc, standing, net, task, places, *first, *count),
+        Event::Exit { net, task, places } => may_exit(alloc, standing, net, task, places),
         _ => may_else(alloc, standing, event),
+    }
+}
+
+/// Does an event that is allowed and of which nothing is computed. Nothing is tested. An `Err` says that no memory was left; what is kept then is
+/// told nowhere.
+fn act_plainly(alloc: Global, standing: &mut Standing, event: &Event) -> Result<(), AllocError>
+    requires stands { MayStand standing.old }
+    requires plain { is_plain_event event.now ≡ true }
+    requires computed { is_computed event.now ≡ false }
+    requires leads { LeadsOn standing.old event.now }
+    ensures { OnOk result (IsDone standing.old event.now standing.new) }
+{
+    match event {
+        Event::Person { name, roles } => act_person(standing, name, roles),
+        Event::Load { name, text } => act_load(standing, name, text.as_str()),
+        Event::Launch { case, spec, values } => act_launch(alloc, standing, *case, spec, values),
+        Event::Start { item, who } => act_start(standing, item, who),
+        Event::Complete { item, out } => act_complete(alloc, standing, item, out),
+        Event::Add {
+            net,
+            task,
+            value,
+            number,
+        } => act_add(alloc, standing, net, task, value, *number),
+        Event::Finish { case } => act_finish(standing, *case),
+        Event::Cancel { case } => act_cancel(standing, *case),
+        Event::StartSub { item } => act_start_sub(alloc, standing, item),
+        Event::CompleteSub { item } => act_complete_sub(alloc, standing, item),
+        Event::CompleteEmpty { item } => {
+            act_complete_empty(alloc, standing, item);
+            Ok(())
+        }
+        Event::Advance { .. } => Ok(()),
+        _ => unreachable!(),
     }
 }
 
@@ -107,9 +141,6 @@ pub fn act(
     ensures { OnOk result (IsDone standing.old event.now standing.new) }
 {
     match event {
-        Event::Person { name, roles } => act_person(standing, name, roles),
-        Event::Load { name, text } => act_load(standing, name, text.as_str()),
-        Event::Launch { case, spec, values } => act_launch(alloc, standing, *case, spec, values),
         Event::Enter {
             net,
             task,
@@ -117,24 +148,10 @@ pub fn act(
             first,
             count,
         } => act_enter(alloc, standing, net, task, places, *first, *count, computed),
-        Event::Start { item, who } => act_start(standing, item, who),
-        Event::Complete { item, out } => act_complete(alloc, standing, item, out),
-        Event::Exit { net, task, places } => act_exit(alloc, standing, net, task, places),
-        Event::Add {
-            net,
-            task,
-            value,
-            number,
-        } => act_add(alloc, standing, net, task, value, *number),
-        Event::Finish { case } => act_finish(standing, *case),
-        Event::Cancel { case } => act_cancel(standing, *case),
-        Event::StartSub { item } => act_start_sub(alloc, standing, item),
-        Event::CompleteSub { item } => act_complete_sub(alloc, standing, item),
-        Event::CompleteEmpty { item } => {
-            act_complete_empty(alloc, standing, item);
+        Event::Exit { net, task, places } => {
+            act_exit(standing, net, task, places, computed);
             Ok(())
         }
-        Event::Advance { .. } => Ok(()),
-        _ => unreachable!(),
+        _ => act_plainly(alloc, standing, event),
     }
 }

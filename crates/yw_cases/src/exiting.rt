@@ -1,9 +1,9 @@
 // A task exits.
-ghost use Rattle.std.specs.Prelude.{◌≡◌, IfOk, OnOk};
-ghost use Rattle.yw_cases.specs.Exiting.{IsSplitTo};
-ghost use Rattle.yw_cases.specs.State.{MayStand};
-ghost use Rattle.yw_cases.specs.Tried.{IsDone, LeadsOn, TellsLeads};
+ghost use Rattle.std.specs.Prelude.{IfOk};
+ghost use Rattle.yw_cases.specs.State.{MayStand, state_of};
+ghost use Rattle.yw_cases.specs.Tried.{IsDone, LeadsOn, TellsComputed};
 ghost use Rattle.yw_state.specs.declared.event.Event.TheVariants as events;
+ghost use Rattle.yw_walk.specs.Computed.{IsComputedOf};
 
 use crate::here::known_net;
 use crate::places::are_numbered;
@@ -12,69 +12,56 @@ use std::alloc::{AllocError, Global};
 use yw_base::{Ident, Name};
 use yw_enabled::may_be_left;
 use yw_known::{net_here, task_called};
-use yw_spec::{Net, PlaceList, Task};
-use yw_task::{exit_places, items_in};
-use yw_tree::NetState;
+use yw_spec::PlaceList;
+use yw_walk::Computed;
 
-/// A token comes to exactly these places where the task with number `t` exits. An `Err` says that no memory was left.
-fn splits_to(
-    alloc: Global,
-    net: &Net,
-    state: &NetState,
-    t: usize,
-    task: &Task,
-    places: &PlaceList,
-) -> Result<bool, AllocError>
-    ensures { IfOk result (λ is. is ≡ IsSplitTo net.now state.now t task.now places.now) }
-{
-    let numbers = exit_places(alloc, task, items_in(state, t), &state.vals)?;
-    Ok(are_numbered(net, places.as_slice(), numbers.as_slice()))
-}
-
-/// Whether a task may exit so that a token comes to each of these places. An `Err` says that no memory was left.
+/// Whether a task may exit so that a token comes to each of these places, with what its exit leaves. An `Err` says that no memory was left.
 pub fn may_exit(
     alloc: Global,
     standing: &Standing,
     at: &Ident,
     name: &Name,
     places: &PlaceList,
-) -> Result<bool, AllocError>
+) -> Result<Option<Computed>, AllocError>
     requires { MayStand standing.now }
-    ensures { IfOk result (TellsLeads standing.now (events.Exit at.now name.now places.now)) }
+    ensures { IfOk result (TellsComputed standing.now (events.Exit at.now name.now places.now)) }
 {
     let Some(here) = net_here(&standing.known, &standing.forest, at) else {
-        return Ok(false);
+        return Ok(None);
     };
     let Some(t) = task_called(here.net, name) else {
-        return Ok(false);
+        return Ok(None);
     };
-    let Some(task) = here.net.tasks.get(t) else {
-        return Ok(false);
+    let Some(_) = here.net.tasks.get(t) else {
+        return Ok(None);
     };
-    if !may_be_left(alloc, here.net, here.state, t, None)? {
-        return Ok(false);
+    let Some(outcome) = may_be_left(alloc, here.net, here.state, t, None)? else {
+        return Ok(None);
+    };
+    if !are_numbered(here.net, places.as_slice(), outcome.places.as_slice()) {
+        return Ok(None);
     }
-    splits_to(alloc, here.net, here.state, t, task, places)
+    Ok(Some(Computed::Exit { task: t, outcome }))
 }
 
-/// A task exits, and a token comes to each of these places, as is allowed. An `Err` says that no memory was left.
+/// A task exits, as is allowed, with the outcome that was computed of it. It takes no memory.
 pub fn act_exit(
-    alloc: Global,
     standing: &mut Standing,
     at: &Ident,
-    name: &Name,
+    _name: &Name,
     _places: &PlaceList,
-) -> Result<(), AllocError>
+    computed: Computed,
+)
     requires stands { MayStand standing.old }
-    requires leads { LeadsOn standing.old (events.Exit at.now name.now _places.now) }
-    ensures { OnOk result (IsDone standing.old (events.Exit at.now name.now _places.now) standing.new) }
+    requires leads { LeadsOn standing.old (events.Exit at.now _name.now _places.now) }
+    requires computed { IsComputedOf (state_of standing.old) (events.Exit at.now _name.now _places.now) computed }
+    ensures { IsDone standing.old (events.Exit at.now _name.now _places.now) standing.new }
 {
+    let Computed::Exit { task, outcome } = computed else {
+        unreachable!();
+    };
     let Some(found) = known_net(&standing.known, &standing.forest, at) else {
         unreachable!();
     };
-    let Some(t) = task_called(found.net, name) else {
-        unreachable!();
-    };
-    let _numbers = yw_steps::exit(alloc, &mut standing.forest, found.net, at, t, false)?;
-    Ok(())
+    yw_steps::exit(&mut standing.forest, found.net, at, task, outcome, false);
 }

@@ -11,7 +11,7 @@ ghost use Rattle.yw_state.specs.Joins.{at_output};
 ghost use Rattle.yw_state.specs.State.{State, item_at};
 ghost use Rattle.yw_state.specs.declared.event.Event.TheVariants as events;
 
-use crate::here::{known_net, net_at_output};
+use crate::here::net_at_output;
 use crate::standing::Standing;
 use crate::whole::NO_CHECKS;
 use std::alloc::{AllocError, Global};
@@ -58,24 +58,16 @@ fn item_suits(standing: &Standing, event: ItemEvent, j: &Ident) -> bool
     }
 }
 
-/// The net in which an item stands, by what is known; `None` only where no item stands at the identity. An `Err` says that no memory was left.
-pub fn outer_net<'a>(
-    alloc: Global,
-    known: &'a Known,
-    forest: &Forest,
-    j: &Ident,
-) -> Result<Option<KnownNet<'a>>, AllocError>
-    ensures { IfOk result (λ net. (s : State) → IsHeld known.now forest.now s
-        → MatchOption net (item_at s j.now ≡ None) (IsNetKnown known.now forest.now s (parent j.now))) }
+/// The net in which an item stands, by what is known, found by one way down; `None` only where no item stands at the identity. It takes no memory.
+pub fn outer_net<'a>(known: &'a Known, forest: &Forest, j: &Ident) -> Option<KnownNet<'a>>
+    ensures { (s : State) → IsHeld known.now forest.now s
+        → MatchOption result (item_at s j.now ≡ None) (IsNetKnown known.now forest.now s (parent j.now)) }
 {
-    let numbers = j.numbers();
-    if numbers.is_empty() {
-        unreachable!();
-    }
-    match j.parent(alloc)? {
-        Some(at) => Ok(known_net(known, forest, &at)),
-        None => Ok(None),
-    }
+    // No work is done here: these say that it is an identity, and that names lead to specifications.
+    let _ = j.numbers();
+    known.are_named();
+    let (_, outer) = forest.item_with_net(j)?;
+    known.net(outer.spec, outer.net)
 }
 
 /// The item at an identity is one whose child net is at its end.
@@ -137,7 +129,7 @@ pub fn act_start_sub(alloc: Global, standing: &mut Standing, j: &Ident) -> Resul
     requires leads { LeadsOn standing.old (events.StartSub j.now) }
     ensures { OnOk result (IsDone standing.old (events.StartSub j.now) standing.new) }
 {
-    let Some(outer) = outer_net(alloc, &standing.known, &standing.forest, j)? else {
+    let Some(outer) = outer_net(&standing.known, &standing.forest, j) else {
         unreachable!();
     };
     yw_nest::start_sub(alloc, &mut standing.forest, outer.spec, j)
@@ -157,7 +149,7 @@ pub fn act_complete_sub(alloc: Global, standing: &mut Standing, j: &Ident) -> Re
     requires leads { LeadsOn standing.old (events.CompleteSub j.now) }
     ensures { OnOk result (IsDone standing.old (events.CompleteSub j.now) standing.new) }
 {
-    let Some(outer) = outer_net(alloc, &standing.known, &standing.forest, j)? else {
+    let Some(outer) = outer_net(&standing.known, &standing.forest, j) else {
         unreachable!();
     };
     yw_nest::complete_sub(alloc, &mut standing.forest, outer.spec, j, NO_CHECKS)

@@ -1,6 +1,6 @@
 // Persons, and specifications that are loaded.
 ghost use Rattle.std.specs.Prelude.{◌≡◌, IfOk, OnOk};
-ghost use Rattle.yw_cases.specs.Said.{TellsNamed};
+ghost use Rattle.yw_cases.specs.Said.{TellsLoaded, TellsNamed};
 ghost use Rattle.yw_cases.specs.State.{MayStand};
 ghost use Rattle.yw_cases.specs.Tried.{IsDone, IsUnfit, LeadsOn, TellsLeads};
 ghost use Rattle.yw_library.specs.Accepts.{IfRefused};
@@ -68,6 +68,15 @@ pub fn act_load(standing: &mut Standing, name: &Name, text: &str) -> Result<(), 
         unreachable!();
     }
     Ok(())
+}
+
+/// Loads the specification that a text says under this name, where that is allowed: `true`, and what is kept is then that after it; else `false`, and
+/// nothing has changed. The text is read once. An `Err` says that no memory was left; what is kept then is told nowhere.
+pub fn load_as(standing: &mut Standing, name: &Name, text: &str) -> Result<bool, AllocError>
+    requires { MayStand standing.old }
+    ensures { IfOk result (λ leads. TellsLoaded standing.old name.now text.now leads standing.new) }
+{
+    standing.known.load_as(name, text)
 }
 
 /// Loads the specification that a text says, and gives its name.

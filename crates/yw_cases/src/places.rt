@@ -1,6 +1,7 @@
 // Places of a net by their names.
 ghost use Rattle.std.specs.Prelude.{◌≡◌, nat_eq};
 ghost use Rattle.std.specs.Cmp.Lexicographic.{pointwise};
+ghost use Rattle.yw_cases.specs.Places.{ArePlacesApart};
 ghost use Rattle.yw_state.specs.Allowed.{place_numbers};
 ghost use Rattle.yw_state.specs.Nets.{place_number, same_place};
 ghost use Rattle.yw_state.specs.Options.{is_some_and};
@@ -28,8 +29,20 @@ pub fn place_number(net: &Net, place: &Place) -> Option<usize>
     places.iter().position(|other| same_place(place, other))
 }
 
-/// These are the numbers of the places, one for one. It takes no memory.
+/// The place has this number in the net: the place with the number is this one. No other place is looked at.
+fn is_numbered(net: &Net, place: &Place, number: usize) -> bool
+    requires { ArePlacesApart net.now }
+    ensures { result ≡ is_some_and (place_number net.now place.now) (λ k. nat_eq k number) }
+{
+    match net.places.get(number) {
+        Some(other) => same_place(place, other),
+        None => false,
+    }
+}
+
+/// These are the numbers of the places, one for one. It takes no memory, and time as there are places to compare.
 pub fn are_numbered(net: &Net, places: &[Place], numbers: &[usize]) -> bool
+    requires { ArePlacesApart net.now }
     ensures { result ≡ is_some_and (place_numbers net.now places.now) (λ cs. pointwise nat_eq cs numbers.now) }
 {
     match places {
@@ -37,7 +50,7 @@ pub fn are_numbered(net: &Net, places: &[Place], numbers: &[usize]) -> bool
         [place, places @ ..] => match numbers {
             [] => false,
             [number, numbers @ ..] => {
-                place_number(net, place) == Some(*number) && are_numbered(net, places, numbers)
+                is_numbered(net, place, *number) && are_numbered(net, places, numbers)
             }
         },
     }

@@ -9,7 +9,7 @@ use Rattle.yw_base.specs.declared.gate.Gate.TheVariants.{And, Or, Xor}
 use Rattle.yw_enabled.proofs.Counted.{all_counted, all_same, count_same}
 use Rattle.yw_enabled.proofs.FreeItems.{all_done_there, task_is}
 use Rattle.yw_enabled.specs.Free.{StandsFree}
-use Rattle.yw_enabled.specs.Left.{IsLeavingAs, TellsRight, are_enough, done_count, has_room, is_done, leaves_by, needed, split_has_room}
+use Rattle.yw_enabled.specs.Left.{FindsRoom, IsLeavingAs, LeavesAs, TellsRight, are_enough, done_count, is_done, leaves_by, needed, split_has_room}
 use Rattle.yw_spec.specs.declared.spec.Net.{Net}
 use Rattle.yw_spec.specs.declared.task.Many.{Many}
 use Rattle.yw_spec.specs.declared.task.Task.{Task}
@@ -26,7 +26,9 @@ use Rattle.yw_still.proofs.Numbers.{all_filtered}
 use Rattle.yw_still.specs.Still.{is_leaving}
 use Rattle.yw_task.proofs.EnterAsk.{has_marks, its_active, its_items, net_with}
 use Rattle.yw_task.proofs.MadeLaw.{made_rows_are}
+use Rattle.yw_task.specs.Leaving.{IsOutcome}
 use Rattle.yw_task.specs.Making.{rows_made}
+use Rattle.yw_task.specs.declared.exits.Outcome.{Outcome}
 use Rattle.yw_tree.specs.Entries.{item_part_of}
 use Rattle.yw_tree.specs.Shows.{items_in}
 use Rattle.yw_tree.specs.declared.Forest.{Forest}
@@ -77,7 +79,7 @@ module _ (names : ℕ → List ℕ) (f : Forest) (s : State) (i : Ident) (net : 
       ∙ (λ j. (all_same counts is_done with_id (items_in state t) each ∙ all_counted is_done (items_in state t)) j || is_some_and task.many (λ (m : Many). nat_le m.threshold (count_same counts is_done with_id (items_in state t) each j)))
       ∙ by_needed task.many (length (items_in state t)) (done_count (items_in state t)) (count_by-le-length is_done (items_in state t))
 
-  values_are : exit_values s i (record { number = t; task = task; within = net_with names net state }) ≡ kept_values task (rows_made (items_in state t)) (out-NetState state).vals
+  pub values_are : exit_values s i (record { number = t; task = task; within = net_with names net state }) ≡ kept_values task (rows_made (items_in state t)) (out-NetState state).vals
   values_are =
       ap (λ es. kept_values task (made_rows es) (out-NetState state).vals) (its_items names f s i net state h.stands t)
       ∙ ap (λ rows. kept_values task rows (out-NetState state).vals) (made_rows_are (items_in state t))
@@ -110,14 +112,17 @@ module _ (net : Net) (state : NetState) (t : ℕ) (task : Task) (ns : List Node)
   too_few few = leaving_as net state t task at false (ap (λ b. b && split_has_room state task (items_in state t)) (sym few ∙ asked))
 
   -- else it may where there is room
-  pub by_room : are_enough task ns told ≡ true → (room : Bool) → room ≡ split_has_room state task ns → IsLeavingAs net state t room
+  by_room : are_enough task ns told ≡ true → (room : Bool) → room ≡ split_has_room state task ns → IsLeavingAs net state t room
   by_room enough room same =
       leaving_as net state t task at room
       (same ∙ ap (split_has_room state task) items ∙ ap (λ b. b && split_has_room state task (items_in state t)) (sym enough ∙ asked))
 
--- there is room on each place of the split where there is on each place behind the task
-pub room_behind : (state : NetState) (task : Task) (ns : List Node) (places : List ℕ) → places ≡ task.after → list_all (has_room (out-NetState state).marks task) places ≡ true → true ≡ split_has_room state task ns
-room_behind state task ns places same room =
-    let row = kept_values task (rows_made ns) (out-NetState state).vals in
-    let p = has_room (out-NetState state).marks task in
-    sym (among_after task row p (ap (list_all p) (sym same) ∙ room))
+  -- what the exit leaves comes with it
+  pub by_outcome : are_enough task ns told ≡ true → (found : Option Outcome) → FindsRoom state task ns found → LeavesAs net state t found
+  by_outcome enough None full = by_room enough false (sym full)
+  by_outcome enough (Some out) has = record {
+    leaves = by_room enough true (sym has.room);
+    outcome = λ u is.
+        subst (λ (v : Task). IsOutcome v (items_in state t) (out-NetState state).vals out) (some_same task u (sym at ∙ is))
+        (subst (λ (xs : List Node). IsOutcome task xs (out-NetState state).vals out) items has.outcome);
+  }

@@ -1,5 +1,5 @@
 -- When a task may be left, read off its list of items and the tokens of its net.
-use Rattle.std.specs.Prelude.{◌≡◌, ◌<◌, ℕ, ◌&&◌, ◌||◌, Bool, true, false, not, IfSome, List, Option, Some, None, count_by, is_some, length, min, nat_le, nat_lt, option_and_then, option_map, slice_get, unwrap_or}
+use Rattle.std.specs.Prelude.{◌≡◌, ◌<◌, ℕ, ◌&&◌, ◌||◌, Bool, true, false, not, IfSome, List, MatchOption, Option, Some, None, count_by, is_some, length, min, nat_le, nat_lt, option_and_then, option_map, slice_get, unwrap_or}
 use Rattle.std.specs.List.{list_all}
 use Rattle.yw_spec.specs.declared.spec.Net.{Net}
 use Rattle.yw_spec.specs.declared.task.Many.{Many}
@@ -13,7 +13,9 @@ use Rattle.yw_state.specs.State.{State, TaskAt}
 use Rattle.yw_state.specs.Words.{is_completed}
 use Rattle.yw_enabled.specs.Free.{StandsFree}
 use Rattle.yw_still.specs.Still.{is_leaving, task_numbered}
+use Rattle.yw_task.specs.Leaving.{IsOutcome, IsOutcomeAt}
 use Rattle.yw_task.specs.Making.{rows_made}
+use Rattle.yw_task.specs.declared.exits.Outcome.{Outcome}
 use Rattle.yw_tree.specs.Shows.{items_in}
 use Rattle.yw_tree.specs.declared.Forest.{Forest}
 use Rattle.yw_tree.specs.declared.NetState.{NetState, out-NetState}
@@ -61,6 +63,15 @@ abbrev pub split_has_room : NetState → Task → List Node → Bool
 split_has_room state task ns =
     list_all (has_room (out-NetState state).marks task) (split_places task (kept_values task (rows_made ns) (out-NetState state).vals))
 
+-- The exit of the task leaves this, and there is room on each place of its split.
+pub record HasRoom (state : NetState) (task : Task) (ns : List Node) (out : Outcome) : Type 0 where
+  pub outcome : IsOutcome task ns (out-NetState state).vals out
+  pub room : split_has_room state task ns ≡ true
+
+-- so it does, or there isn't room on each
+abbrev pub FindsRoom : NetState → Task → List Node → Option Outcome → Type 0
+FindsRoom state task ns found = MatchOption found (split_has_room state task ns ≡ false) (HasRoom state task ns)
+
 abbrev pub leaves_by : NetState → ℕ → Task → Bool
 leaves_by state t task = are_enough task (items_in state t) None && split_has_room state task (items_in state t)
 
@@ -72,13 +83,26 @@ IsLeavingAs net state t answer =
     (names : ℕ → List ℕ) (f : Forest) (s : State) (i : Ident) (x : TaskAt)
     → StandsFree names f s i net state → task_numbered s i t ≡ Some x → is_leaving s i x ≡ answer
 
--- The task with this number may be left, and none before it.
-pub record LeavesAt (net : Net) (state : NetState) (t : ℕ) : Type 0 where
-  pub below : t < length net.tasks
+-- The task with this number may be left, and its exit leaves this.
+pub record LeavesWith (net : Net) (state : NetState) (t : ℕ) (out : Outcome) : Type 0 where
   pub leaves : IsLeavingAs net state t true
-  pub first : (k : ℕ) → k < t → IsLeavingAs net state k false
+  pub outcome : IsOutcomeAt net t state out
 
--- the first task that may be left, or none where none may
-abbrev pub LeavesFirst : Net → NetState → Option ℕ → Type 0
-LeavesFirst net state (Some t) = LeavesAt net state t
+-- so it may, or it may not be left
+abbrev pub LeavesAs : Net → NetState → ℕ → Option Outcome → Type 0
+LeavesAs net state t found = MatchOption found (IsLeavingAs net state t false) (LeavesWith net state t)
+
+-- it is of a task of the net
+abbrev pub IsOfTask : Net → ℕ × Outcome → Type 0
+IsOfTask net p = p.0 < length net.tasks
+
+-- The task with this number may be left, and none before it; its exit leaves this.
+pub record LeavesAt (net : Net) (state : NetState) (p : ℕ × Outcome) : Type 0 where
+  pub below : p.0 < length net.tasks
+  pub leaves : LeavesWith net state p.0 p.1
+  pub first : (k : ℕ) → k < p.0 → IsLeavingAs net state k false
+
+-- the first task that may be left, with what its exit leaves, or none where none may
+abbrev pub LeavesFirst : Net → NetState → Option (ℕ × Outcome) → Type 0
+LeavesFirst net state (Some p) = LeavesAt net state p
 LeavesFirst net state None = (k : ℕ) → k < length net.tasks → IsLeavingAs net state k false

@@ -2,7 +2,7 @@
 ghost use Rattle.std.specs.Prelude.{◌≡◌, ◌<◌, ◌≤◌, IfOk, IfSome, None, length};
 ghost use Rattle.yw_enabled.specs.Entered.{ComesIn, EntersFirst, StaysOut};
 ghost use Rattle.std.specs.Option.{option_copied};
-ghost use Rattle.yw_enabled.specs.Left.{LeavesFirst, TellsNet, told_of};
+ghost use Rattle.yw_enabled.specs.Left.{IsOfTask, LeavesFirst, TellsNet, told_of};
 ghost use Rattle.yw_path.specs.Upstream.{IsUpstreamOf};
 ghost use Rattle.yw_state.specs.Nets.{is_atomic};
 ghost use Rattle.yw_within.specs.Within.{most_tasks};
@@ -13,7 +13,7 @@ use std::alloc::{AllocError, Global};
 use yw_mark::Taken;
 use yw_path::Upstream;
 use yw_spec::{Kind, Net, Task};
-use yw_task::task_at;
+use yw_task::{Outcome, task_at};
 use yw_tree::NetState;
 
 /// Persons do the task's items.
@@ -47,21 +47,20 @@ fn told_of(told: Option<&[usize]>, t: usize) -> Option<usize>
     told?.get(t).copied()
 }
 
-/// The first task of a net that may be left, by its number; `None` where none may. How many items are done of each task may be told. An `Err` says
-/// that no memory was left.
+/// The first task of a net that may be left, by its number, with what its exit leaves; `None` where none may. How many items are done of each task
+/// may be told. An `Err` says that no memory was left.
 pub fn first_left(
     alloc: Global,
     net: &Net,
     state: &NetState,
     told: Option<&[usize]>,
-) -> Result<Option<usize>, AllocError>
-    ensures within { IfOk result (λ found. IfSome found (λ t. t < length net.now.tasks)) }
+) -> Result<Option<(usize, Outcome)>, AllocError>
+    ensures within { IfOk result (λ found. IfSome found (IsOfTask net.now)) }
     ensures first { TellsNet state.now (option_copied told.entry) → IfOk result (LeavesFirst net.now state.now) }
 {
     for t in 0..net.tasks.as_slice().len() {
-        let may = may_be_left(alloc, net, state, t, told_of(told, t))?;
-        if may {
-            return Ok(Some(t));
+        if let Some(outcome) = may_be_left(alloc, net, state, t, told_of(told, t))? {
+            return Ok(Some((t, outcome)));
         }
     }
     Ok(None)

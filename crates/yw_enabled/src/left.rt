@@ -1,7 +1,7 @@
 // Whether a task may be left.
 ghost use Rattle.std.specs.Prelude.{◌≡◌, ◌<◌, ◌≤◌, IfOk, length, nat_le};
 ghost use Rattle.std.specs.List.{list_all};
-ghost use Rattle.yw_enabled.specs.Left.{IsLeavingAs, TellsRight, are_enough, done_count, has_room, is_done, needed, split_has_room, told_or_asked};
+ghost use Rattle.yw_enabled.specs.Left.{FindsRoom, LeavesAs, TellsRight, are_enough, done_count, has_room, is_done, needed, told_or_asked};
 ghost use Rattle.yw_tree.specs.Shows as shown;
 ghost use Rattle.yw_state.specs.Words.{is_completed};
 ghost use Rattle.yw_tree.specs.declared.NetState.{out-NetState};
@@ -10,7 +10,7 @@ use std::alloc::{AllocError, Global};
 use yw_mark::{MOST_TOKENS, count_on, is_among};
 use yw_spec::{Net, Task};
 use yw_state::{Marks, Stage};
-use yw_task::{exit_places, items_in, task_at};
+use yw_task::{Outcome, exit_outcome, items_in, task_at};
 use yw_tree::{NetState, Node};
 
 /// It has made its values.
@@ -93,26 +93,26 @@ fn have_room(marks: &Marks, task: &Task, places: &[usize]) -> bool
     places.iter().all(|c| has_room(marks, task, *c))
 }
 
-/// There is room on each place of the split. The split is decided, over the values that the assignments leave, only where a place behind the
-/// task has no room.
-fn split_has_room(
+/// What the exit of a task leaves that has these items, where there is room on each place of its split; `None` where there isn't. An `Err` says
+/// that no memory was left.
+fn outcome_with_room(
     alloc: Global,
     task: &Task,
     state: &NetState,
     nodes: &[Node],
-) -> Result<bool, AllocError>
-    ensures { IfOk result (λ room. room ≡ split_has_room state.now task.now nodes.now) }
+) -> Result<Option<Outcome>, AllocError>
+    ensures { IfOk result (FindsRoom state.now task.now nodes.now) }
 {
-    if have_room(&state.marks, task, task.after.as_slice()) {
-        return Ok(true);
+    let outcome = exit_outcome(alloc, task, nodes, &state.vals)?;
+    if have_room(&state.marks, task, outcome.places.as_slice()) {
+        return Ok(Some(outcome));
     }
-    let places = exit_places(alloc, task, nodes, &state.vals)?;
-    Ok(have_room(&state.marks, task, places.as_slice()))
+    Ok(None)
 }
 
-/// Whether the task of a net with this number may be left: it has items that have come far enough, and none of the places of its split has too
-/// many tokens. How many of its items count may be told; else they are asked. An `Err` says that no memory was left. None is taken, and no
-/// expression is evaluated, but where a place behind the task is full.
+/// What the exit of the task of a net with this number leaves, where the task may be left: it has items that have come far enough, and none of the
+/// places of its split has too many tokens. Else `None`. How many of its items count may be told; else they are asked. An `Err` says that no memory
+/// was left. None is taken, and no expression is evaluated, where too few of its items count.
 ///
 /// That a task is left is the paper's; how far its items have to come is after it, and how many tokens a place may have is our own.
 pub fn may_be_left(
@@ -121,14 +121,14 @@ pub fn may_be_left(
     state: &NetState,
     t: usize,
     told: Option<usize>,
-) -> Result<bool, AllocError>
+) -> Result<Option<Outcome>, AllocError>
     requires { t < length net.now.tasks }
-    ensures { TellsRight told (shown.items_in state.now t) → IfOk result (IsLeavingAs net.now state.now t) }
+    ensures { TellsRight told (shown.items_in state.now t) → IfOk result (LeavesAs net.now state.now t) }
 {
     let task = task_at(net, t);
     let nodes = items_in(state, t);
     if are_enough(task, nodes, told) {
-        return split_has_room(alloc, task, state, nodes);
+        return outcome_with_room(alloc, task, state, nodes);
     }
-    Ok(false)
+    Ok(None)
 }

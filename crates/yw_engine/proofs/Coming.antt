@@ -1,6 +1,6 @@
 -- Events that are built are of neither a rule tree nor an exlet, and the other way round; and what comes of itself leads to one state.
 use Rattle.std.specs.Prelude.{MatchOption}
-use Rattle.std.proofs.Common.{◌≡◌, ◌↔◌, ◌∙◌, Bool, Err, IfOk, IsTrue, None, Ok, Option, Result, Some, ap, false, refl, subst, sym, true, ℕ}
+use Rattle.std.proofs.Common.{◌≡◌, ◌↔◌, ◌∙◌, Bool, Err, IfOk, IsTrue, None, Ok, Option, Result, Some, ap, refl, subst, sym, true, ℕ}
 use Rattle.yw_built.specs.Built.{is_built}
 use Rattle.yw_cases.specs.State.{MayStand, state_of}
 use Rattle.yw_cases.specs.Tried.{LeadsOn}
@@ -8,7 +8,7 @@ use Rattle.yw_cases.specs.declared.standing.Standing.{Standing}
 use Rattle.yw_engine.specs.Decides.{IsComing, IsDone, IsNext}
 use Rattle.yw_engine.proofs.Parts.{held_by, next_of}
 use Rattle.yw_library.specs.Holdings.{Holdings}
-use Rattle.yw_model.specs.Texts.{reader}
+use Rattle.yw_texts.specs.Texts.{reader}
 use Rattle.yw_plain.specs.Plain.{is_plain_event}
 use Rattle.yw_state.proofs.Tests.{never}
 use Rattle.yw_state.specs.Automatic.{Comes, IsQuiet}

@@ -7,19 +7,17 @@ use Rattle.yw_asked.proofs.ItemsAsked as items
 use Rattle.yw_asked.proofs.TasksAsked as tasks
 use Rattle.yw_asked.specs.Asked.{HasEvent}
 use Rattle.yw_base.specs.declared.value.Value.{Value}
-use Rattle.yw_breaks.specs.Events.{AddAsks, LaunchAsks}
+use Rattle.yw_breaks.specs.Events.{LaunchAsks}
 use Rattle.yw_breaks.specs.Finds.{BreaksNext}
 use Rattle.yw_built.specs.Built.{is_built}
 use Rattle.yw_cases.specs.State.{MayStand, state_of}
 use Rattle.yw_cases.specs.Tried.{LeadsOn}
 use Rattle.yw_cases.specs.declared.standing.Standing.{Standing}
 use Rattle.yw_engine.specs.Decides.{BreaksNow, Makes}
-use Rattle.yw_engine.proofs.Parts.{held_by, next_of}
-use Rattle.yw_library.specs.Held.{IsHeld}
-use Rattle.yw_library.specs.Holdings.{Holdings}
-use Rattle.yw_model.specs.Texts.{reader}
+use Rattle.yw_engine.proofs.Parts.{next_of}
+use Rattle.yw_texts.specs.Texts.{reader}
 use Rattle.yw_spec.specs.declared.spec.Net.{Net}
-use Rattle.yw_state.proofs.Tests.{map_some, nowhere, some_same}
+use Rattle.yw_state.proofs.Tests.{map_some, some_same}
 use Rattle.yw_state.specs.Allowed.{are_roles}
 use Rattle.yw_state.specs.Automatic.{case_of}
 use Rattle.yw_state.specs.Broken.{checks}
@@ -63,73 +61,41 @@ of_kind g m kind o e is =
     let x = map_some g o e (sym is) in
     (ap is_built (sym x.2) ∙ (kind x.0).0, ap case_of (sym x.2) ∙ (kind x.0).1, ap is_computed (sym x.2) ∙ (kind x.0).2)
 
--- where there is nothing to make it of, none is asked for
-of_nothing : {A B : Type 0} (g : A → Event) (o : Option A) (e : Event) → o ≡ None → Some e ≡ option_map g o → B
-of_nothing g o e none is = nowhere (sym (ap (option_map g) none) ∙ sym is)
-
 -- ---- a launch
 
-module _ (h : Standing) (may : MayStand h) (known : Holdings) (next : ℕ) (same : known ≡ h.known) (same_next : next ≡ h.next)
-    (name : List ℕ) (gs : List Given) where
-  abbrev LaunchFound : Option Event → Type 0
-  LaunchFound found = LaunchAsks known next name gs found
-
-  known_held : IsHeld known h.forest (state_of h)
-  known_held = held_by h known h.forest same refl may
-
-  pub launch_breaks_now : (found : Option Refusal) → BreaksNext known next (commands.Launch name gs) found
+module _ (h : Standing) (may : MayStand h) (name : List ℕ) (gs : List Given) where
+  pub launch_breaks : (next : ℕ) → next ≡ h.next → (found : Option Refusal) → BreaksNext h.known next (commands.Launch name gs) found
       → BreaksNow h (commands.Launch name gs) found
-  launch_breaks_now found breaks = breaks h.forest (state_of h) known_held (next_of h next same_next)
+  launch_breaks next same_next found breaks = breaks h.forest (state_of h) may.held (next_of h next same_next)
 
-  module _ (found : Option Event) (asks : LaunchFound found) where
-    pub launch_there : BreaksNow h (commands.Launch name gs) None → found ≡ None → ⊥
+  pub launch_asked : (next : ℕ) → next ≡ h.next → (e : Event) → LaunchAsks h.known next name gs e → IsAsked reader (state_of h) (commands.Launch name gs) e
+  launch_asked next same_next e asks = asks h.forest (state_of h) may.held (next_of h next same_next)
+
+  module _ (e : Event) (makes : Makes h (commands.Launch name gs) (Ok e)) where
+    pub launch_leads : LeadsOn h e
     unfolding IsAsked
-    launch_there unbroken none =
-        let (d, t, asked, leads) = cases.launch_has_event reader (state_of h) (holds_within h may) name gs unbroken in
-        of_nothing (λ (net : Net). events.Launch (state_of h).next name (launch_values net.vars gs)) (top_called (state_of h) name) d
-        (subst LaunchFound none asks h.forest (state_of h) known_held) asked
+    launch_leads =
+        (as_asked h (commands.Launch name gs) e (cases.launch_has_event reader (state_of h) (holds_within h may) name gs makes.0)
+        (λ d asked. some_same d e (asked ∙ sym makes.1))).1
 
-    module _ (e : Event) (is : found ≡ Some e) where
-      launch_asked : IsAsked reader (state_of h) (commands.Launch name gs) e
-      launch_asked = subst LaunchFound is asks h.forest (state_of h) known_held (next_of h next same_next)
+    launch_kind : (is_built e ≡ true) × (case_of e ≡ Some (state_of h).next) × (is_computed e ≡ false)
+    unfolding IsAsked
+    launch_kind =
+        of_kind (λ (net : Net). events.Launch (state_of h).next name (launch_values net.vars gs)) (Some (state_of h).next)
+        (λ net. (refl, refl, refl)) (top_called (state_of h) name) e makes.1
 
-      pub launch_asks : BreaksNow h (commands.Launch name gs) None → Asks h (commands.Launch name gs) e
-      unfolding IsAsked
-      launch_asks unbroken =
-          as_asked h (commands.Launch name gs) e (cases.launch_has_event reader (state_of h) (holds_within h may) name gs unbroken)
-          (λ d asked. some_same d e (asked ∙ sym launch_asked))
+    pub launch_built : is_built e ≡ true
+    launch_built = launch_kind.0
 
-      launch_kind : (is_built e ≡ true) × (case_of e ≡ Some (state_of h).next) × (is_computed e ≡ false)
-      unfolding IsAsked
-      launch_kind =
-          of_kind (λ (net : Net). events.Launch (state_of h).next name (launch_values net.vars gs)) (Some (state_of h).next)
-          (λ net. (refl, refl, refl)) (top_called (state_of h) name) e
-          launch_asked
+    pub launch_plain : is_computed e ≡ false
+    launch_plain = launch_kind.2
 
-      pub launch_built : is_built e ≡ true
-      launch_built = launch_kind.0
-
-      pub launch_plain : is_computed e ≡ false
-      launch_plain = launch_kind.2
-
-      pub launch_case : case_of e ≡ Some next
-      launch_case = launch_kind.1 ∙ ap (λ n. Some n) (next_of h next same_next)
+    pub launch_case : (next : ℕ) → next ≡ h.next → case_of e ≡ Some next
+    launch_case next same_next = launch_kind.1 ∙ ap (λ n. Some n) (next_of h next same_next)
 
 -- ---- an addition
 
 module _ (h : Standing) (may : MayStand h) (who : List ℕ) (i : Ident) (t : List ℕ) (value : Option Value) where
-  module _ (next : ℕ) (same_next : next ≡ h.next) (found : Option Event) (asks : AddAsks h.known h.forest next i t value found) where
-    pub add_there : BreaksNow h (commands.Add who i t value) None → found ≡ None → ⊥
-    unfolding IsAsked
-    add_there unbroken none =
-        let (d, s, asked, leads) = tasks.add_has_event reader (state_of h) may.held.well (holds_within h may) who i t value unbroken in
-        of_nothing (λ (v : Value). events.Add i t v (state_of h).next)
-        (option_and_then (λ (x : TaskAt). element_value x.task value) (task_at (state_of h) i t)) d
-        (subst (AddAsks h.known h.forest next i t value) none asks (state_of h) may.held) asked
-
-    pub add_asked : (e : Event) → found ≡ Some e → IsAsked reader (state_of h) (commands.Add who i t value) e
-    add_asked e is = subst (AddAsks h.known h.forest next i t value) is asks (state_of h) may.held (next_of h next same_next) who
-
   module _ (e : Event) (makes : Makes h (commands.Add who i t value) (Ok e)) where
     pub add_leads : LeadsOn h e
     unfolding IsAsked

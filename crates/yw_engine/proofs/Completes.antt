@@ -1,5 +1,5 @@
 -- What a completion breaks, and the event that it asks for, by what is held.
-use Rattle.std.proofs.Common.{◌<◌, ◌≡◌, ◌∙◌, List, Ok, Option, Some, None, ap, false, length, refl, subst, sym, true, ℕ}
+use Rattle.std.proofs.Common.{◌<◌, ◌≡◌, ◌∙◌, List, Ok, Option, Some, None, ap, false, length, refl, sym, true, ℕ}
 use Rattle.std.specs.Prelude.{[], drop, option_and_then, option_map}
 use Rattle.yw_asked.proofs.ItemsAsked as items
 use Rattle.yw_asked.proofs.Unbroken.{none_broken}
@@ -16,7 +16,7 @@ use Rattle.yw_engine.specs.Decides.{Makes}
 use Rattle.yw_known.specs.Here.{IsItemHere, SaysItem, as_item_at, as_net_at}
 use Rattle.yw_library.specs.Names.{names_of}
 use Rattle.yw_known.specs.declared.here.ItemHere.{ItemHere}
-use Rattle.yw_model.specs.Texts.{reader}
+use Rattle.yw_texts.specs.Texts.{reader}
 use Rattle.yw_state.proofs.Tests.{map_some, some_same}
 use Rattle.yw_state.specs.Automatic.{case_of}
 use Rattle.yw_state.specs.Broken.{First}
@@ -81,17 +81,14 @@ module _ (h : Standing) (may : MayStand h) (who : List ℕ) (j : Ident) (gs : Li
       few = may.held.well.content.count (parent j) (as_net_at h.known w.outer) (out-Node w.item.now).task w.task.now here.outer.at here.of_net;
     }
 
-    module _ (most : First (complete_most s who j gs) None) (made : Option Row) (makes : CompleteMakes h.known h.forest j gs made) where
-      fits : misfit w.task.now.outs gs ≡ None
+    module _ (most : First (complete_most s who j gs) None) where
+      -- the values that are given are those that its task makes
+      pub fits : misfit w.task.now.outs gs ≡ None
       fits = sym (ap (option_and_then misfit_of) here.at) ∙ fits_all most
 
-      -- there are values
-      pub values_there : made ≡ None → ⊥
-      values_there none = subst (CompleteMakes h.known h.forest j gs) none makes s may.held (as_item_at h.known w) here.at fits
-
-      module _ (out : Row) (is : made ≡ Some out) where
+      module _ (out : Row) (makes : CompleteMakes h.known h.forest j gs out) where
         pub asked : IsAsked reader s (commands.Complete who j gs) (events.Complete j out)
-        asked = subst (CompleteMakes h.known h.forest j gs) is makes s may.held who
+        asked = makes s may.held who
 
         values_are : made_values w.task.now.outs gs ≡ Some out
         unfolding IsAsked

@@ -8,7 +8,7 @@ use Rattle.yw_engine.specs.Decides.{BreaksNow, BreaksQuiet, Decides, Makes}
 use Rattle.yw_engine.specs.declared.fault.Decided.{Decided}
 use Rattle.yw_engine.specs.declared.fault.EngineFault.{EngineFault}
 use Rattle.yw_engine.specs.declared.fault.EngineFault.TheVariants as faults
-use Rattle.yw_model.specs.Texts.{reader}
+use Rattle.yw_texts.specs.Texts.{reader}
 use Rattle.yw_state.specs.Broken.{Check, First, placeless}
 use Rattle.yw_state.specs.Identity.{Ident}
 use Rattle.yw_base.specs.Identity.{case_number}

@@ -1,5 +1,5 @@
 -- What a command does to what is held. Our own.
-use Rattle.std.specs.Prelude.{◌≡◌, ℕ, Bool, Option, Some, None, false, true, MatchOption, Result, Ok, Err}
+use Rattle.std.specs.Prelude.{◌≡◌, ℕ, Bool, List, Option, Some, None, false, true, MatchOption, Result, Ok, Err}
 use Rattle.std.specs.List.{list_all}
 use Rattle.yw_built.specs.Built.{is_built}
 use Rattle.yw_cases.specs.State.{MayStand, state_of}
@@ -8,17 +8,20 @@ use Rattle.yw_cases.specs.declared.standing.Standing.{Standing}
 use Rattle.yw_engine.specs.declared.fault.Decided.{Decided}
 use Rattle.yw_engine.specs.declared.fault.EngineFault.{EngineFault}
 use Rattle.yw_engine.specs.declared.fault.EngineFault.TheVariants as faults
-use Rattle.yw_model.specs.Texts.{reader}
+use Rattle.yw_texts.specs.Texts.{reader}
 use Rattle.yw_state.specs.Automatic.{Comes, IsQuiet}
 use Rattle.yw_state.specs.Broken.{Breaks, placeless}
 use Rattle.yw_state.specs.Events.{Leads}
+use Rattle.yw_state.specs.Identity.{Ident}
 use Rattle.yw_state.specs.Legal.{IsAsked, IsLegal}
 use Rattle.yw_state.specs.declared.command.Command.{Command}
+use Rattle.yw_state.specs.declared.command.Command.TheVariants as commands
 use Rattle.yw_state.specs.declared.event.Event.{Event}
 use Rattle.yw_state.specs.declared.rule.Refusal.{Refusal}
 use Rattle.yw_state.specs.declared.rule.Rule.TheVariants.{NotQuiet}
 use Rattle.yw_still.specs.Still.{SomethingComes}
 use Rattle.yw_walk.specs.Computed.{IsComputedOf}
+use Rattle.yw_walk.specs.Finds.{IsEntered}
 use Rattle.yw_walk.specs.declared.found.Found.{Found}
 
 -- ---- an event
@@ -85,3 +88,9 @@ Makes h c (Ok e) = BreaksNow h c None × IsAsked reader (state_of h) c e
 Makes h c (Err (faults.Refused refusal)) = BreaksNow h c (Some refusal)
 Makes h c (Err faults.Memory) = Unit {0}
 Makes h c (Err faults.Spent) = ⊥
+
+-- In what is held an entry breaks no rule, and this is an event that enters the task of this name in the net at i, with what was computed of it; or
+-- it is refused, or no memory was left.
+abbrev pub MakesEntry : Standing → List ℕ → Ident → List ℕ → Result Found EngineFault → Type 0
+MakesEntry h who i name (Ok found) = BreaksNow h (commands.Enter who i name) None × IsEntered (state_of h) i name found
+MakesEntry h who i name (Err fault) = Makes h (commands.Enter who i name) (Err fault)

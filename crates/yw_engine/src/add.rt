@@ -1,5 +1,6 @@
 // A person adds an item to a task.
 ghost use Rattle.std.specs.Prelude.{◌≡◌, None};
+ghost use Rattle.yw_breaks.specs.Persons.{HasRoles};
 ghost use Rattle.yw_breaks.specs.Tables.{add_front};
 ghost use Rattle.yw_cases.specs.State.{MayStand, state_of};
 ghost use Rattle.yw_engine.specs.Decides.{Decides, Makes};
@@ -12,35 +13,31 @@ use crate::front::{breaks_quiet, placeless};
 use crate::work::Work;
 use crate::{Decided, EngineFault};
 use yw_base::{Ident, Name, Value};
-use yw_breaks::{add_event, add_rest, net_front};
-use yw_known::NetHere;
+use yw_breaks::{NetAsked, add_asked, net_front};
 use yw_state::Event;
 
 /// The event of an addition to this net, where it breaks no rule from the check on that its case is quiet; else the first that it breaks.
 fn add_here(
     work: &Work,
-    here: &NetHere<'_>,
+    asked: &NetAsked<'_>,
     who: &Name,
     net: Ident,
     task: Name,
     value: Option<Value>,
 ) -> Result<Event, EngineFault>
     requires stands { MayStand work.now.standing }
-    requires says { SaysNet work.now.standing.known work.now.standing.forest net here.now }
+    requires roles { HasRoles work.now.standing.known who.now asked.now.roles.now }
+    requires says { SaysNet work.now.standing.known work.now.standing.forest net asked.now.here }
     requires front { First (add_front (state_of work.now.standing) who.now net) None }
     ensures { Makes work.now.standing (commands.Add who.now net task value) result }
 {
     if let Some(refusal) = breaks_quiet(work, net.case_number())? {
         return Err(EngineFault::Refused(refusal));
     }
-    let standing = &work.standing;
-    let (known, next) = (standing.known(), standing.next());
-    if let Some(refusal) = add_rest(work.alloc, known, here, next, who, &task, &value)? {
-        return Err(EngineFault::Refused(refusal));
-    }
-    match add_event(work.alloc, here, next, net, task, value) {
-        Some(event) => Ok(event),
-        None => unreachable!(),
+    let (here, next) = (&asked.here, work.standing.next());
+    match add_asked(work.alloc, asked.roles, here, next, net, task, value)? {
+        Ok(event) => Ok(event),
+        Err(refusal) => Err(EngineFault::Refused(refusal)),
     }
 }
 
@@ -57,7 +54,7 @@ fn add_made(
 {
     let standing = &work.standing;
     match net_front(standing.known(), standing.forest(), who, &net) {
-        Ok(here) => add_here(work, &here, who, net, task, value),
+        Ok(asked) => add_here(work, &asked, who, net, task, value),
         Err(rule) => Err(EngineFault::Refused(placeless(work.alloc, rule))),
     }
 }

@@ -36,9 +36,7 @@ fn complete_here(
     if let Some(refusal) = complete_most(work.alloc, here, who, given)? {
         return Err(EngineFault::Refused(refusal));
     }
-    let Some(out) = complete_values(work.alloc, here, given)? else {
-        unreachable!();
-    };
+    let out = complete_values(work.alloc, here, given)?;
     let (node, outer) = (here.item, &here.outer);
     match ask_complete(work.alloc, outer.state, node, outer.net, &item, who, &out)? {
         Some(refusal) => Err(EngineFault::Refused(refusal)),
@@ -58,7 +56,7 @@ fn complete_made(
 {
     let standing = &work.standing;
     match item_front(standing.known(), standing.forest(), who, &item) {
-        Ok(here) => complete_here(work, &here, who, item, given),
+        Ok(asked) => complete_here(work, &asked.here, who, item, given),
         Err(rule) => Err(EngineFault::Refused(placeless(work.alloc, rule))),
     }
 }

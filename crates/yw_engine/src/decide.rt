@@ -2,7 +2,7 @@
 ghost use Rattle.std.specs.Prelude.{◌≡◌};
 ghost use Rattle.yw_cases.specs.State.{MayStand};
 ghost use Rattle.yw_engine.specs.Decides.{Decides};
-ghost use Rattle.yw_model.specs.Run.{CanBeAsked};
+ghost use Rattle.yw_built.specs.Asked.{CanBeAsked};
 
 use crate::add::decide_add;
 use crate::complete::decide_complete;
@@ -14,7 +14,21 @@ use crate::whole::{decide_advance, decide_cancel};
 use crate::work::Work;
 use crate::{Decided, EngineFault};
 use std::alloc::AllocError;
+use yw_base::Name;
+use yw_breaks::roles_of;
 use yw_state::Command;
+
+/// Looks at the case of a person's command, unless it is known to be quiet. A command of somebody unknown is refused without such a look.
+fn look_for(work: &mut Work, who: &Name, case: u64) -> Result<(), AllocError>
+    requires { MayStand work.old.standing }
+    ensures { work.new.standing ≡ work.old.standing }
+{
+    let standing = &work.standing;
+    if standing.is_at_rest(case) || roles_of(standing.known(), who).is_none() {
+        return Ok(());
+    }
+    work.look(case)
+}
 
 /// Looks at the case of a command that wants it to be quiet: so it is looked at whole once, and neither behind the command's event again,
 /// nor by the next command, where this one is refused. What is held doesn't change. An `Err` says that no memory was left.
@@ -23,9 +37,11 @@ fn look_at(work: &mut Work, command: &Command) -> Result<(), AllocError>
     ensures { work.new.standing ≡ work.old.standing }
 {
     match command {
-        Command::Enter { case, .. } | Command::Add { case, .. } => work.look(case.case_number()),
-        Command::Start { item, .. } | Command::Complete { item, .. } => {
-            work.look(item.case_number())
+        Command::Enter { who, case, .. } | Command::Add { who, case, .. } => {
+            look_for(work, who, case.case_number())
+        }
+        Command::Start { who, item } | Command::Complete { who, item, .. } => {
+            look_for(work, who, item.case_number())
         }
         _ => Ok(()),
     }

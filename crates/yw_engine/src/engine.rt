@@ -6,8 +6,8 @@ ghost use Rattle.yw_cases.specs.State as cases;
 ghost use Rattle.yw_cases.specs.State.{MayStand, standing_of};
 ghost use Rattle.yw_engine.specs.Held.{state_of};
 ghost use Rattle.yw_library.specs.Held.{IsHeld};
-ghost use Rattle.yw_model.specs.Run.{CanBeAsked};
-ghost use Rattle.yw_model.specs.Texts.{reader};
+ghost use Rattle.yw_built.specs.Asked.{CanBeAsked};
+ghost use Rattle.yw_texts.specs.Texts.{reader};
 ghost use Rattle.yw_state.specs.Automatic.{Comes, IsQuiet};
 ghost use Rattle.yw_state.specs.Broken.{Breaks, placeless};
 ghost use Rattle.yw_built.specs.Built.{is_built};
@@ -18,9 +18,10 @@ ghost use Rattle.yw_state.specs.State.{State, opening};
 ghost use Rattle.yw_state.specs.Well.{IsWell};
 ghost use Rattle.yw_state.specs.declared.rule.Rule.TheVariants.{NotEnabled};
 
+use crate::applying::apply_event;
 use crate::decide::decide_on;
 use crate::front::placeless;
-use crate::work::{Work, apply_owned};
+use crate::work::Work;
 use crate::{Decided, EngineFault};
 use std::alloc::{AllocError, Global};
 use std::marker::Model;
@@ -127,7 +128,7 @@ impl Engine {
         if self.spent {
             return Err(EngineFault::Spent);
         }
-        match apply_owned(&mut self.work, event) {
+        match apply_event(&mut self.work, event) {
             Ok(true) => Ok(()),
             Ok(false) => Err(EngineFault::Refused(placeless(self.work.alloc, Rule::NotEnabled))),
             Err(AllocError) => {

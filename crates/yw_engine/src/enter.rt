@@ -1,36 +1,57 @@
 // A person enters a task.
-ghost use Rattle.std.specs.Prelude.{IfOk};
-ghost use Rattle.yw_cases.specs.State.{MayStand};
-ghost use Rattle.yw_engine.specs.Decides.{BreaksNow, Decides};
+ghost use Rattle.std.specs.Prelude.{None};
+ghost use Rattle.yw_breaks.specs.Nets.{IsWithinHere};
+ghost use Rattle.yw_breaks.specs.Persons.{HasRoles};
+ghost use Rattle.yw_breaks.specs.Tables.{net_front};
+ghost use Rattle.yw_cases.specs.State.{MayStand, state_of};
+ghost use Rattle.yw_engine.specs.Decides.{Decides, MakesEntry};
+ghost use Rattle.yw_known.specs.Here.{SaysNet};
+ghost use Rattle.yw_state.specs.Broken.{First};
 ghost use Rattle.yw_state.specs.declared.command.Command.TheVariants as commands;
 
 use crate::begin::begin_found;
 use crate::front::{breaks_quiet, placeless};
 use crate::work::Work;
 use crate::{Decided, EngineFault};
-use std::alloc::AllocError;
 use yw_base::{Ident, Name};
-use yw_breaks::{enter_rest, net_front};
-use yw_state::Refusal;
+use yw_breaks::{NetAsked, enter_asked, net_front};
+use yw_walk::{Found, entry_of};
 
-/// The first rule that an entry breaks.
-fn enter_breaks(
+/// The event of an entry to a task of this net, where it breaks no rule from the check on that its case is quiet; else the first that it breaks. The
+/// join is asked once: the event is made of the choice that the rules have found.
+fn enter_here(
     work: &Work,
+    asked: &NetAsked<'_>,
     who: &Name,
     at: &Ident,
     task: &Name,
-) -> Result<Option<Refusal>, AllocError>
+) -> Result<Found, EngineFault>
+    requires stands { MayStand work.now.standing }
+    requires roles { HasRoles work.now.standing.known who.now asked.now.roles.now }
+    requires says { SaysNet work.now.standing.known work.now.standing.forest at.now asked.now.here }
+    requires within { IsWithinHere asked.now.here }
+    requires front { First (net_front (state_of work.now.standing) who.now at.now) None }
+    ensures { MakesEntry work.now.standing who.now at.now task.now result }
+{
+    if let Some(refusal) = breaks_quiet(work, at.case_number())? {
+        return Err(EngineFault::Refused(refusal));
+    }
+    let (here, next) = (&asked.here, work.standing.next());
+    match enter_asked(work.alloc, asked.roles, here, next, task)? {
+        Ok(entry) => Ok(entry_of(work.alloc, here, at, next, entry.task, entry.taken)?),
+        Err(refusal) => Err(EngineFault::Refused(refusal)),
+    }
+}
+
+/// The event of an entry, where it breaks no rule; else the first that it breaks.
+fn enter_made(work: &Work, who: &Name, at: &Ident, task: &Name) -> Result<Found, EngineFault>
     requires { MayStand work.now.standing }
-    ensures { IfOk result (BreaksNow work.now.standing (commands.Enter who.now at.now task.now)) }
+    ensures { MakesEntry work.now.standing who.now at.now task.now result }
 {
     let standing = &work.standing;
-    let known = standing.known();
-    match net_front(known, standing.forest(), who, at) {
-        Err(rule) => Ok(Some(placeless(work.alloc, rule))),
-        Ok(here) => match breaks_quiet(work, at.case_number())? {
-            Some(refusal) => Ok(Some(refusal)),
-            None => enter_rest(work.alloc, known, &here, standing.next(), who, task),
-        },
+    match net_front(standing.known(), standing.forest(), who, at) {
+        Ok(asked) => enter_here(work, &asked, who, at, task),
+        Err(rule) => Err(EngineFault::Refused(placeless(work.alloc, rule))),
     }
 }
 
@@ -44,11 +65,6 @@ pub fn decide_enter(
     requires { MayStand work.old.standing }
     ensures { Decides work.old.standing (commands.Enter who.now net.now task.now) result work.new.standing }
 {
-    if let Some(refusal) = enter_breaks(work, who, net, task)? {
-        return Err(EngineFault::Refused(refusal));
-    }
-    let Some(found) = work.standing.entry_event(net, task)? else {
-        unreachable!();
-    };
+    let found = enter_made(work, who, net, task)?;
     Ok(begin_found(work, found, Some(net.case_number()))?)
 }

@@ -2,6 +2,7 @@
 #![tactic(auto)]
 
 mod add;
+mod applying;
 mod begin;
 mod complete;
 mod decide;

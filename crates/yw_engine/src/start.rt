@@ -19,12 +19,11 @@ fn start_breaks(work: &Work, who: &Name, item: &Ident) -> Result<Option<Refusal>
     ensures { IfOk result (BreaksNow work.now.standing (commands.Start who.now item.now)) }
 {
     let standing = &work.standing;
-    let known = standing.known();
-    match item_front(known, standing.forest(), who, item) {
+    match item_front(standing.known(), standing.forest(), who, item) {
         Err(rule) => Ok(Some(placeless(work.alloc, rule))),
-        Ok(here) => match breaks_quiet(work, item.case_number())? {
+        Ok(asked) => match breaks_quiet(work, item.case_number())? {
             Some(refusal) => Ok(Some(refusal)),
-            None => Ok(start_rest(work.alloc, known, &here, who)),
+            None => Ok(start_rest(work.alloc, asked.roles, &asked.here)),
         },
     }
 }

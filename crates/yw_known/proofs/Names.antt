@@ -10,7 +10,7 @@ use Rattle.yw_known.proofs.Renamed.{EntryHasName, HasName, same_sites}
 use Rattle.yw_library.specs.Held.{IsHeld}
 use Rattle.yw_library.specs.Names.{name_in, names_of}
 use Rattle.yw_library.specs.Holdings.{AddsSpec, Holdings, with_library, with_spec}
-use Rattle.yw_model.specs.Texts.{reader}
+use Rattle.yw_texts.specs.Texts.{reader}
 use Rattle.yw_sites.specs.Entries.{Entries, Entry, Unique}
 use Rattle.yw_sites.specs.Idents.{Each}
 use Rattle.yw_spec.specs.declared.spec.Net.{Net}

@@ -6,7 +6,7 @@ ghost use Rattle.yw_library.specs.Accepts.{Answers, IfRefused};
 ghost use Rattle.yw_library.specs.Always.{AlwaysBreaks, AlwaysLeads, IsTried};
 ghost use Rattle.yw_library.specs.Holdings as kept;
 ghost use Rattle.yw_library.specs.Holdings.{AddsSpec, AreNamed, IsKept, state_of, with_library, with_person};
-ghost use Rattle.yw_model.specs.Texts.{reader};
+ghost use Rattle.yw_texts.specs.Texts.{reader};
 ghost use Rattle.yw_state.specs.Broken.{Breaks};
 ghost use Rattle.yw_state.specs.Events.{after};
 ghost use Rattle.yw_state.specs.Map.{get};

@@ -5,7 +5,7 @@ ghost use Rattle.yw_known.specs.Here.{IsNetHere, as_net_at};
 ghost use Rattle.yw_library.specs.Names.{names_of};
 ghost use Rattle.yw_known.specs.declared.here.NetHere.{NetHere};
 ghost use Rattle.yw_library.specs.Holdings.{AddsSpec, Holdings, IsKept, with_library, with_spec};
-ghost use Rattle.yw_model.specs.Texts.{reader};
+ghost use Rattle.yw_texts.specs.Texts.{reader};
 ghost use Rattle.yw_spec.specs.declared.spec.Spec.{Spec};
 ghost use Rattle.yw_state.specs.Identity.{Ident};
 ghost use Rattle.yw_state.specs.Nets.{task_number};

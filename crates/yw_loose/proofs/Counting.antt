@@ -15,7 +15,7 @@ use Rattle.yw_library.specs.Names.{names_of}
 use Rattle.yw_library.specs.Holdings.{Holdings}
 use Rattle.yw_loose.specs.Counts.{AreRight, Exits, Follows, Puts, RightBehind, counts_at, is_of_task}
 use Rattle.yw_loose.specs.declared.counts.Counts.{Counts}
-use Rattle.yw_model.specs.Texts.{reader}
+use Rattle.yw_texts.specs.Texts.{reader}
 use Rattle.yw_nest.proofs.Known.{part_known}
 use Rattle.yw_plain.proofs.Keeping.{event_keeps}
 use Rattle.yw_plain.proofs.Words.{words}

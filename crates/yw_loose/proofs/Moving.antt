@@ -13,7 +13,7 @@ use Rattle.yw_loose.specs.Counts.{AreRight}
 use Rattle.yw_loose.specs.Loose.{Forgets, Gains, IsRested, Loosens, is_known, is_loose}
 use Rattle.yw_loose.specs.declared.counts.Counts.{Counts}
 use Rattle.yw_loose.specs.declared.loose.Loose.{Loose}
-use Rattle.yw_model.specs.Texts.{reader}
+use Rattle.yw_texts.specs.Texts.{reader}
 use Rattle.yw_moved.proofs.Unmoved.{stays_still}
 use Rattle.yw_moved.specs.Moved.{done_at, is_moved, made_by}
 use Rattle.yw_plain.specs.Plain.{IsPlain, is_plain_event}

@@ -6,7 +6,7 @@ use Rattle.yw_base.specs.Identity.{is_identity}
 use Rattle.yw_library.specs.Held.{IsHeld}
 use Rattle.yw_library.specs.Holdings.{Holdings}
 use Rattle.yw_loose.specs.declared.counts.Counts.{Counts}
-use Rattle.yw_model.specs.Texts.{reader}
+use Rattle.yw_texts.specs.Texts.{reader}
 use Rattle.yw_plain.specs.Plain.{IsPlain, is_plain_event}
 use Rattle.yw_progress.specs.Progress.{completed_by, done_in, is_anew}
 use Rattle.yw_state.specs.Events.{Leads}

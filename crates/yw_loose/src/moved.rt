@@ -5,7 +5,7 @@ ghost use Rattle.yw_base.specs.Identity.{is_identity, child, parent};
 ghost use Rattle.yw_library.specs.Held.{IsHeld};
 ghost use Rattle.yw_library.specs.Holdings.{Holdings};
 ghost use Rattle.yw_loose.specs.Loose.{IsRested, Loosens};
-ghost use Rattle.yw_model.specs.Texts.{reader};
+ghost use Rattle.yw_texts.specs.Texts.{reader};
 ghost use Rattle.yw_moved.specs.Moved.{done_at, is_moved, made_by};
 ghost use Rattle.yw_plain.specs.Plain.{IsPlain, is_plain_event};
 ghost use Rattle.yw_state.specs.Events.{Leads};

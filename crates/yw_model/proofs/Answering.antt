@@ -13,10 +13,11 @@ use Rattle.yw_state.specs.declared.command.Asked.TheVariants as asked
 use Rattle.yw_state.specs.declared.command.Command.{Command}
 use Rattle.yw_state.specs.declared.command.Command.TheVariants as commands
 use Rattle.yw_state.specs.declared.rule.Rule.{Rule}
-use Rattle.yw_model.specs.Accepted.{document_in}
+use Rattle.yw_texts.specs.Accepted.{document_in}
 use Rattle.yw_lines.specs.Lines.{line_limit}
 use Rattle.yw_lines.specs.Meaning.{IsProper, is_built, meaning}
-use Rattle.yw_model.specs.Run.{built_words, CanBeAsked, Step, MeaningAnswers, Answers}
+use Rattle.yw_model.specs.Run.{built_words, Step, MeaningAnswers, Answers}
+use Rattle.yw_built.specs.Asked.{CanBeAsked}
 use Rattle.yw_lines.specs.Words.{command_word}
 use Rattle.yw_state.specs.State.{State}
 use Rattle.yw_lines.proofs.Asking.{asks_properly}

@@ -1,4 +1,2 @@
-pub mod Accepted
-pub mod Texts
 pub mod Told
 pub mod Run

@@ -1,6 +1,7 @@
 -- What a list of lines may be answered: a run goes line by line. Our own.
 use Rattle.std.specs.Prelude.{ℕ, ◌+◌, ◌≡◌, List, [], ◌∷◌, ◌++◌, Bool, true, Option, Some, None, Result, Ok, Err}
-use Rattle.yw_model.specs.Texts.{reader}
+use Rattle.yw_texts.specs.Lacking.{CannotLack}
+use Rattle.yw_texts.specs.Texts.{reader}
 use Rattle.yw_state.specs.State.{State}
 use Rattle.yw_state.specs.Texts.{Reader}
 use Rattle.yw_state.specs.Events.{LeadAll}
@@ -17,10 +18,8 @@ use Rattle.yw_state.specs.declared.rule.Refusal.{Refusal}
 use Rattle.yw_state.specs.declared.command.Asked.{Asked}
 use Rattle.yw_state.specs.declared.command.Asked.TheVariants as asked
 use Rattle.yw_state.specs.declared.command.Command.{Command}
-use Rattle.yw_state.specs.declared.command.Command.TheVariants as commands
 use Rattle.yw_state.specs.declared.command.Query.{Query}
 use Rattle.yw_state.specs.declared.command.Query.TheVariants as queries
-use Rattle.yw_state.specs.Allowed.{are_roles}
 use Rattle.yw_state.specs.declared.event.Event.{Event}
 use Rattle.yw_lines.specs.declared.word.Word.{Word}
 use Rattle.yw_lines.specs.declared.word.Word.TheVariants as words
@@ -30,19 +29,6 @@ abbrev pub built_words : List Word
 built_words =
     words.Person ∷ words.Load ∷ words.Launch ∷ words.Enter ∷ words.Start ∷ words.Complete ∷ words.Add ∷ words.Cancel ∷ words.Advance
     ∷ words.Show ∷ words.Ended ∷ words.Specs ∷ []
-
--- the commands that a line can ask for: those of built words, with roles as a line gives them
-abbrev pub CanBeAsked : Command → Type 0
-CanBeAsked (commands.Person name roles) = are_roles roles ≡ true
-CanBeAsked (commands.Load toml) = Unit {0}
-CanBeAsked (commands.Launch spec values) = Unit {0}
-CanBeAsked (commands.Enter who net task) = Unit {0}
-CanBeAsked (commands.Start who j) = Unit {0}
-CanBeAsked (commands.Complete who j out) = Unit {0}
-CanBeAsked (commands.Add who net task value) = Unit {0}
-CanBeAsked (commands.Cancel net) = Unit {0}
-CanBeAsked (commands.Advance net) = Unit {0}
-CanBeAsked command = ⊥
 
 -- What one accepted command does: its events in order, and whether all is quiet after them.
 pub record Entry : Type 0 where
@@ -114,10 +100,6 @@ Run s n [] [] t = t ≡ s
 Run s n [] (step ∷ steps) t = ⊥
 Run s n (line ∷ lines) [] t = ⊥
 Run s n (line ∷ lines) (step ∷ steps) t = (mid : State) × Answers s n line step mid × Run mid (n + 1) lines steps t
-
--- It can't be that there is none. So an existence is said where the logic, which has no excluded middle, names no witness.
-abbrev pub CannotLack : Type 0 → Type 0
-CannotLack A = (A → ⊥) → ⊥
 
 -- the lines have a run from this state on
 abbrev pub HasRun : State → ℕ → List (List ℕ) → Type 0

@@ -3,7 +3,7 @@ use Rattle.std.proofs.Common.{◌≡◌, ℕ, List, Option, None, Some, Result, 
 use Rattle.std.specs.Prelude.{option_and_then, position, slice_get}
 use Rattle.std.specs.Str.{bytes_eq}
 use Rattle.serde_json.specs.Data.{Data}
-use Rattle.yw_model.specs.Texts.{IsAccepted, ReadsSpec}
+use Rattle.yw_texts.specs.Texts.{IsAccepted, ReadsSpec}
 use Rattle.yw_proof.specs.Bounds.{ProvesBounded, given}
 use Rattle.yw_proof.specs.Found.{FindsNet, FindsShape, FindsSpec, FindsValue, IsFound, Tries, finding_by}
 use Rattle.yw_proof.specs.Shape.{Proof, proof_in, value_said}

@@ -1,7 +1,7 @@
 -- What a yes proves of the net that is named.
 use Rattle.std.specs.Prelude.{◌≡◌, ℕ, List, Some, slice_get}
 use Rattle.serde_json.specs.Data.{Data}
-use Rattle.yw_model.specs.Texts.{IsAccepted}
+use Rattle.yw_texts.specs.Texts.{IsAccepted}
 use Rattle.yw_proof.specs.Shape.{Proof, proof_in, value_said}
 use Rattle.yw_proof.specs.Weights.{names_of, weights_in}
 use Rattle.yw_proper.specs.Load.{TextStaysBounded}

@@ -2,7 +2,7 @@
 use Rattle.std.specs.Prelude.{◌≡◌, ◌⊎◌, ◌<◌, ◌≤◌, ℕ, List, [], ◌++◌, length, Bool, true, false, Option, Some, None, Result, Ok, Err, slice_get, unwrap_or, codes}
 use Rattle.std.specs.Option.{option_map_or}
 use Rattle.serde_json.specs.Data.{Data}
-use Rattle.yw_model.specs.Texts.{ReadsSpec}
+use Rattle.yw_texts.specs.Texts.{ReadsSpec}
 use Rattle.yw_proof.specs.Shape.{Proof, proof_in, value_said}
 use Rattle.yw_proof.specs.Weights.{names_of, task_name, unknown_key, weights_in}
 use Rattle.yw_proof.specs.declared.finding.ProofFinding.{ProofFinding}

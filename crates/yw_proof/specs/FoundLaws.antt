@@ -2,7 +2,7 @@
 use Rattle.std.proofs.Common.{◌≡◌, ℕ, ◌+◌, ◌≤◌, List, length, take, Option, None, Some, Result, Ok, Err, inl, inr, sym, ap, ◌∙◌, subst, arith, length-take}
 use Rattle.std.proofs.lemmas.List.{take_all}
 use Rattle.serde_json.specs.Data.{Data}
-use Rattle.yw_model.proofs.ReadingOnce.{reads_one}
+use Rattle.yw_texts.proofs.ReadingOnce.{reads_one}
 use Rattle.yw_proof.specs.FaultLaws.{fault-once, proper_has_none}
 use Rattle.yw_proof.specs.Found.{FindsNet, FindsShape, FindsSpec, FindsValue, FindsWeights, IsFoundBy, Tries, finding_by, proof_limit}
 use Rattle.yw_proof.specs.Shape.{Proof, proof_in, value_said}

@@ -19,8 +19,8 @@ use Rattle.yw_accepted.proofs.Exits.{flow_turns, is_called}
 use Rattle.yw_accepted.proofs.Found.{all_at, zip_at}
 use Rattle.yw_accepted.proofs.Loaded.{accepted_are_sound}
 use Rattle.yw_invariant.proofs.FromOpening.{reached_is_well}
-use Rattle.yw_model.proofs.ReadingOnce.{reads_one}
-use Rattle.yw_model.specs.Texts.{IsAccepted, reader}
+use Rattle.yw_texts.proofs.ReadingOnce.{reads_one}
+use Rattle.yw_texts.specs.Texts.{IsAccepted, reader}
 use Rattle.yw_proper.proofs.Bounded.{certified_is_bounded}
 use Rattle.yw_proper.specs.Load.{IsBounded, IsNetOfText, JoinsApart, TextStaysBounded}
 use Rattle.yw_proper.specs.Proper.{IsProper, IsProved}

@@ -4,7 +4,7 @@ use Rattle.std.specs.Prelude.{◌≡◌, ◌≤◌, ◌<◌, ◌+◌, ◌*◌, �
 use Rattle.yw_spec.specs.declared.spec.Net.{Net}
 use Rattle.yw_spec.specs.declared.spec.Spec.{Spec}
 use Rattle.yw_spec.specs.declared.task.Task.{Task}
-use Rattle.yw_model.specs.Texts.{reader}
+use Rattle.yw_texts.specs.Texts.{reader}
 use Rattle.yw_proper.specs.Proper.{weight_of_place, weight_of_task}
 use Rattle.yw_sound.specs.Sound.{are_apart}
 use Rattle.yw_state.specs.Events.{LeadAll}

@@ -1,7 +1,7 @@
 // A certificate is tried.
 ghost use Rattle.std.specs.Prelude.{◌≡◌, ◌↔◌, ◌+◌, ◌<◌, ◌⊎◌, ℕ, false, IfErr, IfOk, IsOk, IsTrue, List, OnOk, length, nat_le, slice_get};
 ghost use Rattle.std.specs.List.{list_all};
-ghost use Rattle.yw_model.specs.Texts.{IsAccepted};
+ghost use Rattle.yw_texts.specs.Texts.{IsAccepted};
 ghost use Rattle.yw_proper.specs.First.{IsFirst, IsOfTask};
 ghost use Rattle.yw_proper.specs.Load.{TextStaysBounded};
 ghost use Rattle.yw_proper.specs.Proper.{AreWeights, HasWeights, IsProper, IsProved, OfNet};

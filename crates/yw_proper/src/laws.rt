@@ -1,6 +1,6 @@
 // What a certificate says of each state that is reached.
 ghost use Rattle.std.specs.Prelude.{◌≡◌, ℕ, List, Some, slice_get};
-ghost use Rattle.yw_model.specs.Texts.{IsAccepted};
+ghost use Rattle.yw_texts.specs.Texts.{IsAccepted};
 ghost use Rattle.yw_proper.specs.Load.{JoinsApart, StaysBounded, TextStaysBounded};
 ghost use Rattle.yw_proper.specs.Proper.{IsProper};
 ghost use Rattle.yw_sound.specs.Sound.{ReadsSound};

@@ -4,7 +4,7 @@ use Rattle.std.specs.List.{list_all}
 use Rattle.std.proofs.Common.{arith, sym, ◌∙◌, ap, subst, append_assoc}
 use Rattle.std.proofs.lemmas.List.{length-append}
 use Rattle.std.proofs.lemmas.List.Folds.{list_all-append}
-use Rattle.yw_model.specs.Texts.{reader}
+use Rattle.yw_texts.specs.Texts.{reader}
 use Rattle.yw_settle.specs.Settled.{AnswersWith, HaveCome, IsSettled, IsStep}
 use Rattle.yw_state.specs.Automatic.{Comes, after_each, case_of}
 use Rattle.yw_state.specs.Events.{after}

@@ -1,7 +1,7 @@
 -- What comes of itself in a case, one event after another, as a machine takes it and tells it. Our own.
 use Rattle.std.specs.Prelude.{◌≡◌, ℕ, Bool, true, List, ◌++◌, length, Option, Some, None}
 use Rattle.std.specs.List.{list_all}
-use Rattle.yw_model.specs.Texts.{reader}
+use Rattle.yw_texts.specs.Texts.{reader}
 use Rattle.yw_settle.specs.declared.entry.Entry.{Entry}
 use Rattle.yw_state.specs.Automatic.{ComeAll, Comes, IsQuiet, after_each}
 use Rattle.yw_state.specs.Broken.{Breaks}

@@ -6,7 +6,7 @@ use Rattle.yw_base.specs.Identity.{is_identity, case_number}
 use Rattle.yw_spec.specs.declared.spec.Net.{Net}
 use Rattle.yw_spec.specs.declared.spec.Place.{Place}
 use Rattle.yw_spec.specs.declared.task.Task.{Task}
-use Rattle.yw_state.proofs.Tests.{by_test, some_same}
+use Rattle.yw_state.proofs.Tests.{by_test}
 use Rattle.yw_state.specs.After.{make_due, post_at_output, with_sites}
 use Rattle.yw_state.specs.Allowed.{Allowed, allows}
 use Rattle.yw_state.specs.Events.{after}
@@ -21,9 +21,9 @@ use Rattle.yw_state.specs.declared.tree.TreeKind.TheVariants.{Post}
 use Rattle.yw_state.specs.declared.tree.TreePlace.{TreePlace}
 use Rattle.yw_steps.proofs.NetFound.{part_is, stands_so}
 use Rattle.yw_steps.proofs.PostLaw.{judged_after, post_kept, post_map}
-use Rattle.yw_steps.specs.Exits.{Exits, MayExit, NetLeaves, PutsOn, SplitsAt, case_with_post, judged}
+use Rattle.yw_steps.specs.Exits.{Exits, MayExit, NetLeaves, case_with_post, judged}
 use Rattle.yw_task.proofs.EnterAsk.{net_with}
-use Rattle.yw_task.specs.Leaving.{Exits as NetExits, ExitsTo, SplitsTo}
+use Rattle.yw_task.specs.Leaving.{Exits as NetExits, ExitsTo}
 use Rattle.yw_tree.proofs.NetAt.{case_ident_is, case_placed}
 use Rattle.yw_tree.specs.Forest.{IsForest, sites_of}
 use Rattle.yw_tree.specs.Places.{net_at as net_found, placed_net}
@@ -40,9 +40,6 @@ module _ (f : Forest) (boxed : IsForest f) (i : Ident) (identity : is_identity i
       → ExitsTo names f s i (net_with names net u) task places said w numbers
   exits_to names s said task places sites at may =
       does names f s i may.net_is.spec task places said (stands_so f boxed i identity u found names s sites net may.net_is) may.net_is.within at (for_each_text s i task.name places said may.allowed)
-
-  pub puts : PutsOn f net i t due_post numbers
-  puts = λ names s task places sites at may. (exits_to names s nothing task places sites at may).put
 
   -- the check of a case after its end
   module _ (names : ℕ → List ℕ) (s : State) (kept : IsForest (placed_net f i w)) (rule : is_case_ident i ≡ true → due_post ≡ has_rules s (case_place (names (out-NetState u).spec) Post)) where
@@ -103,9 +100,3 @@ module _ (f : Forest) (boxed : IsForest f) (i : Ident) (identity : is_identity i
   exits_so =
       subst (λ (k : Forest). Exits net i t due_post f (judged i net numbers due_post k)) (sym leaves.placed)
       (exits f boxed i identity leaves.before leaves.found net t due_post leaves.later numbers leaves.exits)
-
-  pub puts_so : PutsOn f net i t due_post numbers
-  puts_so = puts f boxed i identity leaves.before leaves.found net t due_post leaves.later numbers leaves.exits
-
-  pub splits_so : SplitsAt f net i t numbers
-  splits_so = λ state at. subst (λ (z : NetState). SplitsTo net t z numbers) (some_same leaves.before state (sym leaves.found ∙ at)) leaves.split

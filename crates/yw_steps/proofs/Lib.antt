@@ -1,6 +1,5 @@
 mod ItemFound
 mod StartLaw
-mod Results
 mod NetFound
 mod EnterLaw
 mod AddLaw

@@ -11,7 +11,8 @@ use Rattle.yw_state.specs.Identity.{Ident}
 use Rattle.yw_state.specs.declared.event.Event.TheVariants as events
 use Rattle.yw_state.specs.declared.part.Checks.{Checks}
 use Rattle.yw_steps.specs.Stands.{DoesWhere, MayGetItems}
-use Rattle.yw_task.specs.Enters.{MayCome}
+use Rattle.yw_state.specs.Values.{Row}
+use Rattle.yw_task.specs.Enters.{AreEntryRows, MayCome}
 use Rattle.yw_tree.specs.Places.{net_at}
 use Rattle.yw_tree.specs.declared.Forest.{Forest}
 use Rattle.yw_tree.specs.declared.NetState.{NetState, out-NetState}
@@ -32,3 +33,7 @@ Enters net i t taken first due old new count =
 -- what is so of the net at i where nothing is tested
 abbrev pub MayComeAt : Forest → Net → Ident → ℕ → ℕ → Type 0
 MayComeAt f net i t first = (state : NetState) → net_at f i ≡ Some state → MayCome net state t first
+
+-- an entry gives its items these rows, in the net at i
+abbrev pub AreEntryRowsAt : Forest → Net → Ident → ℕ → List Row → Type 0
+AreEntryRowsAt f net i t rows = (state : NetState) → net_at f i ≡ Some state → AreEntryRows net state t rows

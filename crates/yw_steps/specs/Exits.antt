@@ -5,7 +5,7 @@ use Rattle.yw_spec.specs.declared.spec.Net.{Net}
 use Rattle.yw_spec.specs.declared.spec.Place.{Place}
 use Rattle.yw_spec.specs.declared.task.Task.{Task}
 use Rattle.yw_state.specs.After.{due_where}
-use Rattle.yw_state.specs.Allowed.{Allowed, place_numbers}
+use Rattle.yw_state.specs.Allowed.{Allowed}
 use Rattle.yw_state.specs.Identity.{Ident, is_case_ident}
 use Rattle.yw_base.specs.Identity.{case_number}
 use Rattle.yw_state.specs.Judged.{case_place, has_rules}
@@ -15,9 +15,9 @@ use Rattle.yw_state.specs.Texts.{nothing}
 use Rattle.yw_state.specs.declared.event.Event.TheVariants as events
 use Rattle.yw_state.specs.declared.tree.TreeKind.TheVariants.{Post}
 use Rattle.yw_steps.specs.Stands.{DoesWhere, NetIs}
-use Rattle.yw_task.specs.Leaving.{Exits as NetExits, SplitsTo}
+use Rattle.yw_task.specs.Leaving.{Exits as NetExits, IsOutcomeAt}
+use Rattle.yw_task.specs.declared.exits.Outcome.{Outcome}
 use Rattle.yw_tree.specs.Cases.{case_at}
-use Rattle.yw_tree.specs.Forest.{sites_of}
 use Rattle.yw_tree.specs.Places.{net_at, placed_case, placed_net}
 use Rattle.yw_tree.specs.declared.Case.{Case}
 use Rattle.yw_tree.specs.declared.Forest.{Forest}
@@ -35,15 +35,9 @@ Exits net i t due_post old new =
     (task : Task) (places : List Place) → slice_get net.tasks t ≡ Some task
     → DoesWhere (λ names. events.Exit i task.name places) (λ names. MayExit net i task places due_post) all_else old new
 
--- wherever the exit is allowed, these are the numbers of its places
-abbrev pub PutsOn : Forest → Net → Ident → ℕ → Bool → List ℕ → Type 0
-PutsOn f net i t due_post numbers =
-    (names : ℕ → List ℕ) (s : State) (task : Task) (places : List Place) → s.sites ≡ sites_of names f → slice_get net.tasks t ≡ Some task
-    → MayExit net i task places due_post s → place_numbers net places ≡ Some numbers
-
--- and allowed or not, they are those of the split over the values that the assignments leave
-abbrev pub SplitsAt : Forest → Net → Ident → ℕ → List ℕ → Type 0
-SplitsAt f net i t numbers = (state : NetState) → net_at f i ≡ Some state → SplitsTo net t state numbers
+-- it is what the exit of the task with number t leaves, in the net at i
+abbrev pub IsOutcomeIn : Forest → Net → Ident → ℕ → Outcome → Type 0
+IsOutcomeIn f net i t out = (state : NetState) → net_at f i ≡ Some state → IsOutcomeAt net t state out
 
 -- ---- the check of a case after its end
 
@@ -72,4 +66,3 @@ pub record NetLeaves (net : Net) (i : Ident) (t : ℕ) (old new : Forest) (numbe
   pub found : net_at old i ≡ Some before
   pub placed : new ≡ placed_net old i later
   pub exits : NetExits net t before later numbers
-  pub split : SplitsTo net t before numbers

@@ -1,19 +1,19 @@
 // A task exits.
-ghost use Rattle.std.specs.Prelude.{◌≡◌, ◌<◌, ◌≤◌, ◌&&◌, IfOk, IsSome, OnErr, OnOk, length, true};
+ghost use Rattle.std.specs.Prelude.{◌≡◌, ◌<◌, ◌≤◌, ◌&&◌, IsSome, length, true};
 ghost use Rattle.yw_base.specs.Identity.{is_identity, case_number};
 ghost use Rattle.yw_state.specs.After.{due_where};
 ghost use Rattle.yw_state.specs.Identity.{is_case_ident};
 ghost use Rattle.yw_state.specs.Nets.{is_among};
 ghost use Rattle.yw_state.specs.declared.tree.TreeKind.TheVariants.{Post};
-ghost use Rattle.yw_steps.specs.Exits.{Exits, NetLeaves, PutsOn, SplitsAt, case_with_post, judged};
+ghost use Rattle.yw_steps.specs.Exits.{Exits, IsOutcomeIn, NetLeaves, case_with_post, judged};
 ghost use Rattle.yw_tree.specs.Forest.{IsForest};
 ghost use Rattle.yw_tree.specs.Places.{net_at};
 
-use std::alloc::{AllocError, Global};
 use yw_base::Ident;
 use yw_mark::is_among;
 use yw_spec::{IndexList, Net};
 use yw_state::Checks;
+use yw_task::Outcome;
 use yw_tree::Forest;
 
 /// With the check after it due too, if this says so.
@@ -68,51 +68,31 @@ fn judge_end(forest: &mut Forest, net: &Net, at: &Ident, places: &[usize], due_p
 }
 
 /// The task with this number exits, but for the check of a case after its end.
-fn leave(
-    alloc: Global,
-    forest: &mut Forest,
-    net: &Net,
-    at: &Ident,
-    t: usize,
-) -> Result<IndexList, AllocError>
+fn leave(forest: &mut Forest, net: &Net, at: &Ident, t: usize, outcome: Outcome) -> IndexList
     requires boxed { IsForest forest.old }
     requires stands { IsSome (net_at forest.old at.now) }
     requires task { t < length net.now.tasks }
-    ensures ok { IfOk result (NetLeaves net.now at.now t forest.old forest.new) }
-    ensures err { OnErr result (forest.new ≡ forest.old) }
+    requires outcome { IsOutcomeIn forest.old net.now at.now t outcome }
+    ensures leaves { NetLeaves net.now at.now t forest.old forest.new result }
     ensures identity { is_identity at.now ≡ true }
 {
     match forest.net_mut(at) {
-        Some(state) => yw_task::exit(alloc, net, state, t),
+        Some(state) => yw_task::exit(net, state, t, outcome),
         None => unreachable!(),
     }
 }
 
-/// The task with this number exits, in the net at an identity, which is this one, where that is allowed. Its items go, with all under them. Its
-/// assignments are made, each over what the items made and the net's values as they were before; one that is undefined leaves its variable. The
-/// split is decided over the new values. The removal set is emptied, and then a token comes to each place that the split chose. The answer is
-/// these places, in flow order. Where one of them is the output of a case's own net, the case is to be judged after its end, if `due_post`
-/// says that its tree has a rule.
-///
-/// An `Err` says that no memory was left, and then all is as it was. The exit is the paper's; what is kept of values, the order, and the check
-/// are our own.
-pub fn exit(
-    alloc: Global,
-    forest: &mut Forest,
-    net: &Net,
-    at: &Ident,
-    t: usize,
-    due_post: bool,
-) -> Result<IndexList, AllocError>
+/// The task with this number exits, in the net at an identity, which is this one, where that is allowed, with the outcome that was computed of it
+/// (`exit_outcome` of yw_task). Its items go, with all under them. The net has the values that its assignments leave. The removal set is emptied,
+/// and then a token comes to each place of its split. Where one of them is the output of a case's own net, the case is to be judged after its end,
+/// if `due_post` says that its tree has a rule. It takes no memory. The exit is the paper's; the order and the check are our own.
+pub fn exit(forest: &mut Forest, net: &Net, at: &Ident, t: usize, outcome: Outcome, due_post: bool)
     requires boxed { IsForest forest.old }
     requires stands { IsSome (net_at forest.old at.now) }
     requires task { t < length net.now.tasks }
-    ensures ok { OnOk result (Exits net.now at.now t due_post forest.old forest.new) }
-    ensures puts { IfOk result (PutsOn forest.old net.now at.now t due_post) }
-    ensures split { IfOk result (SplitsAt forest.old net.now at.now t) }
-    ensures err { OnErr result (forest.new ≡ forest.old) }
+    requires outcome { IsOutcomeIn forest.old net.now at.now t outcome }
+    ensures { Exits net.now at.now t due_post forest.old forest.new }
 {
-    let places = leave(alloc, forest, net, at, t)?;
+    let places = leave(forest, net, at, t, outcome);
     judge_end(forest, net, at, places.as_slice(), due_post);
-    Ok(places)
 }

@@ -31,7 +31,7 @@ use Rattle.yw_task.proofs.RegionLaw.{has_net, it_stands, its_beside}
 use Rattle.yw_task.proofs.TokenCounts.{counts_fall, counts_gone}
 use Rattle.yw_task.proofs.TurnLaw.{own_part, own_turns}
 use Rattle.yw_task.specs.Leaves.{Leaves, emptied}
-use Rattle.yw_task.specs.Leaving.{Exits, ExitsTo, HasNet, SplitsTo}
+use Rattle.yw_task.specs.Leaving.{Exits, ExitsTo, HasNet}
 use Rattle.yw_task.specs.Making.{AreFew, rows_made}
 use Rattle.yw_task.specs.Standing.{NetStands}
 use Rattle.yw_task.specs.Turning.{HasCome, Turns}
@@ -163,9 +163,3 @@ exits net t old new task vals numbers at kept split left = λ names f s i spec u
     let same : task ≡ u = some_same task u (sym at ∙ is) in
     subst (λ (v : Task). Allowed s (events.Exit i v.name places) said → ExitsTo names f s i (net_with names net old) v places said new numbers) same
     (exit_there net t old new task vals numbers kept split left names f s i spec h within at places said) allowed
-
--- whether it is allowed or not
-pub splits : (net : Net) (t : ℕ) (old : NetState) (task : Task) (vals : Row) (numbers : List ℕ) → slice_get net.tasks t ≡ Some task → vals ≡ kept_values task (rows_made (items_in old t)) (out-NetState old).vals
-    → numbers ≡ split_places task vals → SplitsTo net t old numbers
-splits net t old task vals numbers at kept split = λ u is.
-    subst (λ (v : Task). numbers ≡ split_places v (kept_values v (rows_made (items_in old t)) (out-NetState old).vals)) (some_same task u (sym at ∙ is)) (split ∙ ap (split_places task) kept)

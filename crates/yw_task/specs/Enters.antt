@@ -1,5 +1,5 @@
 -- What an entry finds first, and what it does.
-use Rattle.std.specs.Prelude.{◌≡◌, ◌+◌, ◌^◌, ◌<◌, ◌≤◌, ◌&&◌, ◌++◌, ◌∷◌, ℕ, Bool, true, false, List, Option, Some, Result, Ok, Err, drop, length, not, slice_get, take}
+use Rattle.std.specs.Prelude.{◌≡◌, ◌+◌, ◌≤◌, ◌&&◌, ◌++◌, ◌∷◌, ℕ, Bool, true, false, List, Option, Some, Result, Ok, Err, drop, length, not, slice_get, take}
 use Rattle.yw_base.specs.Identity.{number_end}
 use Rattle.yw_base.specs.declared.gate.Gate.{Gate}
 use Rattle.yw_base.specs.declared.gate.Gate.TheVariants.{And, Xor, Or}
@@ -103,14 +103,12 @@ Enters net old i t taken first due new count =
 
 -- ---- what is so of the net where nothing is tested
 
--- The net has the task with number t, which isn't active. Numbers from first on are left for the items that an entry makes, and so many can
--- be counted.
+-- The net has the task with number t, which isn't active. Numbers from first on are left for the items that an entry makes.
 pub record MayCome (net : Net) (state : NetState) (t first : ℕ) : Type 0 where
   pub task : Task
   pub of_net : slice_get net.tasks t ≡ Some task
   pub idle : is_active state t ≡ false
   pub numbers : first + length (entry_rows task (out-NetState state).vals) ≤ number_end
-  pub few : length (entry_rows task (out-NetState state).vals) < 2 ^ 32
 
 -- an entry gives its items these rows
 abbrev pub AreEntryRows : Net → NetState → ℕ → List Row → Type 0

@@ -93,7 +93,7 @@ fn put_items(
 }
 
 /// Items of a task come to the net at `at`, ready, numbered from `first` on, each given a row, in a list that comes first where the net has
-/// none for the task. An `Err` says that no memory was left, and then the net isn't used again.
+/// none for the task. A list that is empty gets room for them and no more. An `Err` says that no memory was left, and then the net isn't used again.
 pub fn add_items(
     alloc: Global,
     state: &mut NetState,
@@ -110,6 +110,6 @@ pub fn add_items(
     requires before { AreBefore at.now first (row_of state.old t) }
     ensures { OnOk result (GetsListAndItems at.now t due first rows.items state.old state.new) }
 {
-    make_room(alloc, state, t)?;
+    make_room(alloc, state, t, rows.len())?;
     put_items(alloc, state, at, t, first, rows, due)
 }

@@ -1,5 +1,5 @@
 // A task is entered.
-ghost use Rattle.std.specs.Prelude.{◌≡◌, ◌<◌, ◌≤◌, IfOk, None, false, length};
+ghost use Rattle.std.specs.Prelude.{◌≡◌, ◌<◌, ◌≤◌, IfOk, None, OnOk, false, length};
 ghost use Rattle.yw_base.specs.Identity.{most_numbers};
 ghost use Rattle.yw_path.specs.Upstream.{IsUpstreamOf};
 ghost use Rattle.yw_task.specs.Asked.{is_active};
@@ -12,7 +12,7 @@ use crate::ask::{ask_enter, task_at};
 use crate::coming::{add_items, take_tokens};
 use crate::done::placeless;
 use crate::fault::StepFault;
-use crate::giving::{entry_rows, rows_to_enter};
+use crate::giving::rows_to_enter;
 use std::alloc::{AllocError, Global};
 use yw_base::{Gate, Ident, Row};
 use yw_mark::{Taken, is_among, is_marked};
@@ -57,8 +57,12 @@ fn choice_fault(net: &Net, state: &NetState, up: &Upstream, t: usize, taken: Tak
     by_choice(chosen, ask_enter(net, state, up, t))
 }
 
-/// A token goes from each place that the choice stands for, and for each row an item comes that is given it. Answers how many came.
-fn come_with(
+/// A task is entered, by its number in the net at `at`: a token goes from each place that the choice of its join stands for, and its items
+/// come, ready, numbered from `first` on, each given one of these rows, which are those of its entry (`entry_rows`), with these checks due. None of
+/// the task's items stands in the net, the items below the net have numbers below `first`, and numbers are left for those that come. Nothing is
+/// tested: neither this, nor whether the join takes from these places, nor whether it waits. An `Err` says that no memory was left, and then the net
+/// isn't used again. To enter a task is the paper's.
+pub fn come(
     alloc: Global,
     net: &Net,
     state: &mut NetState,
@@ -68,43 +72,17 @@ fn come_with(
     first: u64,
     rows: Vec<Row>,
     due: Checks,
-) -> Result<u32, AllocError>
+) -> Result<(), AllocError>
     requires may { MayCome net.now state.old t first }
     requires rows { AreEntryRows net.now state.old t rows.items }
     requires boxed { IsBoxedNet state.old }
     requires room { length at.now < most_numbers }
     requires some { 1 ≤ first }
-    ensures { IfOk result (Enters net.now state.old at.now t taken first due state.new) }
+    ensures { OnOk result (Enters net.now state.old at.now t taken first due state.new (length rows.items)) }
 {
-    let count = rows.len() as u32;
     take_tokens(net, state, t, taken);
     add_items(alloc, state, at, t, first, rows, due)?;
-    Ok(count)
-}
-
-/// A task is entered, by its number in the net at `at`: a token goes from each place that the choice of its join stands for, and its items
-/// come, ready, numbered from `first` on, each with what it is given and these checks due. Answers how many came. None of the task's items
-/// stands in the net, the items below the net have numbers below `first`, and numbers are left for those that come. Nothing is tested: neither
-/// this, nor whether the join takes from these places, nor whether it waits. An `Err` says that no memory was left, and then the net isn't used
-/// again. To enter a task is the paper's.
-pub fn come(
-    alloc: Global,
-    net: &Net,
-    state: &mut NetState,
-    at: &Ident,
-    t: usize,
-    taken: Taken,
-    first: u64,
-    due: Checks,
-) -> Result<u32, AllocError>
-    requires may { MayCome net.now state.old t first }
-    requires boxed { IsBoxedNet state.old }
-    requires room { length at.now < most_numbers }
-    requires some { 1 ≤ first }
-    ensures { IfOk result (Enters net.now state.old at.now t taken first due state.new) }
-{
-    let rows = entry_rows(alloc, task_at(net, t), &state.vals)?;
-    come_with(alloc, net, state, at, t, taken, first, rows, due)
+    Ok(())
 }
 
 /// A task is entered, by its number in the net at `at`: a token goes from each place that the choice of its join stands for, and its items
@@ -141,6 +119,7 @@ pub fn enter(
         return Err(StepFault::Refused(placeless(alloc, rule)));
     }
     let rows = rows_to_enter(alloc, task_at(net, t), &state.vals, first)?;
-    let count = come_with(alloc, net, state, at, t, taken, first, rows, due)?;
+    let count = rows.len() as u32;
+    come(alloc, net, state, at, t, taken, first, rows, due)?;
     Ok(count)
 }

@@ -1,16 +1,16 @@
 // A task exits.
-ghost use Rattle.std.specs.Prelude.{◌≡◌, ◌<◌, IfOk, OnErr, fold, length};
+ghost use Rattle.std.specs.Prelude.{◌≡◌, ◌<◌, IfOk, fold, length};
 ghost use Rattle.yw_expr.specs.Rows.{put_in};
 ghost use Rattle.yw_state.specs.After.{one_more};
-ghost use Rattle.yw_task.specs.Leaving.{Exits, SplitsTo};
+ghost use Rattle.yw_task.specs.Leaving.{Exits, IsOutcome, IsOutcomeAt, SplitsTo};
 ghost use Rattle.yw_task.specs.Leaves.{Leaves};
-ghost use Rattle.yw_state.specs.Passing.{kept_values, split_places};
-ghost use Rattle.yw_task.specs.Making.{AreFew, rows_made};
+ghost use Rattle.yw_state.specs.Passing.{split_places};
+ghost use Rattle.yw_task.specs.Making.{AreFew};
 ghost use Rattle.yw_tree.specs.Boxed.{IsBoxedNet};
 ghost use Rattle.yw_tree.specs.declared.NetState.{out-NetState};
 
 use crate::ask::task_at;
-use crate::made::{assigned_values, items_in, put_all};
+use crate::made::{assigned_values, put_all};
 use crate::region::{clear_region, lose_items};
 use crate::tokens::put_each;
 use std::alloc::{AllocError, Global};
@@ -19,6 +19,15 @@ use yw_expr::{Changed, Put};
 use yw_mark::split_places;
 use yw_spec::{IndexList, Net, Task};
 use yw_tree::{NetState, Node};
+
+/// What an exit leaves. It is computed while the net is as it was, so that the exit itself computes nothing and takes no memory.
+#[derive(Drop)]
+pub struct Outcome {
+    /// The values that the assignments put in the place of the net's own, each with the number of its variable.
+    pub puts: Items<Put>,
+    /// The numbers of the places to which a token comes each: those of the split, in flow order.
+    pub places: IndexList,
+}
 
 /// The net has these values in the place of its own.
 fn put_values(state: &mut NetState, puts: Items<Put>)
@@ -65,43 +74,35 @@ fn split_after(
     split_places(alloc, task, &changed)
 }
 
-/// The places to which a token comes each as a task exits that has these items, in flow order: those of its split, over the net's values once the
-/// assignments are made. No value of the net is copied. An `Err` says that no memory was left.
-pub fn exit_places(
+/// What the exit of a task leaves that has these items, over these values of its net. Its assignments are made, each over what the items made and
+/// the net's values as they are; one that is undefined leaves its variable. The split is decided over the values that they leave. No value of the
+/// net is copied. An `Err` says that no memory was left. What is kept of values is our own.
+pub fn exit_outcome(
     alloc: Global,
     task: &Task,
     nodes: &[Node],
     vals: &Row,
-) -> Result<IndexList, AllocError>
-    ensures { IfOk result (λ places. places ≡ split_places task.now (kept_values task.now (rows_made nodes.now) vals.now)) }
+) -> Result<Outcome, AllocError>
+    ensures { IfOk result (IsOutcome task.now nodes.now vals.now) }
 {
     let puts = assigned_values(alloc, task, nodes, vals)?;
-    split_after(alloc, task, vals, puts.as_slice())
+    let places = split_after(alloc, task, vals, puts.as_slice())?;
+    Ok(Outcome { puts, places })
 }
 
-/// The task with this number exits, where that is allowed. Its items go, with all under them. Its assignments are made, each over what the
-/// items made and the net's values as they were before; one that is undefined leaves its variable. The split is decided over the new values.
-/// The removal set is emptied, and then a token comes to each place that the split chose. The answer is these places, in flow order. The
-/// check of a case after its net's end isn't made due here, since a net knows no case.
-///
-/// An `Err` says that no memory was left, and then the net is as it was. The exit is the paper's; what is kept of values, and the order,
-/// are our own.
-pub fn exit(
-    alloc: Global,
-    net: &Net,
-    state: &mut NetState,
-    t: usize,
-) -> Result<IndexList, AllocError>
+/// The task with this number exits, where that is allowed, with the outcome that was computed of it. Its items go, with all under them. The net
+/// has the values that its assignments leave. The removal set is emptied, and then a token comes to each place of its split. The answer is these
+/// places, in flow order. The check of a case after its net's end isn't made due here, since a net knows no case. It takes no memory. The exit is
+/// the paper's; the order is our own.
+pub fn exit(net: &Net, state: &mut NetState, t: usize, outcome: Outcome) -> IndexList
     requires boxed { IsBoxedNet state.old }
     requires task { t < length net.now.tasks }
+    requires outcome { IsOutcomeAt net.now t state.old outcome }
     ensures boxed { IsBoxedNet state.new }
-    ensures ok { IfOk result (λ numbers. Exits net.now t state.old state.new numbers) }
-    ensures split { IfOk result (SplitsTo net.now t state.old) }
-    ensures err { OnErr result (state.new ≡ state.old) }
+    ensures exits { Exits net.now t state.old state.new result }
+    ensures split { SplitsTo net.now t state.old result }
 {
     let task = task_at(net, t);
-    let puts = assigned_values(alloc, task, items_in(state, t), &state.vals)?;
-    let places = split_after(alloc, task, &state.vals, puts.as_slice())?;
-    leave(task, state, t, puts, places.as_slice());
-    Ok(places)
+    leave(task, state, t, outcome.puts, outcome.places.as_slice());
+    outcome.places
 }

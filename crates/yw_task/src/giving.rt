@@ -139,7 +139,8 @@ fn one_row(alloc: Global, task: &Task, vals: &Row) -> Result<Vec<Row>, AllocErro
     Ok(rows)
 }
 
-/// What each item is given that an entry makes.
+/// What each item is given that an entry makes: a row for each element of the list over which the task runs, or one where it runs over none. There
+/// are none where the list, or what a parameter is given, is undefined. An `Err` says that no memory was left.
 pub fn entry_rows(alloc: Global, task: &Task, vals: &Row) -> Result<Vec<Row>, AllocError>
     ensures { IfOk result (λ rows. rows.items ≡ entry_rows task.now vals.now) }
 {

@@ -6,7 +6,7 @@
 ghost use Rattle.std.specs.Prelude.{map, ◌≡◌, ℕ, Bool, List};
 ghost use Rattle.yw_lines.specs.EventTexts.{step_text};
 ghost use Rattle.yw_lines.specs.Replies.{done_line};
-ghost use Rattle.yw_model.specs.Texts.{reader};
+ghost use Rattle.yw_texts.specs.Texts.{reader};
 ghost use Rattle.yw_sound.specs.Sound.{ReadsSound};
 ghost use Rattle.yw_state.specs.Automatic.{Comes};
 ghost use Rattle.yw_state.specs.Events.{LeadAll};

@@ -1,9 +1,9 @@
 -- Entries: they lead to their states, and a command whose event is allowed has one.
 use Rattle.std.specs.Prelude.{◌≡◌, ◌↔◌, ℕ, List, [], ◌∷◌, Bool, true, Option, Some, None, refl, IsTrue}
 use Rattle.std.proofs.Common.{sym, subst}
-use Rattle.yw_model.proofs.Alone.{alone_is_legal}
-use Rattle.yw_model.proofs.Lacking.{follows, here}
-use Rattle.yw_model.specs.Run.{CannotLack}
+use Rattle.yw_texts.proofs.Alone.{alone_is_legal}
+use Rattle.yw_texts.proofs.Lacking.{follows, here}
+use Rattle.yw_texts.specs.Lacking.{CannotLack}
 use Rattle.yw_state.proofs.Tests.{by_option, never}
 use Rattle.yw_state.specs.Automatic.{ComeAll, after_each, case_of, is_automatic}
 use Rattle.yw_state.specs.Broken.{Breaks}

@@ -2,8 +2,8 @@
 use Rattle.std.specs.Prelude.{◌≡◌, ◌≤◌, ℕ, zero, suc, ◌+◌, List, [], ◌∷◌, ◌++◌, length, true, false, refl}
 use Rattle.std.proofs.Common.{arith}
 use Rattle.std.proofs.lemmas.List.{length-append}
-use Rattle.yw_model.proofs.Lacking.{here}
-use Rattle.yw_model.specs.Run.{CannotLack}
+use Rattle.yw_texts.proofs.Lacking.{here}
+use Rattle.yw_texts.specs.Lacking.{CannotLack}
 use Rattle.yw_state.proofs.Tests.{never}
 use Rattle.yw_state.specs.Automatic.{ComeAll, Comes, IsQuiet, after_each}
 use Rattle.yw_state.specs.Events.{after}

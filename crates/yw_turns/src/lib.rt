@@ -3,7 +3,7 @@
 #![tactic(auto)]
 
 ghost use Rattle.std.specs.Prelude.{◌≡◌, ◌∷◌, ℕ, Bool, List, None, Some};
-ghost use Rattle.yw_model.specs.Run.{CannotLack};
+ghost use Rattle.yw_texts.specs.Lacking.{CannotLack};
 ghost use Rattle.yw_state.specs.Automatic.{case_of};
 ghost use Rattle.yw_state.specs.Broken.{Breaks};
 ghost use Rattle.yw_state.specs.Events.{LeadAll, Leads};

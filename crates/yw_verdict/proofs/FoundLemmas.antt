@@ -7,8 +7,8 @@ use Rattle.yw_read.specs.Reading.{spec_in}
 use Rattle.yw_read.specs.declared.raw.RawSpec.{RawSpec}
 use Rattle.yw_read.specs.declared.raw.ReadFault.{ReadFault}
 use Rattle.yw_read.specs.declared.raw.ReadFault.TheVariants.{NotToml}
-use Rattle.yw_model.specs.Accepted.{document_in, JudgesSaid}
-use Rattle.yw_model.specs.Texts.{ReadsSpec}
+use Rattle.yw_texts.specs.Accepted.{document_in, JudgesSaid}
+use Rattle.yw_texts.specs.Texts.{ReadsSpec}
 use Rattle.yw_spec.specs.declared.spec.Spec.{Spec}
 use Rattle.yw_state.specs.Broken.{placeless}
 use Rattle.yw_state.specs.declared.rule.Refusal.{Refusal}

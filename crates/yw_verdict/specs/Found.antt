@@ -7,7 +7,7 @@ use Rattle.yw_read.specs.declared.raw.ReadFault.{ReadFault}
 use Rattle.yw_spec.specs.declared.spec.Spec.{Spec}
 use Rattle.yw_state.specs.declared.rule.Refusal.{Refusal}
 use Rattle.yw_state.specs.declared.rule.Rule.TheVariants.{LineTooLong}
-use Rattle.yw_model.specs.Accepted.{document_in, JudgesSaid}
+use Rattle.yw_texts.specs.Accepted.{document_in, JudgesSaid}
 use Rattle.yw_lines.specs.Lines.{line_limit}
 use Rattle.yw_state.specs.Broken.{placeless}
 use Rattle.yw_verdict.specs.declared.finding.Finding.{Finding}

@@ -1,8 +1,8 @@
 -- Laws of what is found of a text: one thing is, and it is found of the text's front.
 use Rattle.std.proofs.Common.{◌≡◌, ℕ, ◌+◌, ◌≤◌, List, length, take, None, Some, Result, Ok, inl, inr, refl, sym, ap, ◌∙◌, subst, arith, length-take}
 use Rattle.std.proofs.lemmas.List.{take_all}
-use Rattle.yw_model.proofs.ReadingOnce.{judged_once}
-use Rattle.yw_model.specs.Accepted.{document_in}
+use Rattle.yw_texts.proofs.ReadingOnce.{judged_once}
+use Rattle.yw_texts.specs.Accepted.{document_in}
 use Rattle.yw_read.specs.declared.raw.RawSpec.{RawSpec}
 use Rattle.yw_read.specs.declared.raw.ReadFault.{ReadFault}
 use Rattle.yw_state.specs.declared.rule.Refusal.{Refusal}

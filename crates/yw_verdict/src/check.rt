@@ -6,7 +6,7 @@ use yw_base::Bytes;
 use yw_judge::Judgement;
 
 /// A text is judged as a specification, and the line is `{"ok":true,"spec":"NAME"}` where it is accepted, and else
-/// `{"at":AT,"ok":false,"rule":RULE}`. The rule is `SpecText`, `SpecShape` or `SpecCheck` with the place of its first fault, as `yw_model`
+/// `{"at":AT,"ok":false,"rule":RULE}`. The rule is `SpecText`, `SpecShape` or `SpecCheck` with the place of its first fault, as `yw_texts`
 /// defines it; bytes that aren't UTF-8 are no document. Of a text of more than 1,048,576 bytes the rule is `LineTooLong` without a place.
 /// The words and the line are our own.
 impl Judgement for Finding {

@@ -1,6 +1,6 @@
 // What is found of a text.
 ghost use Rattle.std.specs.Prelude.{◌≡◌, IfOk};
-ghost use Rattle.yw_model.specs.Accepted.{document_in};
+ghost use Rattle.yw_texts.specs.Accepted.{document_in};
 ghost use Rattle.yw_verdict.specs.Found.{FindsSaid, IsFound, finding_of};
 
 use crate::text::{accepted, placeless};

@@ -1,6 +1,6 @@
 // From a text to the specification that it says, or to what is first wrong with it.
 ghost use Rattle.std.specs.Prelude.{◌≡◌, Ok, IfOk};
-ghost use Rattle.yw_model.specs.Texts.{ReadsSpec};
+ghost use Rattle.yw_texts.specs.Texts.{ReadsSpec};
 ghost use Rattle.yw_read.specs.Reading.{spec_in};
 ghost use Rattle.yw_state.specs.Broken.{placeless};
 ghost use Rattle.yw_verdict.specs.Found.{SaysSpec};
@@ -50,7 +50,7 @@ fn said(alloc: Global, text: &str) -> Result<Result<Spec, Refusal>, AllocError>
 }
 
 /// The specification that a text says, where it is accepted. Else what is first wrong with it, by `SpecText`, `SpecShape` or `SpecCheck`, as
-/// `yw_model` defines it. The outer `Err` says that no memory was left.
+/// `yw_texts` defines it. The outer `Err` says that no memory was left.
 pub fn accepted(alloc: Global, text: &str) -> Result<Result<Spec, Refusal>, AllocError>
     ensures { IfOk result (ReadsSpec text.now) }
 {

@@ -1,15 +1,15 @@
 -- A task that may be entered by no person is entered by the event that is made of it.
-use Rattle.std.proofs.Common.{List, None, Option, Some, [], ap, false, length, map, refl, subst, suc, sym, true, ⊎_elim, ℕ, ◌+◌, ◌∙◌, ◌∷◌, ◌≡◌, ◌≤◌}
+use Rattle.std.proofs.Common.{List, None, Option, Some, [], ap, arith, false, length, map, refl, subst, suc, sym, true, ⊎_elim, ℕ, ◌+◌, ◌∙◌, ◌∷◌, ◌≡◌, ◌≤◌}
 use Rattle.std.proofs.lemmas.Bool.{and_parts, leb-true}
 use Rattle.std.proofs.lemmas.Option.{slice_get_within}
-use Rattle.std.specs.Prelude.{nat_le, not, option_map, slice_get, unwrap_or, ◌&&◌}
+use Rattle.std.specs.Prelude.{Vec, nat_le, not, option_map, slice_get, unwrap_or, ◌&&◌}
+use Rattle.std.specs.declared.alloc.Global.{Global}
 use Rattle.yw_base.specs.Identity.{number_end, case_number}
 use Rattle.yw_base.specs.declared.value.Value.{Value}
 use Rattle.yw_enabled.proofs.Coming.{enter_may}
 use Rattle.yw_enabled.proofs.FreeItems.{task_is}
 use Rattle.yw_enabled.specs.Entered.{EntersFirst, EntersFrom}
 use Rattle.yw_enabled.specs.Free.{MayDraw}
-use Rattle.yw_expr.specs.Meaning.{val}
 use Rattle.yw_known.specs.declared.here.NetHere.{NetHere}
 use Rattle.yw_mark.specs.Taking.{OfTask, taken_places}
 use Rattle.yw_mark.specs.declared.join.Taken.{Taken}
@@ -35,12 +35,12 @@ use Rattle.yw_state.specs.declared.event.Event.{Event}
 use Rattle.yw_state.specs.declared.event.Event.TheVariants as events
 use Rattle.yw_still.specs.Still.{can_be_entered, may_be_made, task_numbered}
 use Rattle.yw_task.proofs.EnterAsk.{net_with}
-use Rattle.yw_task.specs.Giving.{elements, entry_rows}
+use Rattle.yw_task.specs.Giving.{entry_rows}
 use Rattle.yw_tree.specs.declared.Forest.{Forest}
 use Rattle.yw_tree.specs.declared.NetState.{NetState, out-NetState}
 use Rattle.yw_walk.proofs.Leaving.{task_there}
 use Rattle.yw_walk.proofs.Numbered.{are_numbered}
-use Rattle.yw_walk.specs.Finds.{ComesPlainly, EntersAs, FindsEntered, IsEntered, IsEntry}
+use Rattle.yw_walk.specs.Finds.{ComesPlainly, EntersAs, FindsEntered, IsEntered, IsEntry, most_items}
 use Rattle.yw_walk.specs.Places.{places_numbered}
 use Rattle.yw_walk.specs.declared.found.Computed.TheVariants as computed
 use Rattle.yw_walk.specs.declared.found.Found.{Found}
@@ -63,52 +63,41 @@ rows_long t vals rows e =
     let es = then_some (λ (os : List (Option Value)). all_of (map (given_values t vals) os)) (elements_for t.many vals) rows e in
     ap (option_map (λ (os : List (Option Value)). length os)) es.1 ∙ ap (λ k. Some k) (sym (as_long (given_values t vals) es.0 rows es.2))
 
-length_somes : (vs : List Value) → length (map (λ (v : Value). Some v) vs) ≡ length vs
-length_somes [] = refl
-length_somes (v ∷ vs) = ap (λ k. suc k) (length_somes vs)
+-- no more than the task may have
+most_of : (o : Option Many) (vals : Row) (n : ℕ) → option_map (λ (es : List (Option Value)). length es) (elements_for o vals) ≡ Some n → within_bounds o n ≡ true
+    → n ≤ unwrap_or (option_map (λ (m : Many). m.max) o) 1
+most_of None vals n long within =
+    let one : 1 ≡ n = some_same 1 n long in
+    let few : n ≤ 1 = omega (arith, one) in
+    few
+most_of (Some m) vals n long within = leb-true n m.max (and_parts (nat_le m.min n) (nat_le n m.max) within).1
 
--- the elements of a list, where there is one
-pub list_counts : (task : Task) (vals : Row) (m : Many) (v : Value) → task.many ≡ Some m → Some v ≡ val m.each vals → (rows : List Row)
-    → entry_values task vals ≡ Some rows → within_bounds task.many (length rows) ≡ true
-    → (length (elements v) ≡ length rows) × (length rows ≤ m.max)
-list_counts task vals m v many is rows made within =
-    let long = rows_long task vals rows made in
-    let by_list : option_map (λ (es : List (Option Value)). length es) (elements_for task.many vals) ≡ Some (length (elements v)) =
-    ap (λ o. option_map (λ (es : List (Option Value)). length es) (elements_for o vals)) many
-    ∙ ap (λ o. option_map (λ (es : List (Option Value)). length es) (option_map (λ w. map (λ (z : Value). Some z) (elements w)) o)) (sym is)
-    ∙ ap (λ k. Some k) (length_somes (elements v)) in
-    let bounds = and_parts (nat_le m.min (length rows)) (nat_le (length rows) m.max)
-    (ap (λ o. within_bounds o (length rows)) (sym many) ∙ within) in
-    (some_same (length (elements v)) (length rows) (sym by_list ∙ long), leb-true (length rows) m.max bounds.1)
-
--- the number of a row, as it is counted
-abbrev counted : State → TaskAt → ℕ → Type 0
-counted s x count =
-    (rows : List Row) → entry_values x.task x.within.part.vals ≡ Some rows → within_bounds x.task.many (length rows) ≡ true
-    → count ≡ length rows
-
-counts_rows : (s : State) (i : Ident) (x : TaskAt) (count : ℕ) → can_be_entered s i x ≡ true → counted s x count
-    → length (entry_rows x.task x.within.part.vals) ≡ count
-counts_rows s i x count may counts =
+few_rows : (s : State) (i : Ident) (x : TaskAt) → can_be_entered s i x ≡ true → length (entry_rows x.task x.within.part.vals) ≤ most_items x.task
+few_rows s i x may =
     let made = and_parts (clear s i && not (active s i x.number) && has_tokens x.task.join s i x.task.before)
     (is_some_and (entry_values x.task x.within.part.vals) (may_be_made s x)) may in
     let r = there_and (entry_values x.task x.within.part.vals) (may_be_made s x) made.1 in
     let bounds = and_parts (within_bounds x.task.many (length r.0)) (nat_le (s.next + length r.0) number_end) r.2 in
-    ap (λ o. length (unwrap_or o [])) r.1 ∙ sym (counts r.0 r.1 bounds.0)
+    subst (λ k. k ≤ most_items x.task) (sym (ap (λ (o : Option (List Row)). length (unwrap_or o [])) r.1))
+    (most_of x.task.many x.within.part.vals (length r.0) (rows_long x.task x.within.part.vals r.0 r.1) bounds.0)
 
 -- ---- the entry
 
 module _ (net : Net) (state : NetState) (i : Ident) (next : ℕ) where
-  pub is_entry : (t : ℕ) (task : Task) (taken : Taken) (count : ℕ) → slice_get net.tasks t ≡ Some task
-      → ((rows : List Row) → entry_values task (out-NetState state).vals ≡ Some rows → within_bounds task.many (length rows) ≡ true
-      → count ≡ length rows)
+  -- so many rows an entry gives, where they are no more than the task may have
+  abbrev CountsRows : Task → ℕ → Type 0
+  CountsRows task count =
+      length (entry_rows task (out-NetState state).vals) ≤ most_items task → count ≡ length (entry_rows task (out-NetState state).vals)
+
+  is_entry : (t : ℕ) (task : Task) (taken : Taken) (count : ℕ) (rows : Vec Row Global) → slice_get net.tasks t ≡ Some task
+      → rows.items ≡ entry_rows task (out-NetState state).vals → CountsRows task count
       → (names : ℕ → List ℕ) (f : Forest) (s : State) (x : TaskAt) → MayDraw names f s i net state next → HoldsWithin s
       → task_numbered s i t ≡ Some x → EntersFrom s i x (taken_places (out-NetState state).marks x.task.before taken)
       → IsEntered s i x.task.name (record {
         event = events.Enter i task.name (places_numbered net (taken_places (out-NetState state).marks task.before taken)) next count;
-        computed = computed.Enter t taken;
+        computed = computed.Enter t taken rows;
       })
-  is_entry t task taken count at counts names f s x draw holds is enters =
+  is_entry t task taken count rows at gives counts names f s x draw holds is enters =
       let y : TaskAt = record { number = t; task = task; within = net_with names net state } in
       let there : task_numbered s i t ≡ Some y = task_there names f s i net state draw.free.stands t task at in
       let its : x ≡ y = some_same x y (sym is ∙ there) in
@@ -117,7 +106,7 @@ module _ (net : Net) (state : NetState) (i : Ident) (next : ℕ) where
       let may = enter_may s holds i t y there taken enters_y in
       let cs : List ℕ = taken_places (out-NetState state).marks task.before taken in
       let named : places_numbered net cs ≡ may.places = are_numbered net may.places cs may.takes in
-      let long : length (entry_rows task (out-NetState state).vals) ≡ count = counts_rows s i y count enters_y.may counts in
+      let long : length (entry_rows task (out-NetState state).vals) ≡ count = sym (counts (few_rows s i y enters_y.may)) in
       let event : events.Enter i task.name may.places s.next (length (entry_rows task (out-NetState state).vals))
       ≡ events.Enter i task.name (places_numbered net cs) next count =
       λ k. events.Enter i task.name (sym named k) (draw.next k) (long k) in
@@ -133,24 +122,24 @@ module _ (net : Net) (state : NetState) (i : Ident) (next : ℕ) where
           named = task_found s holds i y (numbered_of s i t y there);
           number = refl;
           takes = subst (λ ps. place_numbers net ps ≡ Some cs) (sym named) may.takes;
+          gives = gives;
         };
       }
 
   -- and so does each that has these fields
-  pub made_entry : (t : ℕ) (task : Task) (taken : Taken) (count : ℕ) → slice_get net.tasks t ≡ Some task
+  pub made_entry : (t : ℕ) (task : Task) (taken : Taken) (count : ℕ) (rows : Vec Row Global) → slice_get net.tasks t ≡ Some task
       → (j name : List ℕ) (numbers : List ℕ) (places : List Place) → j ≡ i → name ≡ task.name
       → numbers ≡ taken_places (out-NetState state).marks task.before taken → places ≡ places_numbered net numbers
-      → ((rows : List Row) → entry_values task (out-NetState state).vals ≡ Some rows → within_bounds task.many (length rows) ≡ true
-      → count ≡ length rows)
+      → rows.items ≡ entry_rows task (out-NetState state).vals → CountsRows task count
       → (names : ℕ → List ℕ) (f : Forest) (s : State) (x : TaskAt) → MayDraw names f s i net state next → HoldsWithin s
       → task_numbered s i t ≡ Some x → EntersFrom s i x (taken_places (out-NetState state).marks x.task.before taken)
-      → IsEntered s i x.task.name (record { event = events.Enter j name places next count; computed = computed.Enter t taken })
-  made_entry t task taken count at j name numbers places its_net its_name its_numbers its_places counts =
+      → IsEntered s i x.task.name (record { event = events.Enter j name places next count; computed = computed.Enter t taken rows })
+  made_entry t task taken count rows at j name numbers places its_net its_name its_numbers its_places gives counts =
       λ names f s x draw holds is enters.
       let whole = its_places ∙ ap (places_numbered net) its_numbers in
-      subst (λ (e : Event). IsEntered s i x.task.name (record { event = e; computed = computed.Enter t taken }))
+      subst (λ (e : Event). IsEntered s i x.task.name (record { event = e; computed = computed.Enter t taken rows }))
       (λ k. events.Enter (sym its_net k) (sym its_name k) (sym whole k) next count)
-      (is_entry t task taken count at counts names f s x draw holds is enters)
+      (is_entry t task taken count rows at gives counts names f s x draw holds is enters)
 
 -- where no person enters the task, the event comes of itself
 comes_plainly : (s : State) → HoldsWithin s → (i : Ident) (t : ℕ) (x : TaskAt) → task_numbered s i t ≡ Some x → is_manual s x ≡ false

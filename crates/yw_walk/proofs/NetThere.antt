@@ -7,7 +7,7 @@ use Rattle.yw_known.specs.Here.{IsNetHere}
 use Rattle.yw_library.specs.Names.{names_of}
 use Rattle.yw_known.specs.declared.here.NetHere.{NetHere}
 use Rattle.yw_library.specs.Holdings.{Holdings}
-use Rattle.yw_model.specs.Texts.{reader}
+use Rattle.yw_texts.specs.Texts.{reader}
 use Rattle.yw_plain.proofs.Words.{words}
 use Rattle.yw_state.specs.Identity.{Ident}
 use Rattle.yw_base.specs.Identity.{case_number}

@@ -1,4 +1,4 @@
--- Of an event that is no entry nothing is computed.
+-- Of an event that is neither an entry nor an exit nothing is computed.
 use Rattle.std.proofs.Common.{false, refl, sym, ◌≡◌}
 use Rattle.yw_state.proofs.Tests.{never}
 use Rattle.yw_state.specs.State.{State}
@@ -9,4 +9,5 @@ use Rattle.yw_walk.specs.declared.found.Computed.TheVariants as computed
 
 pub nothing_of : (s : State) (e : Event) → is_computed e ≡ false → IsComputedOf s e computed.Nothing
 nothing_of s (events.Enter i name places first count) plain = never (sym plain)
+nothing_of s (events.Exit i name places) plain = never (sym plain)
 nothing_of s e plain = refl

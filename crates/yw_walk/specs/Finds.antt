@@ -1,6 +1,6 @@
 -- What comes of itself at one identity, and in a case: found, or nothing.
 use Rattle.std.specs.List.{All, Contains}
-use Rattle.std.specs.Prelude.{◌≡◌, ◌↔◌, ℕ, Bool, IsTrue, List, MatchOption, None, Option, Some, true, false}
+use Rattle.std.specs.Prelude.{◌≡◌, ◌↔◌, ℕ, Bool, IsTrue, List, MatchOption, None, Option, Some, option_map, true, false, unwrap_or}
 use Rattle.yw_base.specs.Gates.{is_or}
 use Rattle.yw_enabled.specs.Entered.{EntersFrom}
 use Rattle.yw_enabled.specs.Free.{MayDraw, StandsFree}
@@ -23,10 +23,14 @@ use Rattle.yw_state.specs.Texts.{nothing}
 use Rattle.yw_state.specs.Allowed.{Allowed}
 use Rattle.yw_state.specs.declared.event.Event.TheVariants as events
 use Rattle.yw_spec.specs.declared.spec.Place.{Place}
+use Rattle.yw_spec.specs.declared.task.Many.{Many}
+use Rattle.yw_spec.specs.declared.task.Task.{Task}
 use Rattle.yw_state.specs.Nets.{is_atomic}
 use Rattle.yw_state.specs.State.{State, TaskAt, is_item, net_part}
 use Rattle.yw_state.specs.declared.event.Event.{Event}
 use Rattle.yw_still.specs.Still.{CaseIsStill, IsStill, case_ends, is_entering, is_leaving, item_goes_on, task_numbered}
+use Rattle.yw_task.specs.Leaving.{IsOutcomeAt}
+use Rattle.yw_task.specs.declared.exits.Outcome.{Outcome}
 use Rattle.yw_tree.specs.declared.Forest.{Forest}
 use Rattle.yw_tree.specs.Places.{net_at}
 use Rattle.yw_tree.specs.declared.NetState.{NetState, out-NetState}
@@ -64,11 +68,15 @@ NoneEntered s i = (k : ℕ) (x : TaskAt) → task_numbered s i k ≡ Some x → 
 abbrev pub AtomicIsManual : State → Type 0
 AtomicIsManual s = (x : TaskAt) → is_manual s x ≡ is_atomic x.task
 
--- wherever the net stands free and its task with this number may be left, it is left by this event
-abbrev pub IsExit : NetHere → Ident → ℕ → Found → Type 0
-IsExit h i t found =
+-- so many items an entry of the task may make
+abbrev pub most_items : Task → ℕ
+most_items t = unwrap_or (option_map (λ (m : Many). m.max) t.many) 1
+
+-- wherever the net stands free and its task with this number may be left, it is left by this event, if its exit leaves this
+abbrev pub IsExit : NetHere → Ident → ℕ → Outcome → Found → Type 0
+IsExit h i t out found =
     (names : ℕ → List ℕ) (f : Forest) (s : State) (x : TaskAt) → StandsFree names f s i h.net.now h.state.now → HoldsWithin s
-    → task_numbered s i t ≡ Some x → is_leaving s i x ≡ true → IsFound s (case_number i) found
+    → task_numbered s i t ≡ Some x → is_leaving s i x ≡ true → IsOutcomeAt h.net.now t h.state.now out → IsFound s (case_number i) found
 
 -- The event enters the task of this name in the net at i, whoever does it: from some places, with so many items, numbered from the counter on.
 -- It is allowed.

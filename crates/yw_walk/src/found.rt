@@ -2,16 +2,27 @@
 ghost use Rattle.std.specs.Prelude.{◌≡◌};
 ghost use Rattle.yw_walk.specs.Computed.{plainly};
 
+use yw_base::Row;
 use yw_mark::Taken;
 use yw_state::Event;
+use yw_task::Outcome;
 
 /// What was computed to find an event, so that its deed needn't compute it again.
 #[derive(Drop)]
 pub enum Computed {
     /// Nothing: the event says all that its deed wants.
     Nothing,
-    /// Of an entry: the number of its task in the net, and from which places the task's join takes.
-    Enter { task: usize, taken: Taken },
+    /// Of an entry: the number of its task in the net, from which places the task's join takes, and what each item is given.
+    Enter {
+        task: usize,
+        taken: Taken,
+        rows: Vec<Row>,
+    },
+    /// Of an exit: the number of its task in the net, and what the exit leaves.
+    Exit {
+        task: usize,
+        outcome: Outcome,
+    },
 }
 
 /// An event, with what was computed to find it.

@@ -1,35 +1,41 @@
 // What comes of itself of the tasks of a net.
-ghost use Rattle.std.specs.Prelude.{◌≡◌, ◌<◌, IfOk, List, Some, length, true};
-ghost use Rattle.yw_state.specs.Passing.{entry_values, within_bounds};
-ghost use Rattle.yw_state.specs.Values.{Row};
+ghost use Rattle.std.specs.Prelude.{◌≡◌, ◌<◌, ◌≤◌, IfOk, length};
 ghost use Rattle.std.specs.Option.{option_copied};
 ghost use Rattle.yw_enabled.specs.Left.{TellsNet};
-ghost use Rattle.yw_walk.specs.Finds.{FindsEntered, FindsLeft, IsEntry, IsExit, IsKnownHere};
+ghost use Rattle.yw_walk.specs.Finds.{FindsEntered, FindsLeft, IsEntry, IsExit, IsKnownHere, most_items};
 
 use crate::places::{places_of, taken_from};
 use crate::{Computed, Found};
 use std::alloc::{AllocError, Global};
-use yw_base::{Ident, Row};
+use yw_base::Ident;
 use yw_enabled::{first_entered, first_left};
-use yw_expr::view;
 use yw_known::NetHere;
 use yw_mark::Taken;
 use yw_spec::Task;
 use yw_state::Event;
-use yw_task::{element_count, exit_places, items_in, task_at};
+use yw_task::{Outcome, entry_rows, task_at};
 
-/// The exit of a task of the net at an identity: a token comes to each place of its split.
-fn exit_of(alloc: Global, here: &NetHere<'_>, at: &Ident, t: usize) -> Result<Found, AllocError>
+/// The exit of a task of the net at an identity, which leaves this: a token comes to each place of its split.
+fn exit_of(
+    alloc: Global,
+    here: &NetHere<'_>,
+    at: &Ident,
+    t: usize,
+    outcome: Outcome,
+) -> Result<Found, AllocError>
     requires { t < length here.now.net.now.tasks }
-    ensures { IfOk result (IsExit here.now at.now t) }
+    ensures { IfOk result (IsExit here.now at.now t outcome) }
 {
     let task = task_at(here.net, t);
-    let numbers = exit_places(alloc, task, items_in(here.state, t), &here.state.vals)?;
-    Ok(Found::plainly(Event::Exit {
+    let event = Event::Exit {
         net: at.copy(alloc)?,
         task: task.name.copy()?,
-        places: places_of(alloc, here.net, numbers.as_slice())?,
-    }))
+        places: places_of(alloc, here.net, outcome.places.as_slice())?,
+    };
+    Ok(Found {
+        event,
+        computed: Computed::Exit { task: t, outcome },
+    })
 }
 
 /// The exit of the first task of the net at an identity that may be left; `None` where none may. How many items of each task are done may be told. An
@@ -43,22 +49,18 @@ pub fn exit_at(
     ensures { TellsNet here.now.state.now (option_copied told.entry) → IfOk result (FindsLeft here.now at.now) }
 {
     match first_left(alloc, here.net, here.state, told)? {
-        Some(t) => Ok(Some(exit_of(alloc, here, at, t)?)),
+        Some((t, outcome)) => Ok(Some(exit_of(alloc, here, at, t, outcome)?)),
         None => Ok(None),
     }
 }
 
-/// How many items an entry makes, where they are within the task's bounds.
-fn entry_count(task: &Task, vals: &Row) -> u32
-    ensures { (rows : List Row) → entry_values task.now vals.now ≡ Some rows → within_bounds task.now.many (length rows) ≡ true
-        → result ≡ length rows }
+/// How many items an entry makes that gives so many rows, where these are no more than its task may have.
+fn entry_count(task: &Task, rows: usize) -> u32
+    ensures { rows ≤ most_items task.now → result ≡ rows }
 {
-    let Some(many) = &task.many else {
-        return 1;
-    };
-    match view(&many.each, vals) {
-        Some(list) => element_count(list).min(many.max as usize) as u32,
-        None => 0,
+    match &task.many {
+        Some(many) => rows.min(many.max as usize) as u32,
+        None => rows.min(1) as u32,
     }
 }
 
@@ -77,16 +79,21 @@ pub fn entry_of(
 {
     let task = task_at(here.net, t);
     let numbers = taken_from(alloc, task, &here.state.marks, taken)?;
+    let rows = entry_rows(alloc, task, &here.state.vals)?;
     let event = Event::Enter {
         net: at.copy(alloc)?,
         task: task.name.copy()?,
         places: places_of(alloc, here.net, numbers.as_slice())?,
         first: next,
-        count: entry_count(task, &here.state.vals),
+        count: entry_count(task, rows.len()),
     };
     Ok(Found {
         event,
-        computed: Computed::Enter { task: t, taken },
+        computed: Computed::Enter {
+            task: t,
+            taken,
+            rows,
+        },
     })
 }
 

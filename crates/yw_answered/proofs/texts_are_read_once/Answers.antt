@@ -1,5 +1,5 @@
 use Rattle.yw_answered.proofs.texts_are_read_once.Goals as goal
-use Rattle.yw_model.proofs.ReadingOnce.{reads_one}
+use Rattle.yw_texts.proofs.ReadingOnce.{reads_one}
 
 pub returns : goal.returns
 returns c = reads_one

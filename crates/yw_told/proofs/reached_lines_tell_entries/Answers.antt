@@ -1,7 +1,7 @@
 use Rattle.yw_accepted.proofs.Loaded.{accepted_are_sound, accepted_are_within}
 use Rattle.yw_invariant.proofs.FromOpening.{reached_is_well}
-use Rattle.yw_model.proofs.ReadingOnce.{reads_one}
-use Rattle.yw_model.specs.Texts.{reader}
+use Rattle.yw_texts.proofs.ReadingOnce.{reads_one}
+use Rattle.yw_texts.specs.Texts.{reader}
 use Rattle.yw_told.proofs.Entries as entries
 use Rattle.yw_told.proofs.reached_lines_tell_entries.Goals as goal
 

@@ -1,6 +1,6 @@
 use Rattle.yw_breaks.proofs.Whole as whole
 use Rattle.yw_breaks.proofs.laws.enter_joins.Goals as goal
-use Rattle.yw_model.specs.Texts.{reader}
+use Rattle.yw_texts.specs.Texts.{reader}
 
 pub returns : goal.returns
 returns c = whole.enter_joins reader

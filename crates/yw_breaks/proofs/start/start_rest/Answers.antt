@@ -7,7 +7,6 @@ use Rattle.yw_state.specs.Broken.{First, placeless}
 use Rattle.yw_state.specs.declared.rule.Refusal.{Refusal}
 
 pub returns : goal.returns
-returns c = λ f j says s h plain.
-    let who = c.args.who.now in
+returns c = λ known f who j has says s h plain.
     subst (λ (o : Option Refusal). First (start_rest s who j) o) (sym (c.refusal.ensures ∙ ap (option_map placeless) c.start_rule.ensures))
-    (starts_first c.args.known.now f s who j c.args.here.now h plain (says s h))
+    (starts_first known f s who c.args.roles.now has j c.args.here.now h plain (says s h))

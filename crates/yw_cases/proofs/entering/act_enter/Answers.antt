@@ -1,5 +1,5 @@
-use Rattle.std.proofs.Common.{arith, subst, ◌+◌}
-use Rattle.yw_cases.proofs.EnterLaw.{entered, entered_task, entry_number, entry_task, first_some, fits_below, may_come, room_there, task_grows}
+use Rattle.std.proofs.Common.{length, subst, ◌+◌}
+use Rattle.yw_cases.proofs.EnterLaw.{entered, entered_task, entry_number, entry_task, first_some, fits_below, may_come, room_there, rows_there, task_grows}
 use Rattle.yw_cases.proofs.TaskHere.{net_known}
 use Rattle.yw_cases.proofs.entering.act_enter.Goals as goal
 use Rattle.yw_cases.specs.State.{state_of}
@@ -15,7 +15,7 @@ come_at-requires-clause-may c =
     let h = c.args.standing.now in
     let known = c.in-Some.ensures _ c.requires.stands.held in
     let takes = subst (IsComputedOfEntry (state_of h) c.args.at.now c.args._name.now c.args._places.now) c.in-Enter.is c.requires.computed in
-    let task = entry_task h c.requires.stands c.args.at.now c.args._name.now c.args._places.now c.args.first c.args.count c.requires.leads c.in-Some.found known c.in-Enter.task c.in-Enter.taken takes in
+    let task = entry_task h c.requires.stands c.args.at.now c.args._name.now c.args._places.now c.args.first c.args.count c.requires.leads c.in-Some.found known c.in-Enter.task c.in-Enter.taken c.in-Enter.rows.items takes in
     task_grows h c.requires.stands c.args.at.now c.in-Some.found known c.in-Enter.task task.0 task.1
 
 pub come_at-requires-clause-come : goal.come_at-requires-clause-come
@@ -23,18 +23,27 @@ come_at-requires-clause-come c =
     let h = c.args.standing.now in
     let known = c.in-Some.ensures _ c.requires.stands.held in
     let takes = subst (IsComputedOfEntry (state_of h) c.args.at.now c.args._name.now c.args._places.now) c.in-Enter.is c.requires.computed in
-    let number = entry_number h c.requires.stands c.args.at.now c.args._name.now c.args._places.now c.args.first c.args.count c.requires.leads c.in-Some.found known c.in-Enter.task c.in-Enter.taken takes in
-    let task = entry_task h c.requires.stands c.args.at.now c.args._name.now c.args._places.now c.args.first c.args.count c.requires.leads c.in-Some.found known c.in-Enter.task c.in-Enter.taken takes in
+    let number = entry_number h c.requires.stands c.args.at.now c.args._name.now c.args._places.now c.args.first c.args.count c.requires.leads c.in-Some.found known c.in-Enter.task c.in-Enter.taken c.in-Enter.rows.items takes in
+    let task = entry_task h c.requires.stands c.args.at.now c.args._name.now c.args._places.now c.args.first c.args.count c.requires.leads c.in-Some.found known c.in-Enter.task c.in-Enter.taken c.in-Enter.rows.items takes in
     may_come h c.requires.stands c.args.at.now c.args._name.now c.args._places.now c.args.first c.args.count c.requires.leads c.in-Some.found known c.in-Enter.task number task.0 task.1
-    (let fits = c.ranges.count in omega (arith, fits))
+
+pub come_at-requires-clause-rows : goal.come_at-requires-clause-rows
+come_at-requires-clause-rows c =
+    let h = c.args.standing.now in
+    let known = c.in-Some.ensures _ c.requires.stands.held in
+    let takes = subst (IsComputedOfEntry (state_of h) c.args.at.now c.args._name.now c.args._places.now) c.in-Enter.is c.requires.computed in
+    let number = entry_number h c.requires.stands c.args.at.now c.args._name.now c.args._places.now c.args.first c.args.count c.requires.leads c.in-Some.found known c.in-Enter.task c.in-Enter.taken c.in-Enter.rows.items takes in
+    let task = entry_task h c.requires.stands c.args.at.now c.args._name.now c.args._places.now c.args.first c.args.count c.requires.leads c.in-Some.found known c.in-Enter.task c.in-Enter.taken c.in-Enter.rows.items takes in
+    rows_there h c.requires.stands c.args.at.now c.args._name.now c.args._places.now c.args.first c.args.count c.requires.leads c.in-Some.found known c.in-Enter.task number task.0 task.1
+    c.in-Enter.taken c.in-Enter.rows.items takes
 
 pub come_at-requires-clause-some : goal.come_at-requires-clause-some
 come_at-requires-clause-some c =
     let h = c.args.standing.now in
     let known = c.in-Some.ensures _ c.requires.stands.held in
     let takes = subst (IsComputedOfEntry (state_of h) c.args.at.now c.args._name.now c.args._places.now) c.in-Enter.is c.requires.computed in
-    let number = entry_number h c.requires.stands c.args.at.now c.args._name.now c.args._places.now c.args.first c.args.count c.requires.leads c.in-Some.found known c.in-Enter.task c.in-Enter.taken takes in
-    let task = entry_task h c.requires.stands c.args.at.now c.args._name.now c.args._places.now c.args.first c.args.count c.requires.leads c.in-Some.found known c.in-Enter.task c.in-Enter.taken takes in
+    let number = entry_number h c.requires.stands c.args.at.now c.args._name.now c.args._places.now c.args.first c.args.count c.requires.leads c.in-Some.found known c.in-Enter.task c.in-Enter.taken c.in-Enter.rows.items takes in
+    let task = entry_task h c.requires.stands c.args.at.now c.args._name.now c.args._places.now c.args.first c.args.count c.requires.leads c.in-Some.found known c.in-Enter.task c.in-Enter.taken c.in-Enter.rows.items takes in
     first_some h c.requires.stands c.args.at.now c.args._name.now c.args._places.now c.args.first c.args.count c.requires.leads c.in-Some.found known c.in-Enter.task number task.0 task.1
 
 pub overflow_add-standing : goal.overflow_add-standing
@@ -42,8 +51,8 @@ overflow_add-standing c =
     let h = c.args.standing.now in
     let known = c.in-Some.ensures _ c.requires.stands.held in
     let takes = subst (IsComputedOfEntry (state_of h) c.args.at.now c.args._name.now c.args._places.now) c.in-Enter.is c.requires.computed in
-    let number = entry_number h c.requires.stands c.args.at.now c.args._name.now c.args._places.now c.args.first c.args.count c.requires.leads c.in-Some.found known c.in-Enter.task c.in-Enter.taken takes in
-    let task = entry_task h c.requires.stands c.args.at.now c.args._name.now c.args._places.now c.args.first c.args.count c.requires.leads c.in-Some.found known c.in-Enter.task c.in-Enter.taken takes in
+    let number = entry_number h c.requires.stands c.args.at.now c.args._name.now c.args._places.now c.args.first c.args.count c.requires.leads c.in-Some.found known c.in-Enter.task c.in-Enter.taken c.in-Enter.rows.items takes in
+    let task = entry_task h c.requires.stands c.args.at.now c.args._name.now c.args._places.now c.args.first c.args.count c.requires.leads c.in-Some.found known c.in-Enter.task c.in-Enter.taken c.in-Enter.rows.items takes in
     fits_below (c.args.first + c.args.count) (room_there h c.requires.stands c.args.at.now c.args._name.now c.args._places.now c.args.first c.args.count c.requires.leads c.in-Some.found known c.in-Enter.task number task.0 task.1)
 
 pub returns : goal.returns
@@ -51,7 +60,7 @@ returns c =
     let h = c.args.standing.now in
     let known = c.in-Some.ensures _ c.requires.stands.held in
     let takes = subst (IsComputedOfEntry (state_of h) c.args.at.now c.args._name.now c.args._places.now) c.in-Enter.is c.requires.computed in
-    let number = entry_number h c.requires.stands c.args.at.now c.args._name.now c.args._places.now c.args.first c.args.count c.requires.leads c.in-Some.found known c.in-Enter.task c.in-Enter.taken takes in
-    let task = entry_task h c.requires.stands c.args.at.now c.args._name.now c.args._places.now c.args.first c.args.count c.requires.leads c.in-Some.found known c.in-Enter.task c.in-Enter.taken takes in
+    let number = entry_number h c.requires.stands c.args.at.now c.args._name.now c.args._places.now c.args.first c.args.count c.requires.leads c.in-Some.found known c.in-Enter.task c.in-Enter.taken c.in-Enter.rows.items takes in
+    let task = entry_task h c.requires.stands c.args.at.now c.args._name.now c.args._places.now c.args.first c.args.count c.requires.leads c.in-Some.found known c.in-Enter.task c.in-Enter.taken c.in-Enter.rows.items takes in
     entered h c.requires.stands c.args.at.now c.args._name.now c.args._places.now c.args.first c.args.count c.requires.leads c.in-Some.found known c.in-Enter.task number task.0 task.1
-    c.in-Enter.taken takes c.come_at.new.forest c.in_ok-come_at.field-0 c.in_ok-come_at.ensures
+    c.in-Enter.taken c.in-Enter.rows.items takes c.come_at.new.forest (length c.in-Enter.rows.items) c.in_ok-come_at.ensures

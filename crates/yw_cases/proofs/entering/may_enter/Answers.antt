@@ -1,4 +1,5 @@
-use Rattle.std.proofs.Common.{List, false, subst, sym, ◌∙◌, ◌≡◌}
+use Rattle.std.proofs.Common.{List, ap, false, length, subst, sym, ◌∙◌, ◌≡◌}
+use Rattle.std.specs.Prelude.{◌&&◌, ◌==◌}
 use Rattle.yw_cases.proofs.EntryLaw.{enters_by, no_task, not_drawn, not_entered, not_taken}
 use Rattle.yw_cases.proofs.TaskHere.{no_name_no_task, no_net_no_task, no_number_no_task}
 use Rattle.yw_cases.proofs.entering.may_enter.Goals as goal
@@ -41,14 +42,18 @@ pub returns-then-not-draws_items : goal.returns-then-not-draws_items
 returns-then-not-draws_items c =
     not_drawn c.args.standing.now c.requires c.args.at.now c.args.name.now c.args.places.now c.args.first c.args.count c.in-Some.here (c.in-Some.ensures _ c.requires.held) c.in-Some-task_called.t
     (sym c.in-Some-task_called.ensures) c.in-Some-get.task.now (sym c.in-Some-get.ensures)
-    (sym c.draws_items.ensures ∙ c.if-not-draws_items.true)
+    (ap (λ k. c.args.first == c.args.standing.now.next && k == c.args.count) (sym (c.len.ensures ∙ c.in_ok-rows.rows.ok.0 ∙ ap length c.in_ok-rows.ensures)) ∙ sym c.draws_items.ensures ∙ c.if-not-draws_items.true)
+
+pub choice_of-requires : goal.choice_of-requires
+choice_of-requires c = let here = c.in-Some.ensures (state_of c.args.standing.now) c.requires.held in here.within.places
 
 pub returns-in-Some-2 : goal.returns-in-Some-2
 returns-in-Some-2 c =
     let here = c.in-Some.here in
     let task = c.in-Some-get.task.now in
     enters_by c.args.standing.now c.requires c.args.at.now c.args.name.now c.args.places.now c.args.first c.args.count here (c.in-Some.ensures _ c.requires.held) c.in-Some-task_called.t
-    (sym c.in-Some-task_called.ensures) task (sym c.in-Some-get.ensures) c.in-Some-may_be_entered.field-0 c.in-Some-may_be_entered.ensures.some (sym c.draws_items.ensures ∙ c.if-not-draws_items.false)
+    (sym c.in-Some-task_called.ensures) task (sym c.in-Some-get.ensures) c.in-Some-may_be_entered.field-0 c.in-Some-may_be_entered.ensures.some c.in_ok-rows.rows c.in_ok-rows.ensures
+    (ap (λ k. c.args.first == c.args.standing.now.next && k == c.args.count) (sym (c.len.ensures ∙ c.in_ok-rows.rows.ok.0)) ∙ sym c.draws_items.ensures ∙ c.if-not-draws_items.false)
     c.in-Some-2.taken
     (subst (λ (ps : List Place). IsChoice here.net.now (out-NetState here.state.now).marks task ps c.in-Some-2.taken) c.as_slice.ensures
     (subst (FindsChoice here.net.now (out-NetState here.state.now).marks task c.as_slice.result.now) c.in-Some-2.is c.in_ok-taken.ensures))

@@ -1,22 +1,9 @@
-use Rattle.std.proofs.Common.{List, subst, sym, ℕ}
-use Rattle.yw_cases.proofs.Ending.{advances_so}
+use Rattle.std.proofs.Common.{subst}
 use Rattle.yw_cases.proofs.event.act.Goals as goal
 use Rattle.yw_cases.specs.State.{state_of}
-use Rattle.yw_cases.specs.Tried.{IsDone, LeadsOn}
+use Rattle.yw_cases.specs.Tried.{LeadsOn}
 use Rattle.yw_state.specs.declared.event.Event.{Event}
-use Rattle.yw_state.specs.declared.event.Event.TheVariants as events
 use Rattle.yw_walk.specs.Computed.{IsComputedOf}
-
-pub act_person-requires-clause-leads : goal.act_person-requires-clause-leads
-act_person-requires-clause-leads c = subst (LeadsOn c.args.standing.now) c.in-Person.is c.requires.leads
-
-pub act_load-requires-clause-leads : goal.act_load-requires-clause-leads
-act_load-requires-clause-leads c =
-    subst (λ (text : List ℕ). LeadsOn c.args.standing.now (events.Load c.in-Load.name text)) (sym c.as_str.ensures)
-    (subst (LeadsOn c.args.standing.now) c.in-Load.is c.requires.leads)
-
-pub act_launch-requires-clause-leads : goal.act_launch-requires-clause-leads
-act_launch-requires-clause-leads c = subst (LeadsOn c.args.standing.now) c.in-Launch.is c.requires.leads
 
 pub act_enter-requires-clause-leads : goal.act_enter-requires-clause-leads
 act_enter-requires-clause-leads c = subst (LeadsOn c.args.standing.now) c.in-Enter.is c.requires.leads
@@ -24,34 +11,8 @@ act_enter-requires-clause-leads c = subst (LeadsOn c.args.standing.now) c.in-Ent
 pub act_enter-requires-clause-computed : goal.act_enter-requires-clause-computed
 act_enter-requires-clause-computed c = subst (λ (e : Event). IsComputedOf (state_of c.args.standing.now) e c.args.computed) c.in-Enter.is c.requires.computed
 
-pub act_add-requires-clause-leads : goal.act_add-requires-clause-leads
-act_add-requires-clause-leads c = subst (LeadsOn c.args.standing.now) c.in-Add.is c.requires.leads
-
-pub act_start-requires-clause-leads : goal.act_start-requires-clause-leads
-act_start-requires-clause-leads c = subst (LeadsOn c.args.standing.now) c.in-Start.is c.requires.leads
-
-pub act_complete-requires-clause-leads : goal.act_complete-requires-clause-leads
-act_complete-requires-clause-leads c = subst (LeadsOn c.args.standing.now) c.in-Complete.is c.requires.leads
-
 pub act_exit-requires-clause-leads : goal.act_exit-requires-clause-leads
 act_exit-requires-clause-leads c = subst (LeadsOn c.args.standing.now) c.in-Exit.is c.requires.leads
 
-pub act_finish-requires-clause-leads : goal.act_finish-requires-clause-leads
-act_finish-requires-clause-leads c = subst (LeadsOn c.args.standing.now) c.in-Finish.is c.requires.leads
-
-pub act_cancel-requires-clause-leads : goal.act_cancel-requires-clause-leads
-act_cancel-requires-clause-leads c = subst (LeadsOn c.args.standing.now) c.in-Cancel.is c.requires.leads
-
-pub act_start_sub-requires-clause-leads : goal.act_start_sub-requires-clause-leads
-act_start_sub-requires-clause-leads c = subst (LeadsOn c.args.standing.now) c.in-StartSub.is c.requires.leads
-
-pub act_complete_sub-requires-clause-leads : goal.act_complete_sub-requires-clause-leads
-act_complete_sub-requires-clause-leads c = subst (LeadsOn c.args.standing.now) c.in-CompleteSub.is c.requires.leads
-
-pub act_complete_empty-requires-clause-leads : goal.act_complete_empty-requires-clause-leads
-act_complete_empty-requires-clause-leads c = subst (LeadsOn c.args.standing.now) c.in-CompleteEmpty.is c.requires.leads
-
-pub returns-in-Advance : goal.returns-in-Advance
-returns-in-Advance c =
-    subst (λ e. IsDone c.args.standing.now e c.args.standing.now) (sym c.in-Advance.is)
-    (advances_so c.args.standing.now c.requires.stands _ (subst (LeadsOn c.args.standing.now) c.in-Advance.is c.requires.leads))
+pub act_exit-requires-clause-computed : goal.act_exit-requires-clause-computed
+act_exit-requires-clause-computed c = subst (λ (e : Event). IsComputedOf (state_of c.args.standing.now) e c.args.computed) c.in-Exit.is c.requires.computed

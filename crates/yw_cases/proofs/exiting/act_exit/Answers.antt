@@ -1,32 +1,39 @@
-use Rattle.std.proofs.Common.{sym}
-use Rattle.yw_cases.proofs.ExitLaw.{exit_named, exit_net, exited, has_task, is_exit_so, net_stands}
+use Rattle.std.proofs.Common.{subst}
+use Rattle.yw_cases.proofs.ExitLaw.{exit_task, exited, has_task, net_stands, outcome_there}
+use Rattle.yw_cases.proofs.TaskHere.{net_known}
 use Rattle.yw_cases.proofs.exiting.act_exit.Goals as goal
+use Rattle.yw_cases.specs.State.{state_of}
+use Rattle.yw_walk.specs.Computed.{IsComputedOfExit}
 
-pub unreachable-requires : goal.unreachable-requires
-unreachable-requires c =
-    exit_net c.args.standing.now c.requires.stands c.args.at.now c.args.name.now c.args._places.now c.requires.leads c.known_net.result c.in_default.is
-    (c.known_net.ensures _ c.requires.stands.held)
-
-pub unreachable-requires-in_default-task_called : goal.unreachable-requires-in_default-task_called
-unreachable-requires-in_default-task_called c =
-    exit_named c.args.standing.now c.requires.stands c.args.at.now c.args.name.now c.args._places.now c.requires.leads c.in-Some.found
-    (c.in-Some.ensures _ c.requires.stands.held) (sym c.in_default-task_called.ensures)
+pub unreachable-requires-in_default-known_net : goal.unreachable-requires-in_default-known_net
+unreachable-requires-in_default-known_net c =
+    let x = exit_task c.args.standing.now c.requires.stands c.args.at.now c.args._name.now c.args._places.now c.requires.leads in
+    net_known c.args.standing.now c.args.at.now c.args._name.now x.0 x.1 c.known_net.result c.in_default-known_net.is (c.known_net.ensures _ c.requires.stands.held)
 
 pub exit-requires-clause-stands : goal.exit-requires-clause-stands
 exit-requires-clause-stands c =
-    let known = c.in-Some.ensures _ c.requires.stands.held in
-    let is = is_exit_so c.args.standing.now c.requires.stands c.args.at.now c.args.name.now c.args._places.now c.requires.leads c.in-Some.found known c.in-Some-task_called.t (sym c.in-Some-task_called.ensures) in
-    net_stands c.args.standing.now c.requires.stands c.args.at.now c.args.name.now c.args._places.now c.in-Some-task_called.t is c.in-Some.found known
+    let h = c.args.standing.now in
+    let left = subst (IsComputedOfExit (state_of h) c.args.at.now c.args._name.now) c.in-Exit.is c.requires.computed in
+    net_stands h c.requires.stands c.args.at.now c.args._name.now c.args._places.now c.requires.leads c.in-Some.found (c.in-Some.ensures _ c.requires.stands.held)
+    c.in-Exit.task c.in-Exit.outcome left
 
 pub exit-requires-clause-task : goal.exit-requires-clause-task
 exit-requires-clause-task c =
-    let known = c.in-Some.ensures _ c.requires.stands.held in
-    let is = is_exit_so c.args.standing.now c.requires.stands c.args.at.now c.args.name.now c.args._places.now c.requires.leads c.in-Some.found known c.in-Some-task_called.t (sym c.in-Some-task_called.ensures) in
-    has_task c.args.standing.now c.requires.stands c.args.at.now c.args.name.now c.args._places.now c.in-Some-task_called.t is c.in-Some.found known
+    let h = c.args.standing.now in
+    let left = subst (IsComputedOfExit (state_of h) c.args.at.now c.args._name.now) c.in-Exit.is c.requires.computed in
+    has_task h c.requires.stands c.args.at.now c.args._name.now c.args._places.now c.requires.leads c.in-Some.found (c.in-Some.ensures _ c.requires.stands.held)
+    c.in-Exit.task c.in-Exit.outcome left
+
+pub exit-requires-clause-outcome : goal.exit-requires-clause-outcome
+exit-requires-clause-outcome c =
+    let h = c.args.standing.now in
+    let left = subst (IsComputedOfExit (state_of h) c.args.at.now c.args._name.now) c.in-Exit.is c.requires.computed in
+    outcome_there h c.requires.stands c.args.at.now c.args._name.now c.args._places.now c.requires.leads c.in-Some.found (c.in-Some.ensures _ c.requires.stands.held)
+    c.in-Exit.task c.in-Exit.outcome left
 
 pub returns : goal.returns
 returns c =
-    let known = c.in-Some.ensures _ c.requires.stands.held in
-    let is = is_exit_so c.args.standing.now c.requires.stands c.args.at.now c.args.name.now c.args._places.now c.requires.leads c.in-Some.found known c.in-Some-task_called.t (sym c.in-Some-task_called.ensures) in
-    exited c.args.standing.now c.requires.stands c.args.at.now c.args.name.now c.args._places.now c.in-Some-task_called.t is c.in-Some.found known c.exit.new.forest
-    c.in_ok-_numbers.ensures.ok
+    let h = c.args.standing.now in
+    let left = subst (IsComputedOfExit (state_of h) c.args.at.now c.args._name.now) c.in-Exit.is c.requires.computed in
+    exited h c.requires.stands c.args.at.now c.args._name.now c.args._places.now c.requires.leads c.in-Some.found (c.in-Some.ensures _ c.requires.stands.held)
+    c.in-Exit.task c.in-Exit.outcome left c.exit.new.forest c.exit.ensures

@@ -1,10 +1,13 @@
-use Rattle.std.proofs.Common.{subst, sym}
-use Rattle.std.proofs.lemmas.Result.{IfOk-weaker}
-use Rattle.yw_cases.proofs.ExitLaw.{no_task, not_leaving, tells_exit}
+use Rattle.std.proofs.Common.{subst, sym, ◌∙◌}
+use Rattle.std.specs.Cmp.Lexicographic.{pointwise}
+use Rattle.std.specs.Prelude.{nat_eq}
+use Rattle.yw_cases.proofs.ExitLaw.{exits_by, no_task, not_leaving, not_split}
 use Rattle.yw_cases.proofs.TaskHere.{no_name_no_task, no_net_no_task, no_number_no_task}
 use Rattle.yw_cases.proofs.exiting.may_exit.Goals as goal
 use Rattle.yw_cases.specs.State.{state_of}
-use Rattle.yw_enabled.specs.Left.{IsLeavingAs}
+use Rattle.yw_enabled.specs.Left.{LeavesAs}
+use Rattle.yw_state.specs.Allowed.{place_numbers}
+use Rattle.yw_state.specs.Options.{is_some_and}
 use Rattle.yw_tree.proofs.Removed.{within}
 
 pub returns-in_default : goal.returns-in_default
@@ -22,18 +25,29 @@ returns-in_default-get c =
     (sym c.in_default-get.ensures))
 
 pub may_be_left-requires : goal.may_be_left-requires
-may_be_left-requires c = within c.in-Some.here.net.now.tasks c.in-Some-task_called.t c.in-Some-get.task.now (sym c.in-Some-get.ensures)
+may_be_left-requires c = within c.in-Some.here.net.now.tasks c.in-Some-task_called.t c.in-Some-get.field-0.now (sym c.in-Some-get.ensures)
 
-pub returns-then-not-branch : goal.returns-then-not-branch
-returns-then-not-branch c =
+pub are_numbered-requires : goal.are_numbered-requires
+are_numbered-requires c = let here = c.in-Some.ensures (state_of c.args.standing.now) c.requires.held in here.within.places
+
+pub returns-in_default-2 : goal.returns-in_default-2
+returns-in_default-2 c =
     not_leaving c.args.standing.now c.requires c.args.at.now c.args.name.now c.args.places.now c.in-Some.here (c.in-Some.ensures _ c.requires.held) c.in-Some-task_called.t
-    (sym c.in-Some-task_called.ensures) c.in-Some-get.task.now (sym c.in-Some-get.ensures)
-    (subst (IsLeavingAs c.in-Some.here.net.now c.in-Some.here.state.now c.in-Some-task_called.t) c.if-not-branch.true (c.in_ok-may_be_left.ensures tt))
+    (sym c.in-Some-task_called.ensures) c.in-Some-get.field-0.now (sym c.in-Some-get.ensures)
+    (subst (LeavesAs c.in-Some.here.net.now c.in-Some.here.state.now c.in-Some-task_called.t) c.in_default-2.is (c.in_ok-outcome.ensures tt))
+
+pub returns-then-not-are_numbered : goal.returns-then-not-are_numbered
+returns-then-not-are_numbered c =
+    let net = c.in-Some.here.net.now in
+    not_split c.args.standing.now c.requires c.args.at.now c.args.name.now c.args.places.now c.in-Some.here (c.in-Some.ensures _ c.requires.held) c.in-Some-task_called.t
+    (sym c.in-Some-task_called.ensures) c.in-Some-get.field-0.now (sym c.in-Some-get.ensures) c.in-Some-2.outcome
+    (subst (LeavesAs net c.in-Some.here.state.now c.in-Some-task_called.t) c.in-Some-2.is (c.in_ok-outcome.ensures tt))
+    ((λ k. is_some_and (place_numbers net (sym c.as_slice.ensures k)) (λ cs. pointwise nat_eq cs (sym c.as_slice-2.ensures k))) ∙ sym c.are_numbered.ensures ∙ c.if-not-are_numbered.true)
 
 pub returns : goal.returns
 returns c =
-    IfOk-weaker c.splits_to.result _ _
-    (λ b e. tells_exit c.args.standing.now c.requires c.args.at.now c.args.name.now c.args.places.now c.in-Some.here (c.in-Some.ensures _ c.requires.held) c.in-Some-task_called.t
-    (sym c.in-Some-task_called.ensures) c.in-Some-get.task.now (sym c.in-Some-get.ensures)
-    (subst (IsLeavingAs c.in-Some.here.net.now c.in-Some.here.state.now c.in-Some-task_called.t) c.if-not-branch.false (c.in_ok-may_be_left.ensures tt)) b (sym e))
-    c.splits_to.ensures
+    let net = c.in-Some.here.net.now in
+    exits_by c.args.standing.now c.requires c.args.at.now c.args.name.now c.args.places.now c.in-Some.here (c.in-Some.ensures _ c.requires.held) c.in-Some-task_called.t
+    (sym c.in-Some-task_called.ensures) c.in-Some-get.field-0.now (sym c.in-Some-get.ensures) c.in-Some-2.outcome
+    (subst (LeavesAs net c.in-Some.here.state.now c.in-Some-task_called.t) c.in-Some-2.is (c.in_ok-outcome.ensures tt))
+    ((λ k. is_some_and (place_numbers net (sym c.as_slice.ensures k)) (λ cs. pointwise nat_eq cs (sym c.as_slice-2.ensures k))) ∙ sym c.are_numbered.ensures ∙ c.if-not-are_numbered.false)

@@ -11,14 +11,14 @@ use Rattle.yw_state.specs.declared.event.Event.TheVariants as events
 
 pub complete_sub-requires-clause-may : goal.complete_sub-requires-clause-may
 complete_sub-requires-clause-may c =
-    let is = outer_found c.args.standing.now c.args.j.now c.in_ok-outer.field-0 c.in-Some.outer c.in-Some.is (c.in_ok-outer.ensures _ c.requires.stands.held) in
+    let is = outer_found c.args.standing.now c.args.j.now c.outer_net.result c.in-Some.outer c.in-Some.is (c.outer_net.ensures _ c.requires.stands.held) in
     sub_may_end c.args.standing.now c.requires.stands c.args.j.now (ends_so c.args.standing.now c.requires.stands c.args.j.now c.requires.leads) (with_state c.in-Some.outer is.state) is.here
 
 pub returns : goal.returns
 returns c =
     let old = c.args.standing.now in
     let j = c.args.j.now in
-    let is = outer_found old j c.in_ok-outer.field-0 c.in-Some.outer c.in-Some.is (c.in_ok-outer.ensures _ c.requires.stands.held) in
+    let is = outer_found old j c.outer_net.result c.in-Some.outer c.in-Some.is (c.outer_net.ensures _ c.requires.stands.held) in
     let new = c.complete_sub.new.forest in
     if_ok c.complete_sub.result (λ _. CompletesSub c.in-Some.outer.spec.now j no_checks old.forest new) (λ _. IsDone old (events.CompleteSub j) (record old { forest = new }))
     c.complete_sub.ensures.ok
@@ -26,5 +26,5 @@ returns c =
 
 pub unreachable-requires : goal.unreachable-requires
 unreachable-requires c =
-    outer_none c.args.standing.now c.args.j.now c.in_ok-outer.field-0 c.in_default.is (c.in_ok-outer.ensures _ c.requires.stands.held) CompleteSub
+    outer_none c.args.standing.now c.args.j.now c.outer_net.result c.in_default.is (c.outer_net.ensures _ c.requires.stands.held) CompleteSub
     (and_left _ _ (ends_so c.args.standing.now c.requires.stands c.args.j.now c.requires.leads))

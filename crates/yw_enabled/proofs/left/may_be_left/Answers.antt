@@ -1,15 +1,15 @@
-use Rattle.std.proofs.Common.{sym, ◌∙◌, ◌≡◌}
-use Rattle.yw_enabled.proofs.LeaveLaw.{by_room, too_few}
+use Rattle.std.proofs.Common.{sym, ◌∙◌}
+use Rattle.yw_enabled.proofs.LeaveLaw.{by_outcome, too_few}
 use Rattle.yw_enabled.proofs.Results.{ok_then}
 use Rattle.yw_enabled.proofs.left.may_be_left.Goals as goal
-use Rattle.yw_enabled.specs.Left.{IsLeavingAs, split_has_room}
+use Rattle.yw_enabled.specs.Left.{FindsRoom, LeavesAs}
 
 pub returns-then-are_enough : goal.returns-then-are_enough
 returns-then-are_enough c = λ right.
     let task = c.task_at-task.result.now in
     let ns = c.items_in-nodes.result.now in
-    ok_then c.split_has_room.result (λ room. room ≡ split_has_room c.args.state.now task ns) (IsLeavingAs c.args.net.now c.args.state.now c.args.t) c.split_has_room.ensures
-    (by_room c.args.net.now c.args.state.now c.args.t task ns c.task_at-task.ensures c.items_in-nodes.ensures c.args.told right
+    ok_then c.outcome_with_room.result (FindsRoom c.args.state.now task ns) (LeavesAs c.args.net.now c.args.state.now c.args.t) c.outcome_with_room.ensures
+    (by_outcome c.args.net.now c.args.state.now c.args.t task ns c.task_at-task.ensures c.items_in-nodes.ensures c.args.told right
     (sym c.are_enough.ensures ∙ c.if-are_enough.true))
 
 pub returns : goal.returns

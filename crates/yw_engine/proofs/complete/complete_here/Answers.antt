@@ -2,10 +2,10 @@ use Rattle.std.proofs.Common.{None, Option, Some, subst}
 use Rattle.yw_breaks.proofs.Whole.{complete_joins}
 use Rattle.yw_breaks.specs.Tables.{complete_front, complete_most, complete_rest}
 use Rattle.yw_cases.specs.State.{state_of}
-use Rattle.yw_engine.proofs.Completes.{asked, its_task, last_first, most_first, values_there}
+use Rattle.yw_engine.proofs.Completes.{asked, fits, its_task, last_first, most_first}
 use Rattle.yw_engine.proofs.Fronts.{behind, moving}
 use Rattle.yw_engine.proofs.complete.complete_here.Goals as goal
-use Rattle.yw_model.specs.Texts.{reader}
+use Rattle.yw_texts.specs.Texts.{reader}
 use Rattle.yw_state.specs.Broken.{First}
 use Rattle.yw_state.specs.declared.command.Command.TheVariants as commands
 use Rattle.yw_state.specs.declared.rule.Refusal.{Refusal}
@@ -34,8 +34,8 @@ returns-in-Some-2 c =
     c.case_number.result c.case_number.ensures c.in_ok-refusal.field-0 c.in_ok-refusal.ensures c.in_default.is
     (Some c.in-Some-2.refusal) (most_first h may who j gs c.in-Some-2.refusal most)
 
-pub unreachable-requires : goal.unreachable-requires
-unreachable-requires c =
+pub complete_values-requires : goal.complete_values-requires
+complete_values-requires c =
     let h = c.args.work.now.standing in
     let may = c.requires.stands in
     let s = state_of h in
@@ -44,15 +44,14 @@ unreachable-requires c =
     let gs = c.args.given.now in
     let most = subst (λ (o : Option Refusal). First (complete_most s who j gs) o) c.in_default-2.is
     (c.in_ok-refusal-2.ensures h.known h.forest j c.requires.says s may.held may.plain) in
-    values_there h may who j gs c.args.here.now c.requires.says most c.in_ok-out.field-0
-    (c.in_ok-out.ensures h.known h.forest j c.requires.says) c.in_default-3.is
+    fits h may who j gs c.args.here.now c.requires.says most
 
 pub ask_complete-requires : goal.ask_complete-requires
 ask_complete-requires c =
     its_task c.args.work.now.standing c.requires.stands c.args.who.now c.args.item c.args.given.now c.args.here.now c.requires.says
 
-pub returns-in-Some-4 : goal.returns-in-Some-4
-returns-in-Some-4 c =
+pub returns-in-Some-3 : goal.returns-in-Some-3
+returns-in-Some-3 c =
     let h = c.args.work.now.standing in
     let may = c.requires.stands in
     let s = state_of h in
@@ -61,12 +60,11 @@ returns-in-Some-4 c =
     let gs = c.args.given.now in
     let most = subst (λ (o : Option Refusal). First (complete_most s who j gs) o) c.in_default-2.is
     (c.in_ok-refusal-2.ensures h.known h.forest j c.requires.says s may.held may.plain) in
-    let last = last_first h may who j gs c.args.here.now c.requires.says most c.in_ok-out.field-0
-    (c.in_ok-out.ensures h.known h.forest j c.requires.says) c.in-Some-3.out c.in-Some-3.is
-    c.in_ok-refusal-3.field-0 c.in_ok-refusal-3.ensures in
+    let last = last_first h may who j gs c.args.here.now c.requires.says most c.in_ok-out.out
+    (c.in_ok-out.ensures h.known h.forest j c.requires.says) c.in_ok-refusal-3.field-0 c.in_ok-refusal-3.ensures in
     behind h (commands.Complete who j gs) j (complete_front s who j gs) (complete_rest s who j gs) (complete_joins reader s who j gs) c.requires.front
     c.case_number.result c.case_number.ensures c.in_ok-refusal.field-0 c.in_ok-refusal.ensures c.in_default.is
-    (Some c.in-Some-4.refusal) (subst (λ (o : Option Refusal). First (complete_rest s who j gs) o) c.in-Some-4.is last)
+    (Some c.in-Some-3.refusal) (subst (λ (o : Option Refusal). First (complete_rest s who j gs) o) c.in-Some-3.is last)
 
 pub returns-in-None : goal.returns-in-None
 returns-in-None c =
@@ -80,10 +78,9 @@ returns-in-None c =
     let makes = c.in_ok-out.ensures h.known h.forest j says in
     let most = subst (λ (o : Option Refusal). First (complete_most s who j gs) o) c.in_default-2.is
     (c.in_ok-refusal-2.ensures h.known h.forest j says s may.held may.plain) in
-    let last = last_first h may who j gs c.args.here.now says most c.in_ok-out.field-0 makes c.in-Some-3.out c.in-Some-3.is
-    c.in_ok-refusal-3.field-0 c.in_ok-refusal-3.ensures in (
+    let last = last_first h may who j gs c.args.here.now says most c.in_ok-out.out makes c.in_ok-refusal-3.field-0 c.in_ok-refusal-3.ensures in (
       behind h (commands.Complete who j gs) j (complete_front s who j gs) (complete_rest s who j gs) (complete_joins reader s who j gs) c.requires.front
           c.case_number.result c.case_number.ensures c.in_ok-refusal.field-0 c.in_ok-refusal.ensures c.in_default.is
           None (subst (λ (o : Option Refusal). First (complete_rest s who j gs) o) c.in-None.is last),
-      asked h may who j gs c.args.here.now says most c.in_ok-out.field-0 makes c.in-Some-3.out c.in-Some-3.is,
+      asked h may who j gs c.args.here.now says most c.in_ok-out.out makes,
     )

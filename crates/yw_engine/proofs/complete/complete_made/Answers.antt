@@ -6,18 +6,18 @@ use Rattle.yw_engine.proofs.Fronts.{in_front}
 use Rattle.yw_engine.proofs.Parts.{held_by, says_item}
 use Rattle.yw_engine.proofs.complete.complete_made.Goals as goal
 use Rattle.yw_engine.specs.Decides.{BreaksNow}
-use Rattle.yw_model.specs.Texts.{reader}
+use Rattle.yw_texts.specs.Texts.{reader}
 use Rattle.yw_state.specs.declared.command.Command.TheVariants as commands
 use Rattle.yw_state.specs.declared.rule.Refusal.{Refusal}
 
 pub complete_here-requires-clause-says : goal.complete_here-requires-clause-says
 complete_here-requires-clause-says c =
-    says_item c.args.work.now.standing c.known.result.now c.forest.result.now c.known.ensures c.forest.ensures c.args.item c.in-Ok.here c.in-Ok.ensures.1
+    says_item c.args.work.now.standing c.known.result.now c.forest.result.now c.known.ensures c.forest.ensures c.args.item c.in-Ok.asked.here c.in-Ok.ensures.says
 
 pub complete_here-requires-clause-front : goal.complete_here-requires-clause-front
 complete_here-requires-clause-front c =
     let h = c.args.work.now.standing in
-    c.in-Ok.ensures.0 (state_of h) (held_by h c.known.result.now c.forest.result.now c.known.ensures c.forest.ensures c.requires)
+    c.in-Ok.ensures.unbroken (state_of h) (held_by h c.known.result.now c.forest.result.now c.known.ensures c.forest.ensures c.requires)
 
 pub returns-in-Err : goal.returns-in-Err
 returns-in-Err c =

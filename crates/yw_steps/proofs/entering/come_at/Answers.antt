@@ -1,5 +1,5 @@
-use Rattle.std.proofs.Common.{Some, ap, sym, ◌∙◌, ◌≡◌}
-use Rattle.std.proofs.lemmas.Result.{IfOk-weaker}
+use Rattle.std.proofs.Common.{Some, ap, length, sym, ◌∙◌, ◌≡◌}
+use Rattle.std.proofs.lemmas.Result.{on_ok_weaker}
 use Rattle.std.specs.Option.{option_copied_mut}
 use Rattle.yw_state.proofs.Tests.{nowhere}
 use Rattle.yw_steps.proofs.EnterLaw.{enters}
@@ -14,6 +14,9 @@ unreachable-requires c = nowhere (sym (ap option_copied_mut c.in-None.is) ∙ c.
 pub come-requires-clause-may : goal.come-requires-clause-may
 come-requires-clause-may c = c.requires.come c.in-Some.state.now (sym (rw c.in-Some.is at c.net_mut.ensures.value))
 
+pub come-requires-clause-rows : goal.come-requires-clause-rows
+come-requires-clause-rows c = c.requires.rows c.in-Some.state.now (sym (rw c.in-Some.is at c.net_mut.ensures.value))
+
 pub come-requires-clause-boxed : goal.come-requires-clause-boxed
 come-requires-clause-boxed c =
     let f = c.args.forest.now in
@@ -27,5 +30,5 @@ returns c =
     let i = c.args.at.now in
     let old = c.in-Some.state.now in
     let found : net_at f i ≡ Some old = sym (rw c.in-Some.is at c.net_mut.ensures.value) in
-    IfOk-weaker c.come.result _ _
-    (λ count does. enters f c.requires.boxed i c.net_mut.ensures.identity old found c.args.net.now c.args.t c.args.taken c.args.first c.args.due c.come.new.state count does) c.come.ensures
+    on_ok_weaker c.come.result
+    (enters f c.requires.boxed i c.net_mut.ensures.identity old found c.args.net.now c.args.t c.args.taken c.args.first c.args.due c.come.new.state (length c.args.rows.items)) c.come.ensures

@@ -1,4 +1,4 @@
-use Rattle.yw_model.specs.Accepted.{document_in}
+use Rattle.yw_texts.specs.Accepted.{document_in}
 use Rattle.yw_verdict.proofs.FoundLemmas.{document_of_others, no_text}
 use Rattle.yw_verdict.proofs.finding.judge_bytes.Goals as goal
 

@@ -1,4 +1,4 @@
-use Rattle.yw_model.specs.Texts.{ReadsSpec}
+use Rattle.yw_texts.specs.Texts.{ReadsSpec}
 use Rattle.yw_read.specs.Reading.{spec_in}
 use Rattle.yw_verdict.specs.Found.{SaysSpec}
 use Rattle.std.proofs.lemmas.Result.{IfOk-weaker}

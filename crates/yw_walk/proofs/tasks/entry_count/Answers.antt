@@ -1,11 +1,15 @@
-use Rattle.std.proofs.Common.{ap, min, ◌∙◌}
+use Rattle.std.proofs.Common.{Option, subst, ◌∙◌, ◌≤◌}
 use Rattle.std.proofs.Math.Nat.{min-eq_left}
-use Rattle.yw_base.specs.Values.{value_of}
-use Rattle.yw_walk.proofs.Entering.{list_counts}
+use Rattle.std.specs.Prelude.{option_map, unwrap_or}
+use Rattle.yw_spec.specs.declared.task.Many.{Many}
 use Rattle.yw_walk.proofs.tasks.entry_count.Goals as goal
 
-pub returns-in-Some-view : goal.returns-in-Some-view
-returns-in-Some-view c = λ rows made within.
-    let e = list_counts c.args.task.now c.args.vals.now c.in-Some.many
-    (value_of c.in-Some-view.list) c.in-Some.is c.in-Some-view.ensures.value rows made within in
-    c.min.ensures ∙ ap (λ k. min k c.in-Some.many.max) (c.element_count.ensures ∙ e.0) ∙ min-eq_left e.1
+pub returns-in-Some : goal.returns-in-Some
+returns-in-Some c = λ few.
+    c.min.ensures
+    ∙ min-eq_left (subst (λ (o : Option Many). c.args.rows ≤ unwrap_or (option_map (λ (m : Many). m.max) o) 1) c.in-Some.is few)
+
+pub returns-in-None : goal.returns-in-None
+returns-in-None c = λ few.
+    c.min-in-None.ensures
+    ∙ min-eq_left (subst (λ (o : Option Many). c.args.rows ≤ unwrap_or (option_map (λ (m : Many). m.max) o) 1) c.in-None.is few)

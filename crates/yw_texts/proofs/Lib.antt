@@ -1,0 +1,5 @@
+pub mod Lacking
+pub mod Judging
+pub mod ReadingOnce
+pub mod Loading
+pub mod Alone
