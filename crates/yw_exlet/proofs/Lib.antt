@@ -6,3 +6,4 @@ pub mod ByKind
 pub mod Handed
 pub mod Raised
 pub mod Allowed
+pub mod Whichever

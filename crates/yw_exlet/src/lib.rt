@@ -12,6 +12,6 @@ mod runs;
 mod takes;
 
 pub use begin::{except, raise};
-pub use first::{Outcome, compensate, complete_item, restart_item};
+pub use first::{Outcome, compensate, complete_item, prim, restart_item};
 pub use marks::{pass, resume, suspend};
 pub use takes::{compensation_done, take_mark, take_none, take_removal};

@@ -18,10 +18,10 @@ use Rattle.yw_state.specs.declared.event.Event.TheVariants as events
 use Rattle.yw_state.specs.declared.rule.Refusal.{Refusal}
 use Rattle.yw_state.specs.declared.rule.Rule.TheVariants.{SpecCheck, SpecShape, SpecText}
 use Rattle.yw_state.proofs.OneRule.{command-breaks-one}
-use Rattle.yw_model.specs.Accepted.{check_refusal, document_in, JudgesSaid}
-use Rattle.yw_model.specs.Texts.{IsAccepted, IsUnfit, reader}
-use Rattle.yw_model.proofs.Loading.{load_told, load_unbroken, unfit_breaks}
-use Rattle.yw_model.proofs.ReadingOnce.{reads_one}
+use Rattle.yw_texts.specs.Accepted.{check_refusal, document_in, JudgesSaid}
+use Rattle.yw_texts.specs.Texts.{IsAccepted, IsUnfit, reader}
+use Rattle.yw_texts.proofs.Loading.{load_told, load_unbroken, unfit_breaks}
+use Rattle.yw_texts.proofs.ReadingOnce.{reads_one}
 use Rattle.yw_library.specs.Accepts.{Answers, IfRefused, unchecked, unread}
 use Rattle.yw_library.specs.Always.{AlwaysBreaks, NeverLeads}
 use Rattle.yw_library.specs.Holdings.{Holdings, with_library}

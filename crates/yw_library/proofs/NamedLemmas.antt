@@ -130,7 +130,8 @@ found-stale named xs numbers name n found none = record {
       ∙ ap (λ (b : Bool). cond b (Some n) (get numbers (named x))) (false_from_apart (named x) name (none i x at)) ∙ found.found i x at;
 }
 
-slice_get-push : {A : Type 0} (xs : List A) (x : A) (i : ℕ) (y : A) → slice_get (xs ++ x ∷ []) i ≡ Some y → (slice_get xs i ≡ Some y) ⊎ ((i ≡ length xs) × (x ≡ y))
+pub slice_get-push : {A : Type 0} (xs : List A) (x : A) (i : ℕ) (y : A) → slice_get (xs ++ x ∷ []) i ≡ Some y
+    → (slice_get xs i ≡ Some y) ⊎ ((i ≡ length xs) × (x ≡ y))
 slice_get-push [] x zero y at = inr (refl, cc)
 slice_get-push [] x (suc i) y at = cc
 slice_get-push (z ∷ xs) x zero y at = inl at
@@ -150,7 +151,7 @@ found-push {A} named xs numbers x found none = record { found = λ i y at. by i 
     by i y (inr h) = get-insert nat_list_cmp_total numbers (named x) (length xs) (named y)
         ∙ ap (λ (b : Bool). cond b (Some (length xs)) (get numbers (named y))) (true_from_same (named y) (named x) (ap named (sym h.1))) ∙ ap Some (sym h.0)
 
-slice_get-set : {A : Type 0} (xs : List A) (n : ℕ) (y : A) (i : ℕ) (z : A) → slice_get (slice_set xs n y) i ≡ Some z
+pub slice_get-set : {A : Type 0} (xs : List A) (n : ℕ) (y : A) (i : ℕ) (z : A) → slice_get (slice_set xs n y) i ≡ Some z
     → (w : A) × (slice_get xs i ≡ Some w) × ((w ≡ z) ⊎ ((i ≡ n) × (y ≡ z)))
 slice_get-set [] n y i z at = cc
 slice_get-set (x ∷ xs) zero y zero z at = (x, refl, inr (refl, cc))

@@ -1,7 +1,7 @@
 -- What commands and events do to a library in each state with this library in it, whatever else the state has. Our own.
 use Rattle.std.specs.Prelude.{◌≡◌, Bool, true, false, Option}
 use Rattle.yw_library.specs.Holdings.{Holdings, with_library}
-use Rattle.yw_model.specs.Texts.{reader}
+use Rattle.yw_texts.specs.Texts.{reader}
 use Rattle.yw_state.specs.Broken.{Breaks}
 use Rattle.yw_state.specs.Events.{Leads}
 use Rattle.yw_state.specs.State.{State}

@@ -2,7 +2,7 @@
 use Rattle.std.specs.Prelude.{◌≡◌}
 use Rattle.yw_library.specs.Names.{names_of}
 use Rattle.yw_library.specs.Holdings.{Holdings, with_library}
-use Rattle.yw_model.specs.Texts.{reader}
+use Rattle.yw_texts.specs.Texts.{reader}
 use Rattle.yw_state.specs.State.{State}
 use Rattle.yw_state.specs.Well.{IsWell}
 use Rattle.yw_tree.specs.Forest.{IsForest, sites_of}

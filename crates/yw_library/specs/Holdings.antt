@@ -5,7 +5,7 @@ use Rattle.yw_spec.specs.declared.spec.Spec.{Spec}
 use Rattle.yw_state.specs.Map.{get, of_entries}
 use Rattle.yw_state.specs.State.{State, opening}
 use Rattle.yw_state.specs.declared.loaded.Loaded.{Loaded}
-use Rattle.yw_model.specs.Texts.{IsAccepted}
+use Rattle.yw_texts.specs.Texts.{IsAccepted}
 use Rattle.yw_library.specs.declared.items.Person.{Person}
 use Rattle.yw_library.specs.Numbers.{NumberedNames, AreFound, NoneNamed}
 

@@ -6,3 +6,10 @@ pub mod Ended
 pub mod Names
 pub mod Held
 pub mod Parts
+pub mod Owners
+pub mod Slots
+pub mod Scopes
+pub mod Conditions
+pub mod Concluded
+pub mod Trees
+pub mod Adding

@@ -1,7 +1,7 @@
 // From a text to the specification that it says, or to what it breaks whatever is loaded.
 ghost use Rattle.std.specs.Prelude.{◌≡◌, IfOk};
 ghost use Rattle.yw_state.specs.Broken.{placeless};
-ghost use Rattle.yw_model.specs.Texts.{IsAccepted, IsUnfit};
+ghost use Rattle.yw_texts.specs.Texts.{IsAccepted, IsUnfit};
 ghost use Rattle.yw_library.specs.Accepts.{IfRefused, unchecked, unread};
 
 use crate::LibraryFault;

@@ -9,12 +9,13 @@ ghost use Rattle.yw_state.specs.Map.{get, has_key};
 ghost use Rattle.yw_state.specs.State.{State, opening};
 ghost use Rattle.yw_state.specs.Texts.{nothing};
 ghost use Rattle.yw_state.specs.declared.command.Command.TheVariants as commands;
-ghost use Rattle.yw_model.specs.Texts.{reader};
+ghost use Rattle.yw_texts.specs.Texts.{reader};
 ghost use Rattle.yw_library.specs.Accepts.{Answers, IfRefused};
 ghost use Rattle.yw_library.specs.Always.{AlwaysBreaks, AlwaysLeads, IsTried};
 ghost use Rattle.yw_library.specs.Holdings as kept;
 ghost use Rattle.yw_library.specs.Holdings.{AddsSpec, AreNamed, IsFresh, IsKept, SaysItsText, person_name, spec_name, state_of, with_library, with_person, with_spec};
 ghost use Rattle.yw_library.specs.Numbers.{IsNumberOf, NoneNamed};
+ghost use Rattle.yw_library.specs.Owners.{SpecsApart};
 
 use crate::accepted::{accepted, placeless};
 use crate::copies::copy_of_person;
@@ -266,6 +267,13 @@ impl Library {
     /// Each specification is found under its name. A law: nothing is done.
     pub fn are_named(&self)
         ensures { AreNamed self.now }
+    {
+        let _ = &self.specs;
+    }
+
+    /// No two specifications have one name. A law: nothing is done.
+    pub fn are_apart(&self)
+        ensures { SpecsApart self.now.specs }
     {
         let _ = &self.specs;
     }

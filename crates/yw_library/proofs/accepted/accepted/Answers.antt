@@ -1,8 +1,7 @@
-use Rattle.std.proofs.Common.{Ok, Err, sym, subst, ◌∙◌}
+use Rattle.std.proofs.Common.{Ok, Err, sym, subst}
 use Rattle.std.proofs.lemmas.Str.{is_utf8-from_IsUtf8}
-use Rattle.yw_state.specs.declared.rule.Refusal.{Refusal}
 use Rattle.yw_spec.specs.declared.spec.Spec.{Spec}
-use Rattle.yw_model.specs.Texts.{IsUnfit}
+use Rattle.yw_texts.specs.Texts.{IsUnfit}
 use Rattle.yw_library.specs.Accepts.{IfRefused}
 use Rattle.yw_library.specs.declared.fault.LibraryFault.{LibraryFault}
 use Rattle.yw_library.proofs.AcceptsLemmas.{document_said, unread-unfit, unchecked-unfit}

@@ -3,8 +3,8 @@ use Rattle.std.proofs.lemmas.Result.{err_from_is_err_and}
 use Rattle.yw_state.specs.Broken.{Breaks}
 use Rattle.yw_state.specs.declared.command.Command.TheVariants as commands
 use Rattle.yw_state.specs.declared.rule.Refusal.{Refusal}
-use Rattle.yw_model.specs.Texts.{reader}
-use Rattle.yw_model.proofs.Loading.{known_breaks}
+use Rattle.yw_texts.specs.Texts.{reader}
+use Rattle.yw_texts.proofs.Loading.{known_breaks}
 use Rattle.yw_library.specs.Holdings.{spec_name, with_library}
 use Rattle.yw_library.specs.Numbers.{IsNumberOf, NoneNamed}
 use Rattle.yw_library.proofs.AcceptsLemmas.{unfit-breaks}

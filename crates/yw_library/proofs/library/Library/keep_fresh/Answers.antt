@@ -3,8 +3,8 @@ use Rattle.yw_state.specs.Events.{Leads, after}
 use Rattle.yw_state.specs.State.{State}
 use Rattle.yw_state.specs.Texts.{a_spec}
 use Rattle.yw_state.specs.declared.event.Event.TheVariants as events
-use Rattle.yw_model.specs.Texts.{reader}
-use Rattle.yw_model.proofs.Loading.{load_leads}
+use Rattle.yw_texts.specs.Texts.{reader}
+use Rattle.yw_texts.proofs.Loading.{load_leads}
 use Rattle.yw_library.specs.Holdings.{with_library}
 use Rattle.yw_library.proofs.HoldingsLemmas.{spec-free, state-with_spec}
 use Rattle.yw_library.proofs.library.Library.keep_fresh.Goals as goal

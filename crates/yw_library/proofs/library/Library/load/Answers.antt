@@ -2,8 +2,8 @@ use Rattle.std.proofs.Common.{ℕ, List, None, sym, subst}
 use Rattle.std.proofs.lemmas.Result.{err_from_is_err_and}
 use Rattle.yw_state.specs.Events.{Leads}
 use Rattle.yw_state.specs.declared.event.Event.TheVariants as events
-use Rattle.yw_model.specs.Texts.{reader}
-use Rattle.yw_model.proofs.Loading.{new_unbroken}
+use Rattle.yw_texts.specs.Texts.{reader}
+use Rattle.yw_texts.proofs.Loading.{new_unbroken}
 use Rattle.yw_library.specs.Holdings.{with_library}
 use Rattle.yw_library.proofs.AcceptsLemmas.{load-breaks-one, refused-only, still-refused}
 use Rattle.yw_library.proofs.HoldingsLemmas.{spec-free}
