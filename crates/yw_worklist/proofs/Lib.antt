@@ -1,2 +1,16 @@
+mod Asking
+mod Emptied
+mod FrontLemmas
+mod Gathering
 mod Here
+mod Keys
+mod Listing
+mod Looking
 mod NameLemmas
+mod Noting
+mod Nowhere
+mod Offering
+mod Placing
+mod Ranging
+mod Reaching
+mod Warming

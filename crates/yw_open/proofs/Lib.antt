@@ -1,0 +1,4 @@
+mod AtItem
+mod AtNet
+mod Enters
+mod Listing

@@ -1,0 +1,3 @@
+pub mod Opens
+pub mod Entries
+pub mod Items

@@ -1,0 +1,17 @@
+use Rattle.std.proofs.Common.{subst, take_all}
+use Rattle.yw_worklist.proofs.Offering.{more_came, none_came}
+use Rattle.yw_worklist.proofs.offers.Offers.offer.Goals as goal
+use Rattle.yw_worklist.specs.Offers.{Turns, came}
+
+pub loop-work-init : goal.loop-work-init
+loop-work-init c = none_came c.args.self.now c.args.at.now c.args.before.now
+
+pub loop-work-preserved : goal.loop-work-preserved
+loop-work-preserved c =
+    more_came c.args.after.now c.loop-work.work-index c.work-item.result c.loop-work-test.true c.work-item.is
+    c.args.self.now c.loop-work.self c.offer_one.new.self c.args.at.now c.args.before.now c.loop-work.invariant c.in_ok-offer_one.ensures
+
+pub returns : goal.returns
+returns c =
+    subst (λ opens. Turns c.args.self.now c.loop-work.self c.args.at.now (came c.args.before.now opens))
+    (take_all c.loop-work.work-index c.args.after.now c.loop-work-test.false) c.loop-work.invariant
