@@ -7,10 +7,17 @@ use Rattle.yw_outside.specs.declared.desk.Desk.{Ghosts}
 use Rattle.yw_judge.specs.Counts.{CountsRead, CountsWrite}
 use Rattle.yw_judge.specs.declared.verdict.Verdict.{Verdict}
 use Rattle.yw_judge.specs.declared.verdict.Verdict.TheVariants as verdicts
+use Rattle.yw_serve.specs.Counted.{BenchFaults, FailedBy, IsFaultOfStart, IsFaultOfStop}
 use Rattle.yw_serve.specs.Judging.{status_of}
+use Rattle.yw_serve.specs.Opening.{OpenFaults}
+use Rattle.yw_serve.specs.declared.counted.BenchFault.{BenchFault}
+use Rattle.yw_serve.specs.declared.counted.BenchFault.TheVariants as benches
+use Rattle.yw_serve.specs.declared.opening.StartFault.{StartFault}
+use Rattle.yw_serve.specs.declared.opening.StartFault.TheVariants as starts
 use Rattle.yw_serve.specs.Faults.{FilesFailed, SayFailed, StopFaults, CallFaults, EndingFaults, NoticeFaults, StatusFaults}
 use Rattle.yw_serve.specs.declared.run.Ending.{Ending}
 use Rattle.yw_serve.specs.declared.run.Ending.TheVariants as endings
+use Rattle.yw_serve.specs.declared.server.Server.{Server}
 use Rattle.yw_serve.specs.declared.server.Stop.{Stop}
 use Rattle.yw_serve.specs.declared.server.Stop.TheVariants as stops
 use Rattle.yw_serve.specs.declared.top.Status.{Status}
@@ -36,6 +43,15 @@ module _ {D : Type 0} (g : Ghosts D) (old mid new : D) (first : NoneFailed g old
   call_then (Ok v) f = none_then f
   call_then (Err stop) f = stop_then stop f
 
+  pub failed_then : (fault : BenchFault) → FailedBy g fault mid new → FailedBy g fault old new
+  failed_then benches.Disk f = files_then f
+  failed_then benches.Write f = say_then f
+  failed_then benches.Memory f = none_then f
+
+  pub bench_then : {T : Type 0} (result : Result T BenchFault) → BenchFaults g result mid new → BenchFaults g result old new
+  bench_then (Ok v) f = none_then f
+  bench_then (Err fault) f = failed_then fault f
+
   pub ending_then : (ending : Ending) (before between now : ℕ) → between ≡ before → EndingFaults g ending between now mid new → EndingFaults g ending before now old new
   ending_then endings.Whole before between now e f = (f.0 ∙ e, none_then f.1)
   ending_then endings.Unread before between now e f = (subst (λ (n : ℕ). Rose n now) e f.0, none_then f.1)
@@ -54,11 +70,34 @@ module _ {D : Type 0} (g : Ghosts D) (old mid new : D) (first : NoneFailed g old
   status_then statuses.Read before now f = (f.0, none_then f.1)
   status_then statuses.Write before now f = (f.0, say_then f.1)
 
+-- an answer that hands an error on
+pub if_err_as : {T E : Type 0} (r : Result T E) (e : E) (P : E → Type 0) → IsErrAnd r (λ x. x ≡ e) → P e → IfErr r P
+if_err_as (Ok x) e P is p = tt
+if_err_as (Err y) e P is p = subst P (sym is) p
+
 module _ {D : Type 0} (g : Ghosts D) (old new : D) where
   -- an answer that hands a stop on
   pub faults_as : {T : Type 0} (result : Result T Stop) (stop : Stop) → IsErrAnd result (λ x. x ≡ stop) → StopFaults g stop old new → CallFaults g result old new
   faults_as (Ok v) stop is f = absurd is
   faults_as (Err s) stop is f = subst (λ (x : Stop). StopFaults g x old new) (sym is) f
+
+  -- the same of the fault of a bench
+  pub failed_as : {T : Type 0} (result : Result T BenchFault) (fault : BenchFault) → IsErrAnd result (λ x. x ≡ fault) → FailedBy g fault old new → BenchFaults g result old new
+  failed_as (Ok v) fault is f = absurd is
+  failed_as (Err e) fault is f = subst (λ (x : BenchFault). FailedBy g x old new) (sym is) f
+
+  -- where a server didn't start, and where a line stopped
+  pub start_failed : (start : StartFault) (fault : BenchFault) → IsFaultOfStart start fault → OpenFaults {T = Server} g (Err start) old new
+      → g.say_faults new ≡ g.say_faults old → FailedBy g fault old new
+  start_failed starts.Disk fault is f say = subst (λ (x : BenchFault). FailedBy g x old new) (sym is) (record { disk = f; say = say })
+  start_failed starts.Memory fault is f say = subst (λ (x : BenchFault). FailedBy g x old new) (sym is) (record { disk = f; say = say })
+  start_failed (starts.Damaged file place) fault is f say = absurd is
+
+  pub stop_failed : (stop : Stop) (fault : BenchFault) → IsFaultOfStop stop fault → StopFaults g stop old new → FailedBy g fault old new
+  stop_failed stops.Disk fault is f = subst (λ (x : BenchFault). FailedBy g x old new) (sym is) f
+  stop_failed stops.Write fault is f = subst (λ (x : BenchFault). FailedBy g x old new) (sym is) f
+  stop_failed stops.Memory fault is f = subst (λ (x : BenchFault). FailedBy g x old new) (sym is) f
+  stop_failed (stops.Full n) fault is f = absurd is
 
   -- an answer that stops for want of memory alone
   pub faults_of_memory : {T : Type 0} (result : Result T Stop) → IfErr result (λ stop. stop ≡ stops.Memory) → NoneFailed g old new → CallFaults g result old new

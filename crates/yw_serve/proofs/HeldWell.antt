@@ -2,7 +2,7 @@
 use Rattle.std.proofs.Common.{List, [], ◌∷◌, ◌++◌, ℕ, subst}
 use Rattle.yw_answered.proofs.Reached.{reached_is_well}
 use Rattle.yw_journal.specs.Files.{Content, LeadsTo}
-use Rattle.yw_model.specs.Texts.{reader}
+use Rattle.yw_texts.specs.Texts.{reader}
 use Rattle.yw_outside.specs.declared.image.Image.{Image}
 use Rattle.yw_serve.specs.Damage.{HoldNow, meaning}
 use Rattle.yw_serve.proofs.OpenLaws.{from_opening, no_snapshot}

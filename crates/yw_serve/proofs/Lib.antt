@@ -2,6 +2,7 @@ pub mod KeptLemmas
 pub mod Planning
 pub mod ToldLemmas
 pub mod Written
+pub mod Growing
 pub mod Doing
 pub mod Going
 pub mod Telling
@@ -21,3 +22,5 @@ pub mod FaultLemmas
 pub mod ServedLemmas
 pub mod Meant
 pub mod HeadlineLemmas
+pub mod Counting
+pub mod BenchLaws

@@ -3,7 +3,7 @@ use Rattle.std.proofs.Common.{ℕ, List, [], ◌∷◌, map}
 use Rattle.yw_answered.proofs.Runs.{taken_lead}
 use Rattle.yw_journal.specs.Files.{LeadsTo}
 use Rattle.yw_model.specs.Run.{EntriesLead, Entry, Step, Run, taken_by}
-use Rattle.yw_model.specs.Texts.{reader}
+use Rattle.yw_texts.specs.Texts.{reader}
 use Rattle.yw_state.specs.State.{State}
 use Rattle.yw_serve.specs.Damage.{meaning}
 use Rattle.yw_serve.specs.Session.{EachWritten, bytes_of}

@@ -6,8 +6,8 @@ use Rattle.std.specs.Bool.{MatchBool}
 use Rattle.std.specs.List.{list_all}
 use Rattle.yw_codec.specs.Entries.{IsEntry}
 use Rattle.yw_codec.proofs.Counts.{same_entry}
-use Rattle.yw_model.specs.Texts.{reader}
-use Rattle.yw_model.proofs.ReadingOnce.{reads_one}
+use Rattle.yw_texts.specs.Texts.{reader}
+use Rattle.yw_texts.proofs.ReadingOnce.{reads_one}
 use Rattle.yw_built.specs.Built.{is_built}
 use Rattle.yw_state.specs.Events.{LeadAll}
 use Rattle.yw_state.specs.State.{State}

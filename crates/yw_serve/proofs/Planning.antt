@@ -8,7 +8,7 @@ use Rattle.yw_lines.specs.Replies.{done_line, refused_line}
 use Rattle.yw_model.proofs.Answering.{answers_by}
 use Rattle.yw_model.specs.Run.{Entry, QueryAnswers, Refuses as Refusing, Step, Tells, built_words}
 use Rattle.yw_model.specs.Told.{IsTold}
-use Rattle.yw_model.specs.Texts.{reader}
+use Rattle.yw_texts.specs.Texts.{reader}
 use Rattle.yw_state.specs.Broken.{Breaks, placeless}
 use Rattle.yw_state.specs.Legal.{IsLegal}
 use Rattle.yw_state.specs.State.{State}
@@ -26,10 +26,10 @@ use Rattle.yw_serve.specs.declared.plan.Plan.TheVariants.{Say, Accept}
 pub accepted : (s t : State) (n : ℕ) (c : Command) (entry : Entry) (plan : Plan) (buffer : List ℕ) → IsLegal reader s c entry.events entry.quiet t → Accepts n entry buffer plan
     → IsPlanFor s n c plan buffer t
 accepted s t n c entry (Say reply) buffer legal plans = absurd plans
-accepted s t n c entry (Accept reply) buffer legal plans = record {
+accepted s t n c entry (Accept decided reply) buffer legal plans = record {
   step = record { taken = entry ∷ []; reply = done_line n entry.events entry.quiet };
   answers = (None, legal.unbroken, record { entry = entry; legal = legal; one = refl; told = refl });
-  does = record { entry = entry; taken = refl; has = plans.0; told = sym plans.1 };
+  does = record { entry = entry; is = plans.0; taken = refl; has = plans.1; told = sym plans.2 };
 }
 
 abbrev refusal_step : ℕ → Refusal → Step
@@ -37,7 +37,7 @@ refusal_step n refusal = record { taken = []; reply = refused_line n refusal }
 
 refuses_does : (n : ℕ) (refusal : Refusal) (plan : Plan) (buffer : List ℕ) → Refuses n refusal plan → Does plan buffer (refusal_step n refusal)
 refuses_does n refusal (Say reply) buffer plans = (refl, sym plans)
-refuses_does n refusal (Accept reply) buffer plans = absurd plans
+refuses_does n refusal (Accept decided reply) buffer plans = absurd plans
 
 -- a command that breaks a rule is refused
 pub refused_so : (s t : State) (n : ℕ) (c : Command) (refusal : Refusal) (plan : Plan) (buffer : List ℕ) → Breaks reader s c (Some refusal) → Refuses n refusal plan → t ≡ s
@@ -65,7 +65,7 @@ fault_line s n line None plan buffer means plans = absurd plans
 -- a query that breaks a rule is refused, and one that breaks none is told its answer
 pub refused_to_tell : (s : State) (n : ℕ) (q : Query) (refusal : Refusal) (plan : Plan)
     → (Refusing refusal s n (refusal_step n refusal) s → QueryAnswers q s n (refusal_step n refusal) s) → Refuses n refusal plan → IsPlanToTell s n q plan
-refused_to_tell s n q refusal (Accept reply) answers plans = absurd plans
+refused_to_tell s n q refusal (Accept decided reply) answers plans = absurd plans
 refused_to_tell s n q refusal (Say reply) answers plans = record {
   step = refusal_step n refusal;
   answers = answers (record { nothing = refl; told = refl; same = refl });
@@ -78,7 +78,7 @@ answer_step n answer = record { taken = []; reply = answer_line n answer }
 
 pub told_so : (s : State) (n : ℕ) (q : Query) (answer : Data) (plan : Plan) → IsTold s q answer
     → (Tells q s n (answer_step n answer) s → QueryAnswers q s n (answer_step n answer) s) → SaysAnswer n answer plan → IsPlanToTell s n q plan
-told_so s n q answer (Accept reply) is answers plans = absurd plans
+told_so s n q answer (Accept decided reply) is answers plans = absurd plans
 told_so s n q answer (Say reply) is answers plans = record {
   step = answer_step n answer;
   answers = answers (record { nothing = refl; answer = answer; is = is; told = refl; same = refl });
@@ -107,5 +107,5 @@ command_line s t n line c plan buffer means p = record {
 -- a plan that takes an entry has it to append
 pub framed_for : (n : ℕ) (line : List ℕ) (plan : Plan) (buffer : List ℕ) (s t : State) → IsPlan s n line plan buffer t → CanBeAppended buffer plan
 framed_for n line (Say reply) buffer s t p = tt
-framed_for n line (Accept reply) buffer s t p =
+framed_for n line (Accept decided reply) buffer s t p =
     let has = p.does.has in (bytes_of p.does.entry, subst (λ (l : List ℕ). IsFramed l (bytes_of p.does.entry)) (sym has.bytes) has.frame)

@@ -14,7 +14,7 @@ use Rattle.yw_model.specs.Run.{Run}
 use Rattle.yw_state.specs.State.{State}
 use Rattle.yw_answered.proofs.Runs.{lines_have_run, run_keeps_well}
 use Rattle.yw_model.proofs.RunLemmas.{Run-append}
-use Rattle.yw_model.specs.Texts.{reader}
+use Rattle.yw_texts.specs.Texts.{reader}
 use Rattle.yw_state.specs.Well.{IsWell}
 use Rattle.yw_serve.specs.declared.session.Session.{Session}
 use Rattle.yw_serve.specs.declared.server.Stop.{Stop}

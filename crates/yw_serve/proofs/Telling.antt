@@ -14,6 +14,8 @@ use Rattle.yw_journal.specs.declared.journal.Journal.{Journal}
 use Rattle.yw_journal.proofs.Passing.{started, goes_on, and_then}
 use Rattle.yw_journal.proofs.Images.{settled_is}
 use Rattle.yw_codec.specs.Entries.{IsEntry}
+use Rattle.yw_judge.specs.Ends.{KeepsFiles}
+use Rattle.yw_judge.proofs.TellLemmas.{told_beside}
 use Rattle.yw_model.specs.Run.{Entry, Step, said_by, taken_by}
 use Rattle.yw_serve.specs.Session.{EachWritten, bytes_of, file_after, HasRoom, with_steps, IsIn, OfSteps, AreDone}
 use Rattle.yw_serve.proofs.Written.{with_none, with_one, with_steps-none, written_one}
@@ -114,6 +116,17 @@ module _ {D : Type 0} (g : Ghosts D) where
       goes_on g old old new (Speaks text) may_old may_new (After (Speaks text) may_old)
       (started g old (After (Speaks text) may_old) (λ i left. (i, now i left, silent text i)))
       time (λ i a. a)
+
+-- a text that is said, or a prefix of it, leaves the files
+module _ {D : Type 0} (g : Ghosts D) where
+  pub keeps_files : (old new : D) (may_new : Image → Type 0) → ((i : Image) → g.left_since old (g.moment old) i → g.may_leave old i) → (text : List ℕ)
+      → (g.state new).a ≡ (g.state old).a → (g.state new).b ≡ (g.state old).b → g.disk_faults new ≡ g.disk_faults old
+      → Passes (Speaks text) (g.moment old) (g.moment new) (g.left_since old) (g.left_since new) (g.may_leave old) may_new → KeepsFiles g old new
+  keeps_files old new may_new now text a b disk time = record {
+    same = record { a = a; b = b };
+    faults = disk;
+    moments = told_beside g old new (g.may_leave old) may_new now text time;
+  }
 
 -- before a step that takes nothing
 pub current_none : (journal : Journal) (c : Content) (step : Step) (i : Image) → step.taken ≡ [] → IsCurrent journal c i → IsCurrent journal (with_steps c (step ∷ [])) i

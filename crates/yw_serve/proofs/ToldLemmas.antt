@@ -1,5 +1,5 @@
 -- Plans that tell what is asked, or refuse it.
-use Rattle.std.proofs.Common.{◌≡◌, ℕ, List, [], ◌∷◌, Bool, true, false, Option, Some, None, ◌∙◌, ap, sym, subst}
+use Rattle.std.proofs.Common.{◌≡◌, ℕ, List, [], ◌∷◌, Bool, true, false, Option, Some, None, ap, sym, subst}
 use Rattle.std.specs.Prelude.{◌&&◌, not, is_some, if◌then◌else◌, refl}
 use Rattle.serde_json.specs.Data.{string}
 use Rattle.yw_base.specs.Identity.{case_number}
@@ -8,9 +8,9 @@ use Rattle.yw_lines.specs.Ways.{way_text}
 use Rattle.yw_serve.proofs.Planning.{refused_to_tell, told_so}
 use Rattle.yw_serve.specs.Plans.{IsPlanToTell, Refuses, SaysAnswer}
 use Rattle.yw_serve.specs.declared.plan.Plan.{Plan}
-use Rattle.yw_state.proofs.Tests.{by_test, nowhere}
+use Rattle.yw_state.proofs.Tests.{nowhere}
 use Rattle.yw_state.specs.Answers.{IsShown, ended_way, spec_names}
-use Rattle.yw_state.specs.Broken.{First, QueryBreaks, is_ended, placeless, query_checks, test}
+use Rattle.yw_state.specs.Broken.{First, is_ended, placeless, query_checks, test}
 use Rattle.yw_state.specs.Identity.{Ident, is_case_ident}
 use Rattle.yw_state.specs.State.{State, is_case}
 use Rattle.yw_state.specs.declared.answer.Shown.{Shown}

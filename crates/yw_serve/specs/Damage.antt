@@ -5,7 +5,7 @@ use Rattle.yw_outside.specs.declared.desk.File.TheVariants.{A, B}
 use Rattle.yw_outside.specs.declared.image.Image.{Image}
 use Rattle.yw_journal.specs.Files.{Content, Meaning, HoldState, IsCut, HasNoMeaning, is_live, header_damage, snapshot_size_of}
 use Rattle.yw_codec.specs.Entries.{IsEntry}
-use Rattle.yw_model.specs.Texts.{reader}
+use Rattle.yw_texts.specs.Texts.{reader}
 use Rattle.yw_state.specs.Events.{LeadAll}
 use Rattle.yw_state.specs.State.{State, opening}
 use Rattle.yw_state.specs.declared.event.Event.{Event}

@@ -1,5 +1,5 @@
 -- What our calls need of a desk, and what they keep.
-use Rattle.std.specs.Prelude.{◌≡◌, ℕ, ◌≤◌, List, ◌++◌, IsTrue}
+use Rattle.std.specs.Prelude.{◌≡◌, ℕ, ◌+◌, ◌<◌, ◌≤◌, ◌^◌, List, ◌++◌, IsTrue, Result, Ok, Err}
 use Rattle.yw_outside.specs.Moments.{IsSettled}
 use Rattle.yw_journal.specs.Calls.{NonePending, StandsFor}
 use Rattle.yw_journal.specs.Files.{Content}
@@ -8,6 +8,7 @@ use Rattle.yw_journal.specs.declared.journal.Journal.{Journal}
 use Rattle.yw_lines.specs.Lines.{whole_lines, all_lines}
 use Rattle.yw_serve.specs.Session.{AnswersOn, GoesOn, IsAtByte, StopsWithin, state_of}
 use Rattle.yw_serve.specs.declared.server.Stop.{Stop}
+use Rattle.yw_serve.specs.declared.server.Stop.TheVariants as stops
 use Rattle.yw_serve.specs.declared.session.Session.{Session}
 use Rattle.yw_outside.specs.declared.desk.Desk.{Ghosts}
 
@@ -32,6 +33,22 @@ pub record KeepsJournal {D : Type 0} (g : Ghosts D) (before now : Journal) (old 
   pub file : now.file ≡ before.file
   pub limit : now.limit ≡ before.limit
   pub counts : KeepsCounts g old new
+
+-- the most bytes of an entry as it is appended: its length in four bytes, so many bytes, and a gate
+abbrev pub longest_entry : ℕ
+longest_entry = 2 ^ 32 + 4
+
+-- where an entry had no room, the longest hasn't
+abbrev pub LacksRoom : Stop → Journal → Type 0
+LacksRoom stops.Disk journal = Unit {0}
+LacksRoom stops.Write journal = Unit {0}
+LacksRoom stops.Memory journal = Unit {0}
+LacksRoom (stops.Full n) journal = journal.limit < journal.end + longest_entry
+
+-- the journal's end moves on by no more than an entry may have
+abbrev pub Grows : {T : Type 0} → Result T Stop → Journal → Journal → Type 0
+Grows (Ok v) before now = now.end ≤ before.end + longest_entry
+Grows (Err stop) before now = LacksRoom stop before
 
 -- where the desk tells, for each content that the journal may stand for
 abbrev pub ForContent : {D : Type 0} → Ghosts D → Journal → D → (Content → Type 0) → Type 0

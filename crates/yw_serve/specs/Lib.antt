@@ -13,3 +13,6 @@ pub mod Served
 pub mod Headline
 pub mod Judging
 pub mod Faults
+pub mod Bench
+pub mod Summary
+pub mod Counted

@@ -12,7 +12,7 @@ use Rattle.yw_journal.specs.Files as files
 use Rattle.yw_journal.specs.Files.{Content, IsCut, HasNoMeaning, LeadsTo, NoneIsLive, is_live, snapshot_size_of}
 use Rattle.yw_journal.specs.Journal.{IsCurrent, made}
 use Rattle.yw_journal.specs.Records.{AreOpen, IsNoRecord}
-use Rattle.yw_model.specs.Texts.{reader}
+use Rattle.yw_texts.specs.Texts.{reader}
 use Rattle.yw_state.specs.Events.{Leads, LeadAll}
 use Rattle.yw_state.specs.State.{State, opening}
 use Rattle.yw_state.specs.declared.event.Event.{Event}

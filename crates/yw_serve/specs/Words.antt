@@ -37,6 +37,25 @@ IsCheck = IsWord (codes "check")
 abbrev pub IsProve : List (String Global) → Type 0
 IsProve = IsWord (codes "prove")
 
+-- a number that is no greater than this
+pub record IsNumberTo (greatest : ℕ) (text : List ℕ) (n : ℕ) : Type 0 where
+  pub spelled : Spells text n
+  pub small : n ≤ greatest
+
+abbrev pub greatest_start : ℕ
+greatest_start = 2147483647
+
+abbrev pub greatest_count : ℕ
+greatest_count = 100000
+
+-- `bench START COUNT`
+pub record IsBench (words : List (String Global)) (start count : ℕ) : Type 0 where
+  pub first : List ℕ
+  pub second : List ℕ
+  pub split : map string_bytes words ≡ codes "bench" ∷ first ∷ second ∷ []
+  pub start_is : IsNumberTo greatest_start first start
+  pub count_is : IsNumberTo greatest_count second count
+
 -- the words judge one text
 abbrev pub IsJudging : List (String Global) → Type 0
 IsJudging words = IsCheck words ⊎ IsProve words

@@ -3,9 +3,9 @@ ghost use Rattle.std.specs.Prelude.{◌≡◌, ◌≤◌, ℕ, List, IfOk, true,
 ghost use Rattle.std.specs.List.{list_all};
 ghost use Rattle.yw_codec.specs.Entries.{is_writable};
 ghost use Rattle.yw_engine.specs.Held.{state_of};
-ghost use Rattle.yw_model.specs.Run.{CanBeAsked};
+ghost use Rattle.yw_built.specs.Asked.{CanBeAsked};
 ghost use Rattle.yw_state.specs.Broken.{placeless};
-ghost use Rattle.yw_serve.specs.Plans.{Accepts, CanBeAppended, IsPlan, IsPlanFor, Refuses, RefusesBy};
+ghost use Rattle.yw_serve.specs.Plans.{Accepts, CanBeAppended, IsPlan, IsPlanFor, Refuses, RefusesBy, entry_of};
 ghost use Rattle.yw_wire.specs.Faults.{rule_of};
 
 use crate::queries::plan_query;
@@ -38,8 +38,8 @@ const BUILT: [Word; 12] = [
 pub enum Plan {
     /// Nothing is taken, and this reply said: the line is refused, or a query that is answered.
     Say(Bytes),
-    /// The line is accepted: the entry in the buffer is appended as it stands, and then this reply said.
-    Accept(Bytes),
+    /// The line is accepted with what was decided: the entry in the buffer, which is that, is appended as it stands, and then this reply said.
+    Accept(Decided, Bytes),
 }
 
 /// The plan that refuses by a rule.
@@ -58,21 +58,15 @@ pub fn refuse_by(alloc: Global, n: u64, rule: Rule) -> Result<Plan, AllocError>
 }
 
 /// The plan that takes what was decided as an entry, which the buffer has then.
-fn accept(
-    alloc: Global,
-    buffer: &mut Vec<u8>,
-    n: u64,
-    decided: &Decided,
-) -> Result<Plan, AllocError>
-    requires some { 1 ≤ length decided.now.events }
-    requires few { length decided.now.events ≤ 4097 }
-    requires writable { list_all is_writable decided.now.events ≡ true }
-    ensures { IfOk result (Accepts n
-        (record { events = decided.now.events; quiet = decided.now.quiet }) buffer.new.items) }
+fn accept(alloc: Global, buffer: &mut Vec<u8>, n: u64, decided: Decided) -> Result<Plan, AllocError>
+    requires some { 1 ≤ length decided.events }
+    requires few { length decided.events ≤ 4097 }
+    requires writable { list_all is_writable decided.events ≡ true }
+    ensures { IfOk result (Accepts n (entry_of decided) buffer.new.items) }
 {
     let reply = reply_done(alloc, n, &decided.events, decided.quiet)?;
     write_entry_into(buffer, &decided.events)?;
-    Ok(Plan::Accept(reply))
+    Ok(Plan::Accept(decided, reply))
 }
 
 /// What is to be done for a command. The engine is then that after it.
@@ -88,7 +82,7 @@ fn plan_command(
         IsPlanFor (state_of engine.old) n command plan buffer.new.items (state_of engine.new)) }
 {
     match engine.decide(command) {
-        Ok(decided) => accept(alloc, buffer, n, &decided),
+        Ok(decided) => accept(alloc, buffer, n, decided),
         Err(EngineFault::Refused(refusal)) => refuse(alloc, n, &refusal),
         Err(EngineFault::Memory) => Err(AllocError),
         Err(EngineFault::Spent) => Err(AllocError),

@@ -2,7 +2,7 @@
 ghost use Rattle.std.specs.Prelude.{◌≡◌, ◌+◌, ◌<◌, ◌≤◌, List, [], ℕ, length, Some, IsTrue, MatchOption, IsNone};
 ghost use Rattle.yw_journal.specs.Files.{Content};
 ghost use Rattle.yw_journal.specs.Journal.{IsCurrent};
-ghost use Rattle.yw_model.specs.Texts.{reader};
+ghost use Rattle.yw_texts.specs.Texts.{reader};
 ghost use Rattle.yw_state.specs.State.{State};
 ghost use Rattle.yw_state.specs.Well.{IsWell};
 ghost use Rattle.yw_serve.specs.Desks.{KeepsCounts, KeepsJournal, Stands};

@@ -1,12 +1,13 @@
 // A server: the state, where it is kept, and the answer to one line.
-ghost use Rattle.std.specs.Prelude.{◌≡◌, ◌≢◌, ◌++◌, ◌∷◌, [], IfErr, Err, OnOk, OnErr, IsTrue};
+ghost use Rattle.std.specs.Prelude.{◌≡◌, ◌≢◌, ◌++◌, ◌∷◌, [], IfErr, IfOk, Err, OnOk, OnErr, IsTrue};
 ghost use Rattle.yw_outside.specs.Image.{SaysPart, Speaks};
 ghost use Rattle.yw_outside.specs.Moments.{After, IsSettled};
 ghost use Rattle.yw_outside.specs.Since.{LeavesOnly};
 ghost use Rattle.yw_engine.specs.Held as held;
-ghost use Rattle.yw_serve.specs.Desks.{ForContent, KeepsCounts, KeepsJournal, Stands, StaysSettled};
+ghost use Rattle.yw_judge.specs.Ends.{KeepsFiles};
+ghost use Rattle.yw_serve.specs.Desks.{ForContent, Grows, KeepsCounts, KeepsJournal, Stands, StaysSettled};
 ghost use Rattle.yw_serve.specs.Faults.{CallFaults};
-ghost use Rattle.yw_serve.specs.Plans.{CanBeAppended, ForPlan};
+ghost use Rattle.yw_serve.specs.Plans.{CanBeAppended, DoesLine, ForPlan};
 ghost use Rattle.yw_serve.specs.Session.{AreDone, CutsLine, EndsLine, OfSteps, Why, server_state};
 
 use crate::plan::{Plan, plan_line};
@@ -26,6 +27,17 @@ pub enum Stop {
     Memory,
     /// The entry would end at this offset, which is past the limit.
     Full(u64),
+}
+
+impl From<AllocError> for Stop {
+    ghost use Rattle.std.specs.Prelude.{◌≡◌};
+    ghost use Rattle.yw_serve.specs.declared.server.Stop.TheVariants.{Memory};
+
+    ghost from_gives = { λ _ stop. stop ≡ Memory };
+
+    fn from(_: AllocError) -> Stop {
+        Stop::Memory
+    }
 }
 
 /// A server over the files of a desk: the state, and where it is kept. `Server::start` makes one, and `Server::line` answers a
@@ -57,6 +69,7 @@ pub fn tell<D: Desk>(desk: &mut D, text: &[u8]) -> Result<(), Stop>
     ensures passes { IsTrue (D.tells desk.old)
         → LeavesOnly D.Desk desk.old desk.new (After (Speaks text.now) (D.may_leave desk.old)) }
     ensures counts { KeepsCounts D.Desk desk.old desk.new }
+    ensures files { KeepsFiles D.Desk desk.old desk.new }
     ensures write { IfErr result (λ stop. stop ≡ Stop.Write) }
     ensures faults { CallFaults D.Desk result desk.old desk.new }
 {
@@ -86,12 +99,13 @@ fn carry_out<D: Desk>(
 
     ensures stands { OnOk result (Stands D.Desk journal.new desk.new) }
     ensures keeps { KeepsJournal D.Desk journal.old journal.new desk.old desk.new }
+    ensures grows { Grows result journal.old journal.new }
     ensures faults { CallFaults D.Desk result desk.old desk.new }
     ensures memory { result ≢ Err Stop.Memory }
 {
     match plan {
         Plan::Say(reply) => tell(desk, reply.as_slice()),
-        Plan::Accept(reply) => match journal.append(desk, entry) {
+        Plan::Accept(_, reply) => match journal.append(desk, entry) {
             Ok(()) => tell(desk, reply.as_slice()),
             Err(AppendFault::Disk) => Err(Stop::Disk),
             Err(AppendFault::Full(end)) => Err(Stop::Full(end)),
@@ -113,6 +127,30 @@ impl Server {
         }
     }
 
+    /// Answers one line as `line` does, and hands on the plan that was done for it.
+    pub(crate) fn answer<D: Desk>(
+        &mut self,
+        desk: &mut D,
+        n: u64,
+        line: &[u8],
+    ) -> Result<Plan, Stop>
+        requires stands { Stands D.Desk self.old.journal desk.old }
+
+        ensures ok { IfOk result (λ plan. ForContent D.Desk self.old.journal desk.old (λ c.
+            DoesLine D.Desk c plan self.old self.new n line.now desk.old desk.new)) }
+        ensures err { IfErr result (λ stop. ForContent D.Desk self.old.journal desk.old (λ c.
+            CutsLine D.Desk c stop self.old n line.now desk.old desk.new)) }
+
+        ensures stands { OnOk result (Stands D.Desk self.new.journal desk.new) }
+        ensures keeps { KeepsJournal D.Desk self.old.journal self.new.journal desk.old desk.new }
+        ensures grows { Grows result self.old.journal self.new.journal }
+        ensures faults { CallFaults D.Desk result desk.old desk.new }
+    {
+        let plan = plan_line(self.alloc, &mut self.engine, &mut self.entry, n, line)?;
+        carry_out(&mut self.journal, &plan, self.entry.as_slice(), desk)?;
+        Ok(plan)
+    }
+
     /// Answers one line, given without its newline, by one line said on the desk. The reply names the line by this number; lines
     /// are numbered from 1 by who feeds them. Of a line that is longer than a line may be, one byte past the limit may stand for
     /// all that is too long. What the line does is on the disk before its reply is said. A refusal is a reply.
@@ -132,10 +170,7 @@ impl Server {
         ensures keeps { KeepsJournal D.Desk self.old.journal self.new.journal desk.old desk.new }
         ensures faults { CallFaults D.Desk result desk.old desk.new }
     {
-        let plan = match plan_line(self.alloc, &mut self.engine, &mut self.entry, n, line) {
-            Ok(plan) => plan,
-            Err(AllocError) => return Err(Stop::Memory),
-        };
-        carry_out(&mut self.journal, &plan, self.entry.as_slice(), desk)
+        self.answer(desk, n, line)?;
+        Ok(())
     }
 }

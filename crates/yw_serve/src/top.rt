@@ -6,7 +6,7 @@ ghost use Rattle.yw_outside.specs.Causes.{Rose};
 ghost use Rattle.yw_journal.specs.Files.{Content};
 ghost use Rattle.yw_journal.specs.Journal.{IsCurrent};
 ghost use Rattle.yw_lines.specs.Lines.{lines};
-ghost use Rattle.yw_model.specs.Texts.{reader};
+ghost use Rattle.yw_texts.specs.Texts.{reader};
 ghost use Rattle.yw_state.specs.State.{State};
 ghost use Rattle.yw_state.specs.Well.{IsWell};
 ghost use Rattle.yw_serve.specs.Damage.{HoldNow};
@@ -16,17 +16,19 @@ ghost use Rattle.yw_serve.specs.Headline.{HoldsPrefix, LeavesFromSyncs, Serves};
 ghost use Rattle.yw_serve.specs.Notices.{damage_line, full_line};
 ghost use Rattle.yw_serve.specs.Served.{Ended, IsOfRun, IsTold, IsUnfailed, RunEnds};
 ghost use Rattle.yw_serve.specs.Session.{server_state};
-ghost use Rattle.yw_serve.specs.Words.{IsJudging, IsRun, OnRun, OnWord};
+ghost use Rattle.yw_serve.specs.Counted.{SaysBench};
+ghost use Rattle.yw_serve.specs.Words.{IsBench, IsJudging, IsRun, OnRun, OnWord};
 ghost use Rattle.yw_serve.specs.Judging.{IsOfJudging, Judges, TellsFound};
 ghost use Rattle.yw_judge.specs.Ends.{KeepsFiles};
 
+use crate::benching::serve_bench;
 use crate::judging::serve_judging;
 use crate::notice::{write_damage, write_full};
 use crate::opening::StartFault;
 use crate::run::{Ending, INPUT_LIMIT, run};
 use crate::server::{Server, Stop, tell};
 use crate::session::Session;
-use crate::words::{file_limit, is_word};
+use crate::words::{bench_numbers, file_limit, is_word};
 use std::alloc::{AllocError, Global};
 use yw_base::Bytes;
 use yw_judge::Judgement;
@@ -37,7 +39,7 @@ use yw_verdict::Finding;
 /// How the program ends. The program's exit status is the number, from 0.
 #[derive(Clone, Copy, Debug, PartialEq, Eq)]
 pub enum Status {
-    /// The input was read to its end, and every line answered; or what is found of the one text is a yes.
+    /// The input was read to its end, and every line answered; or what is found of the one text is a yes; or a bench was done, and its summary said.
     Ok,
     /// What is found of the one text is a no, and the line that says why was said.
     Findings,
@@ -60,10 +62,11 @@ pub enum Status {
 }
 
 /// Says a line beside the replies, and answers this status where that could be done.
-fn tell_notice<D: Desk>(line: Result<Bytes, AllocError>, status: Status, desk: &mut D) -> Status
+pub fn tell_notice<D: Desk>(line: Result<Bytes, AllocError>, status: Status, desk: &mut D) -> Status
     ensures told { IsTrue (D.tells desk.old) → MatchResult line
         (λ text. IsTold D.Desk result status text desk.old desk.new)
         (λ _. (result ≡ Status.Memory) × (desk.new ≡ desk.old)) }
+    ensures files { KeepsFiles D.Desk desk.old desk.new }
     ensures counts { KeepsCounts D.Desk desk.old desk.new }
     ensures faults { NoticeFaults D.Desk result status desk.old desk.new }
     ensures memory { result ≡ Status.Memory → (status ≡ Status.Memory) ⊎ IsErr line }
@@ -205,6 +208,9 @@ fn serve_files<S: Source, D: Desk>(
 /// Or the words are `prove`: the source gives one text in JSON with a specification and weights of one of its nets, and one line says whether
 /// they are a certificate that the net completes properly, or else the first fault, as `ProofFinding` of `yw_proof` says it. No file is touched.
 ///
+/// Or the words are `bench START COUNT`, with numbers of at most 2,147,483,647 and 100,000: a server in memory answers a large input that these
+/// two make, as `bench` does, and one line says what it comes to. No file is touched, and the source isn't called.
+///
 /// It answers `Usage` exactly where the words are others, and then calls neither source nor desk; `Disk` only
 /// where a call of the files failed, `Read` only where one of the source did, `Write` only where a say did;
 /// `Damaged` only where the synced files hold no state, and there unless a call of the files failed, no memory was
@@ -244,7 +250,8 @@ pub fn serve<S: Source, D: Desk>(
     ensures of_run { (limit : ℕ) → IsRun words.now limit → IsOfRun result }
     ensures of_judging { IsJudging words.now → IsOfJudging result }
     ensures usage { (result ≡ Status.Usage)
-        ↔ (((limit : ℕ) → ¬ (IsRun words.now limit)) × ¬ (IsJudging words.now)) }
+        ↔ (((limit : ℕ) → ¬ (IsRun words.now limit)) × ¬ (IsJudging words.now)
+        × ((start count : ℕ) → ¬ (IsBench words.now start count))) }
     ensures usage_calls_nothing { result ≡ Status.Usage
         → (source.new ≡ source.old) × (desk.new ≡ desk.old) }
 
@@ -277,6 +284,12 @@ pub fn serve<S: Source, D: Desk>(
         → ¬ (Rose (S.faults source.old) (S.faults source.new))
         → ¬ (Rose (D.say_faults desk.old) (D.say_faults desk.new))
         → (result ≡ Status.Ok) ⊎ (result ≡ Status.Findings) ⊎ (result ≡ Status.Memory) }
+
+    // What is said of a bench is what its lines come to, whatever the desk that is given.
+    ensures benches { (start count : ℕ) → IsBench words.now start count
+        → SaysBench D.Desk result start count desk.old desk.new }
+    ensures bench_reads_nothing { (start count : ℕ) → IsBench words.now start count
+        → source.new ≡ source.old }
 {
     if let Some(limit) = file_limit(words) {
         return serve_files(alloc, limit, source, desk);
@@ -286,6 +299,9 @@ pub fn serve<S: Source, D: Desk>(
     }
     if is_word(words, "prove") {
         return serve_judging::<ProofFinding, S, D>(alloc, source, desk);
+    }
+    if let Some((start, count)) = bench_numbers(words) {
+        return serve_bench(alloc, start, count, desk);
     }
     Status::Usage
 }

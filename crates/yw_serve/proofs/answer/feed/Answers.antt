@@ -1,5 +1,4 @@
-use Rattle.std.proofs.Common.{◌≡◌, ◌+◌, ℕ, List, [], ◌∷◌, ◌++◌, length, Result, Ok, Err, refl, sym, ap, ◌∙◌, subst, append_assoc, arith, length-append}
-use Rattle.std.specs.Prelude.{IfErr, IsErrAnd}
+use Rattle.std.proofs.Common.{◌≡◌, ◌+◌, ℕ, List, [], ◌∷◌, ◌++◌, length, refl, sym, ap, ◌∙◌, subst, append_assoc, arith, length-append}
 use Rattle.std.proofs.lemmas.List.{append-nil}
 use Rattle.std.proofs.lemmas.Result.{IfOk-weaker, IfErr-weaker}
 use Rattle.yw_lines.specs.Lines.{newline, whole_lines}
@@ -9,7 +8,7 @@ use Rattle.yw_serve.specs.declared.server.Stop.{Stop}
 use Rattle.yw_serve.specs.declared.server.Stop.TheVariants.{Memory}
 use Rattle.yw_journal.specs.Journal.{IsCurrent}
 use Rattle.yw_serve.specs.Session.{GoesOn, StopsWithin, with_steps}
-use Rattle.yw_serve.proofs.FaultLemmas.{faults_as, faults_of_memory, none_then, stop_then}
+use Rattle.yw_serve.proofs.FaultLemmas.{faults_as, faults_of_memory, if_err_as, none_then, stop_then}
 use Rattle.yw_serve.proofs.Going.{IsReadyAt, goes_nowhere, goes_by_part, goes_further, stops_further, stops_short, stops_before}
 use Rattle.yw_serve.proofs.answer.feed.Goals as goal
 
@@ -17,10 +16,6 @@ use Rattle.yw_serve.proofs.answer.feed.Goals as goal
 regrouped : (taken prefix rest piece part after : List ℕ) → piece ≡ prefix ++ rest → rest ≡ part ++ newline ∷ after → taken ++ piece ≡ ((taken ++ prefix) ++ (part ++ newline ∷ [])) ++ after
 regrouped taken prefix rest piece part after e f =
     ap (λ (p : List ℕ). taken ++ p) (e ∙ ap (λ (r : List ℕ). prefix ++ r) f) ∙ sym (simp append_assoc)
-
-err_as : {T E : Type 0} (r : Result T E) (e : E) (P : E → Type 0) → IsErrAnd r (λ x. x ≡ e) → P e → IfErr r P
-err_as (Ok x) e P is p = tt
-err_as (Err y) e P is p = subst P (sym is) p
 
 pub loop-part-init : goal.loop-part-init
 loop-part-init g c =
@@ -40,7 +35,7 @@ loop-part-init g c =
     }
 
 pub returns-in_err-take_line-clause-err : goal.returns-in_err-take_line-clause-err
-returns-in_err-take_line-clause-err g c = err_as c.from_residual.result c.in_err-take_line.field-0.0 _ c.from_residual.ensures.1 (λ tells content taken current at.
+returns-in_err-take_line-clause-err g c = if_err_as c.from_residual.result c.in_err-take_line.field-0.0 _ c.from_residual.ensures.1 (λ tells content taken current at.
     let D = g.D.Desk in
     let inv = c.loop-part.invariant in
     let went = inv.went in

@@ -1,21 +1,16 @@
-use Rattle.std.proofs.Common.{◌≡◌, ◌∷◌, ◌++◌, [], Result, Ok, Err, ◌∙◌, refl, sym, subst}
-use Rattle.std.specs.Prelude.{IfErr, IsErrAnd}
+use Rattle.std.proofs.Common.{◌∷◌, ◌++◌, [], ◌∙◌, refl, sym, subst}
 use Rattle.yw_journal.specs.Journal.{IsCurrent}
 use Rattle.yw_lines.specs.Lines.{newline, whole_lines}
 use Rattle.yw_serve.specs.Faults.{StopFaults}
 use Rattle.yw_serve.specs.Session.{StopsWithin}
 use Rattle.yw_serve.specs.declared.server.Server.{Server}
 use Rattle.yw_serve.specs.declared.server.Stop.{Stop}
-use Rattle.yw_serve.proofs.FaultLemmas.{faults_as}
+use Rattle.yw_serve.proofs.FaultLemmas.{faults_as, if_err_as}
 use Rattle.yw_serve.proofs.Going.{IsReadyAt, goes_by_line, stops_in_line, stops_at_line}
 use Rattle.yw_serve.proofs.answer.take_line.Goals as goal
 
-err_as : {T E : Type 0} (r : Result T E) (e : E) (P : E → Type 0) → IsErrAnd r (λ x. x ≡ e) → P e → IfErr r P
-err_as (Ok x) e P is p = tt
-err_as (Err y) e P is p = subst P (sym is) p
-
 pub returns-in_err-take_part-clause-err : goal.returns-in_err-take_part-clause-err
-returns-in_err-take_part-clause-err g c = err_as c.from_residual.result c.in_err-take_part.field-0.0 _ c.from_residual.ensures.1 (λ tells content taken current at.
+returns-in_err-take_part-clause-err g c = if_err_as c.from_residual.result c.in_err-take_part.field-0.0 _ c.from_residual.ensures.1 (λ tells content taken current at.
     let D = g.D.Desk in
     let desk = c.args.desk.now in
     let session = c.args.session.now in
@@ -32,7 +27,7 @@ returns-in_err-take_part-clause-faults g c =
     (subst (λ (stop : Stop). StopFaults D stop desk desk) (sym c.in_err-take_part.ensures.memory) (record { disk = refl; say = refl }))
 
 pub returns-in_err-line-clause-err : goal.returns-in_err-line-clause-err
-returns-in_err-line-clause-err g c = err_as c.from_residual-in_err-line.result c.in_err-line.field-0.0 _ c.from_residual-in_err-line.ensures.1 (λ tells content taken current at.
+returns-in_err-line-clause-err g c = if_err_as c.from_residual-in_err-line.result c.in_err-line.field-0.0 _ c.from_residual-in_err-line.ensures.1 (λ tells content taken current at.
     let D = g.D.Desk in
     let desk = c.args.desk.now in
     let session = c.args.session.now in

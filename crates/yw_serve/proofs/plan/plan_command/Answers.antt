@@ -7,7 +7,7 @@ use Rattle.yw_engine.specs.Held.{Held}
 use Rattle.yw_engine.specs.declared.fault.Decided.{Decided}
 use Rattle.yw_engine.specs.declared.fault.EngineFault.{EngineFault}
 use Rattle.yw_model.specs.Run.{Entry}
-use Rattle.yw_model.specs.Texts.{reader}
+use Rattle.yw_texts.specs.Texts.{reader}
 use Rattle.yw_state.specs.Broken.{Breaks}
 use Rattle.yw_state.specs.State.{State}
 use Rattle.yw_state.specs.declared.rule.Refusal.{Refusal}

@@ -2,7 +2,7 @@ use Rattle.std.proofs.Common.{◌≡◌, ◌≤◌, ◌+◌, ◌-◌, List, ℕ,
 use Rattle.std.specs.Prelude.{IsTrue}
 use Rattle.yw_journal.specs.Files.{Content}
 use Rattle.yw_journal.specs.Journal.{IsCurrent}
-use Rattle.yw_model.specs.Texts.{reader}
+use Rattle.yw_texts.specs.Texts.{reader}
 use Rattle.yw_outside.specs.Since.{NoneFailed}
 use Rattle.yw_state.specs.Well.{IsWell}
 use Rattle.yw_serve.specs.Desks.{KeepsJournal, Stands}

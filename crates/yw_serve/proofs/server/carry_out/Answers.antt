@@ -1,4 +1,4 @@
-use Rattle.std.proofs.Common.{◌≡◌, ◌≢◌, ◌+◌, ◌<◌, ◌≤◌, ◌∷◌, [], ℕ, List, length, Result, Err, inl, inr, refl, sym, ap, ◌∙◌, subst, arith}
+use Rattle.std.proofs.Common.{◌≡◌, ◌≢◌, ◌+◌, ◌<◌, ◌≤◌, ◌∷◌, [], ℕ, List, length, Result, Err, inl, inr, refl, sym, ap, ◌∙◌, subst, arith, rules}
 use Rattle.std.proofs.lemmas.Bool.{cases_lt}
 use Rattle.std.proofs.lemmas.Result.{IfOk-weaker, IfErr-weaker}
 use Rattle.yw_outside.specs.declared.desk.File.{File}
@@ -19,6 +19,7 @@ use Rattle.yw_serve.specs.declared.plan.Plan.{Plan}
 use Rattle.yw_serve.specs.declared.plan.Plan.TheVariants.{Say, Accept}
 use Rattle.yw_serve.proofs.Doing.{leaves_nothing}
 use Rattle.yw_serve.proofs.FaultLemmas.{call_then}
+use Rattle.yw_serve.proofs.Growing.{framed_short, grows_said}
 use Rattle.yw_serve.proofs.Telling.{not_begun, of_append, leaves_telling, done_by_telling, current_none, current_one, current_same, same_file}
 use Rattle.yw_serve.proofs.Written.{file_after-none, file_after-one, room_for_one, taken_none, written_none, written_one}
 use Rattle.yw_serve.proofs.server.carry_out.Goals as goal
@@ -69,7 +70,7 @@ returns-in-Ok-clause-ok g c = IfOk-weaker c.tell-in-Ok.result _ _ (λ x said tel
     let mid = c.append.new.desk in
     let before = c.args.journal.now in
     let journal = c.append.new.self in
-    let d = does_as c.args.plan.now (Accept c.in-Accept.reply) c.args.entry.now step c.in-Accept.is does in
+    let d = does_as c.args.plan.now (Accept _ c.in-Accept.reply) c.args.entry.now step c.in-Accept.is does in
     let e = d.entry in
     let bytes : List ℕ = bytes_of e in
     let whole : IsFramed c.args.entry.now bytes = framed_as c.args.entry.now bytes (framed e.events) d.has.bytes d.has.frame in
@@ -100,7 +101,7 @@ returns-in-Ok-clause-moments g c = IfErr-weaker c.tell-in-Ok.result _ _ (λ x wr
     let mid = c.append.new.desk in
     let before = c.args.journal.now in
     let journal = c.append.new.self in
-    let d = does_as c.args.plan.now (Accept c.in-Accept.reply) c.args.entry.now step c.in-Accept.is does in
+    let d = does_as c.args.plan.now (Accept _ c.in-Accept.reply) c.args.entry.now step c.in-Accept.is does in
     let e = d.entry in
     let bytes : List ℕ = bytes_of e in
     let whole : IsFramed c.args.entry.now bytes = framed_as c.args.entry.now bytes (framed e.events) d.has.bytes d.has.frame in
@@ -121,7 +122,7 @@ returns-in-Ok-clause-stands g c = IfOk-weaker c.tell-in-Ok.result _ _ (λ x said
     let new = c.tell-in-Ok.new.desk in
     let kept = c.in-Ok.ensures in
     let told = c.tell-in-Ok.ensures in
-    let framed = can_append c.args.plan.now (Accept c.in-Accept.reply) c.args.entry.now c.in-Accept.is c.requires.framed in
+    let framed = can_append c.args.plan.now (Accept _ c.in-Accept.reply) c.args.entry.now c.in-Accept.is c.requires.framed in
     let whole : IsFramed c.args.entry.now framed.0 = framed.1 in
     record {
       ready = kept.ready;
@@ -140,7 +141,7 @@ returns-in-Err-Disk-clause-moments g c = λ tells content current step does.
     let D = g.D.Desk in
     let old = c.args.desk.now in
     let before = c.args.journal.now in
-    let d = does_as c.args.plan.now (Accept c.in-Accept.reply) c.args.entry.now step c.in-Accept.is does in
+    let d = does_as c.args.plan.now (Accept _ c.in-Accept.reply) c.args.entry.now step c.in-Accept.is does in
     let e = d.entry in
     let bytes : List ℕ = bytes_of e in
     let whole : IsFramed c.args.entry.now bytes = framed_as c.args.entry.now bytes (framed e.events) d.has.bytes d.has.frame in
@@ -152,7 +153,7 @@ returns-in-Err-Full-clause-moments g c = λ tells content current step does.
     let D = g.D.Desk in
     let old = c.args.desk.now in
     let before = c.args.journal.now in
-    let d = does_as c.args.plan.now (Accept c.in-Accept.reply) c.args.entry.now step c.in-Accept.is does in
+    let d = does_as c.args.plan.now (Accept _ c.in-Accept.reply) c.args.entry.now step c.in-Accept.is does in
     let e = d.entry in
     let bytes : List ℕ = bytes_of e in
     let whole : IsFramed c.args.entry.now bytes = framed_as c.args.entry.now bytes (framed e.events) d.has.bytes d.has.frame in
@@ -174,7 +175,7 @@ returns-in-Ok-clause-why g c = IfErr-weaker c.tell-in-Ok.result _ _ (λ x write 
     let old = c.args.desk.now in
     let mid = c.append.new.desk in
     let before = c.args.journal.now in
-    let d = does_as c.args.plan.now (Accept c.in-Accept.reply) c.args.entry.now step c.in-Accept.is does in
+    let d = does_as c.args.plan.now (Accept _ c.in-Accept.reply) c.args.entry.now step c.in-Accept.is does in
     let e = d.entry in
     let kept = c.in-Ok.ensures in
     let told = c.tell-in-Ok.ensures in
@@ -191,7 +192,7 @@ pub returns-in-Err-Disk-clause-why : goal.returns-in-Err-Disk-clause-why
 returns-in-Err-Disk-clause-why g c = λ tells content current step does.
     let D = g.D.Desk in
     let before = c.args.journal.now in
-    let d = does_as c.args.plan.now (Accept c.in-Accept.reply) c.args.entry.now step c.in-Accept.is does in
+    let d = does_as c.args.plan.now (Accept _ c.in-Accept.reply) c.args.entry.now step c.in-Accept.is does in
     let e = d.entry in
     let entry : c.args.entry.now ≡ framed e.events = d.has.bytes in
     let at = content_end (file_in before.file (D.state c.args.desk.now)) content before.end current.holds.file in
@@ -202,3 +203,20 @@ pub returns-in-Ok-clause-faults : goal.returns-in-Ok-clause-faults
 returns-in-Ok-clause-faults g c =
     let counts = c.in-Ok.ensures.counts in
     call_then g.D.Desk c.args.desk.now c.append.new.desk c.tell-in-Ok.new.desk (record { disk = counts.disk; say = counts.say }) c.tell-in-Ok.result c.tell-in-Ok.ensures.faults
+
+pub returns-in-Say-clause-grows : goal.returns-in-Say-clause-grows
+returns-in-Say-clause-grows g c = grows_said c.tell.result c.args.journal.now c.args.journal.now c.tell.ensures.write (omega arith)
+
+pub returns-in-Ok-clause-grows : goal.returns-in-Ok-clause-grows
+returns-in-Ok-clause-grows g c =
+    let framed = can_append c.args.plan.now (Accept _ c.in-Accept.reply) c.args.entry.now c.in-Accept.is c.requires.framed in
+    let short = framed_short c.args.entry.now framed.0 (λ k. (c.type_inv.entry k).fits) framed.1 in
+    grows_said c.tell-in-Ok.result c.args.journal.now c.append.new.self c.tell-in-Ok.ensures.write (omega (arith, short, ap (λ j. j.end) c.in-Ok.ensures.journal))
+
+pub returns-in-Err-Full-clause-grows : goal.returns-in-Err-Full-clause-grows
+returns-in-Err-Full-clause-grows g c =
+    let framed = can_append c.args.plan.now (Accept _ c.in-Accept.reply) c.args.entry.now c.in-Accept.is c.requires.framed in
+    let short = framed_short c.args.entry.now framed.0 (λ k. (c.type_inv.entry k).fits) framed.1 in
+    let is : c.append.result ≡ Err (Full c.in-Err-Full.end) = search rules in
+    let full = (c.append.ensures.full c.in-Err-Full.end is).0 in
+    omega (arith, short, full.0, full.1)

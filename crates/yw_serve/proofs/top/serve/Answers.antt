@@ -4,7 +4,8 @@ use Rattle.yw_lines.specs.Lines.{lines}
 use Rattle.yw_serve.proofs.HeadlineLemmas.{crash_left, served}
 use Rattle.yw_serve.proofs.OpenLaws.{held_or_damaged}
 use Rattle.yw_serve.proofs.ServedLemmas.{completed, completed_opening}
-use Rattle.yw_serve.proofs.WordsLemmas.{not_both, one_limit}
+use Rattle.yw_serve.proofs.WordsLemmas.{judging_no_bench, not_both, one_bench, one_limit, run_no_bench}
+use Rattle.yw_serve.specs.Counted.{IsOfBench, SaysBench}
 use Rattle.yw_serve.specs.Faults.{StatusFaults}
 use Rattle.yw_serve.specs.declared.top.Status.TheVariants as statuses
 use Rattle.yw_serve.specs.Headline.{HoldsPrefix, LeavesFromSyncs}
@@ -76,6 +77,95 @@ returns-in-Some-clause-checks g c = λ tells bytes check left. absurd (not_both 
 pub returns-in-Some-clause-proves : goal.returns-in-Some-clause-proves
 returns-in-Some-clause-proves g c = λ tells bytes prove left. absurd (not_both c.args.words.now c.in-Some.limit c.in-Some.ensures.some (inr prove))
 
+pub returns-in-Some-clause-benches : goal.returns-in-Some-clause-benches
+returns-in-Some-clause-benches g c = λ start count bench. absurd (run_no_bench c.args.words.now c.in-Some.limit start count c.in-Some.ensures.some bench)
+
+pub returns-in-Some-clause-bench_reads_nothing : goal.returns-in-Some-clause-bench_reads_nothing
+returns-in-Some-clause-bench_reads_nothing g c = λ start count bench. absurd (run_no_bench c.args.words.now c.in-Some.limit start count c.in-Some.ensures.some bench)
+
+pub returns-then-is_word-clause-benches : goal.returns-then-is_word-clause-benches
+returns-then-is_word-clause-benches g c = λ start count bench. absurd (judging_no_bench c.args.words.now start count (inl (c.if-is_word.ensures.0 refl)) bench)
+
+pub returns-then-is_word-clause-bench_reads_nothing : goal.returns-then-is_word-clause-bench_reads_nothing
+returns-then-is_word-clause-bench_reads_nothing g c = λ start count bench.
+    absurd (judging_no_bench c.args.words.now start count (inl (c.if-is_word.ensures.0 refl)) bench)
+
+pub returns-then-is_word-2-clause-benches : goal.returns-then-is_word-2-clause-benches
+returns-then-is_word-2-clause-benches g c = λ start count bench. absurd (judging_no_bench c.args.words.now start count (inr (c.if-is_word-2.ensures.0 refl)) bench)
+
+pub returns-then-is_word-2-clause-bench_reads_nothing : goal.returns-then-is_word-2-clause-bench_reads_nothing
+returns-then-is_word-2-clause-bench_reads_nothing g c = λ start count bench.
+    absurd (judging_no_bench c.args.words.now start count (inr (c.if-is_word-2.ensures.0 refl)) bench)
+
+pub serve_bench-requires-clause-start : goal.serve_bench-requires-clause-start
+serve_bench-requires-clause-start g c = c.in-Some-bench_numbers.ensures.some.start_is.small
+
+pub serve_bench-requires-clause-count : goal.serve_bench-requires-clause-count
+serve_bench-requires-clause-count g c = c.in-Some-bench_numbers.ensures.some.count_is.small
+
+pub returns-in-Some-bench_numbers-clause-served : goal.returns-in-Some-bench_numbers-clause-served
+returns-in-Some-bench_numbers-clause-served g c = λ tells limit bytes run left ok. absurd (run_no_bench c.args.words.now limit c.in-Some-bench_numbers.start c.in-Some-bench_numbers.count run c.in-Some-bench_numbers.ensures.some)
+
+pub returns-in-Some-bench_numbers-clause-crash : goal.returns-in-Some-bench_numbers-clause-crash
+returns-in-Some-bench_numbers-clause-crash g c = λ tells limit bytes run left content s hold. absurd (run_no_bench c.args.words.now limit c.in-Some-bench_numbers.start c.in-Some-bench_numbers.count run c.in-Some-bench_numbers.ensures.some)
+
+pub returns-in-Some-bench_numbers-clause-ends : goal.returns-in-Some-bench_numbers-clause-ends
+returns-in-Some-bench_numbers-clause-ends g c = λ tells limit bytes run left. absurd (run_no_bench c.args.words.now limit c.in-Some-bench_numbers.start c.in-Some-bench_numbers.count run c.in-Some-bench_numbers.ensures.some)
+
+pub returns-in-Some-bench_numbers-clause-of_run : goal.returns-in-Some-bench_numbers-clause-of_run
+returns-in-Some-bench_numbers-clause-of_run g c = λ limit run. absurd (run_no_bench c.args.words.now limit c.in-Some-bench_numbers.start c.in-Some-bench_numbers.count run c.in-Some-bench_numbers.ensures.some)
+
+pub returns-in-Some-bench_numbers-clause-complete : goal.returns-in-Some-bench_numbers-clause-complete
+returns-in-Some-bench_numbers-clause-complete g c = λ tells limit bytes run left content s hold small none. absurd (run_no_bench c.args.words.now limit c.in-Some-bench_numbers.start c.in-Some-bench_numbers.count run c.in-Some-bench_numbers.ensures.some)
+
+pub returns-in-Some-bench_numbers-clause-run_counts : goal.returns-in-Some-bench_numbers-clause-run_counts
+returns-in-Some-bench_numbers-clause-run_counts g c = λ limit run. absurd (run_no_bench c.args.words.now limit c.in-Some-bench_numbers.start c.in-Some-bench_numbers.count run c.in-Some-bench_numbers.ensures.some)
+
+pub returns-in-Some-bench_numbers-clause-of_judging : goal.returns-in-Some-bench_numbers-clause-of_judging
+returns-in-Some-bench_numbers-clause-of_judging g c = λ judging. absurd (judging_no_bench c.args.words.now c.in-Some-bench_numbers.start c.in-Some-bench_numbers.count judging c.in-Some-bench_numbers.ensures.some)
+
+pub returns-in-Some-bench_numbers-clause-checks : goal.returns-in-Some-bench_numbers-clause-checks
+returns-in-Some-bench_numbers-clause-checks g c = λ tells bytes check left. absurd (judging_no_bench c.args.words.now c.in-Some-bench_numbers.start c.in-Some-bench_numbers.count (inl check) c.in-Some-bench_numbers.ensures.some)
+
+pub returns-in-Some-bench_numbers-clause-check_tells : goal.returns-in-Some-bench_numbers-clause-check_tells
+returns-in-Some-bench_numbers-clause-check_tells g c = λ bytes check left. absurd (judging_no_bench c.args.words.now c.in-Some-bench_numbers.start c.in-Some-bench_numbers.count (inl check) c.in-Some-bench_numbers.ensures.some)
+
+pub returns-in-Some-bench_numbers-clause-proves : goal.returns-in-Some-bench_numbers-clause-proves
+returns-in-Some-bench_numbers-clause-proves g c = λ tells bytes prove left. absurd (judging_no_bench c.args.words.now c.in-Some-bench_numbers.start c.in-Some-bench_numbers.count (inr prove) c.in-Some-bench_numbers.ensures.some)
+
+pub returns-in-Some-bench_numbers-clause-proof_tells : goal.returns-in-Some-bench_numbers-clause-proof_tells
+returns-in-Some-bench_numbers-clause-proof_tells g c = λ bytes prove left. absurd (judging_no_bench c.args.words.now c.in-Some-bench_numbers.start c.in-Some-bench_numbers.count (inr prove) c.in-Some-bench_numbers.ensures.some)
+
+pub returns-in-Some-bench_numbers-clause-judging_keeps_files : goal.returns-in-Some-bench_numbers-clause-judging_keeps_files
+returns-in-Some-bench_numbers-clause-judging_keeps_files g c = λ judging. absurd (judging_no_bench c.args.words.now c.in-Some-bench_numbers.start c.in-Some-bench_numbers.count judging c.in-Some-bench_numbers.ensures.some)
+
+pub returns-in-Some-bench_numbers-clause-judging_completes : goal.returns-in-Some-bench_numbers-clause-judging_completes
+returns-in-Some-bench_numbers-clause-judging_completes g c = λ judging read say. absurd (judging_no_bench c.args.words.now c.in-Some-bench_numbers.start c.in-Some-bench_numbers.count judging c.in-Some-bench_numbers.ensures.some)
+
+pub returns-in-Some-bench_numbers-clause-faults : goal.returns-in-Some-bench_numbers-clause-faults
+returns-in-Some-bench_numbers-clause-faults g c = c.serve_bench.ensures.faults _ _ refl
+
+pub returns-in-Some-bench_numbers-clause-usage : goal.returns-in-Some-bench_numbers-clause-usage
+returns-in-Some-bench_numbers-clause-usage g c = (
+  λ e. absurd (subst IsOfBench e c.serve_bench.ensures.says.told),
+  λ none. absurd (none.2 c.in-Some-bench_numbers.start c.in-Some-bench_numbers.count c.in-Some-bench_numbers.ensures.some),
+)
+
+pub returns-in-Some-bench_numbers-clause-usage_calls_nothing : goal.returns-in-Some-bench_numbers-clause-usage_calls_nothing
+returns-in-Some-bench_numbers-clause-usage_calls_nothing g c = λ e. absurd (subst IsOfBench e c.serve_bench.ensures.says.told)
+
+pub returns-in-Some-bench_numbers-clause-benches : goal.returns-in-Some-bench_numbers-clause-benches
+returns-in-Some-bench_numbers-clause-benches g c = λ start count bench.
+    let D = g.D.Desk in
+    let old = c.args.desk.now in
+    let new = c.serve_bench.new.desk in
+    let same = one_bench c.args.words.now c.in-Some-bench_numbers.start c.in-Some-bench_numbers.count start count c.in-Some-bench_numbers.ensures.some bench in
+    subst (λ (n : ℕ). SaysBench D c.serve_bench.result start n old new) same.1
+    (subst (λ (m : ℕ). SaysBench D c.serve_bench.result m c.in-Some-bench_numbers.count old new) same.0 c.serve_bench.ensures.says)
+
+pub returns-clause-benches : goal.returns-clause-benches
+returns-clause-benches g c = λ start count bench. absurd (c.in_default-bench_numbers.ensures.none refl start count bench)
+
 pub returns-clause-ends : goal.returns-clause-ends
 returns-clause-ends g c = λ tells limit bytes run left. absurd (c.in_default.ensures.none refl limit run)
 
@@ -102,6 +192,7 @@ returns-clause-usage g c = (
       | inl check ↦ let yes : false ≡ true = c.if-is_word.ensures.1 check in cc
       | inr prove ↦ let yes : false ≡ true = c.if-is_word-2.ensures.1 prove in cc
     ],
+    c.in_default-bench_numbers.ensures.none refl,
   ),
   λ none. refl,
 )

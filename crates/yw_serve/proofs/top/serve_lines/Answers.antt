@@ -1,7 +1,7 @@
 use Rattle.std.proofs.Common.{◌≡◌, Bool, sym, ap, subst}
 use Rattle.std.specs.Bool.{IsTrue}
 use Rattle.yw_journal.specs.Journal.{IsCurrent}
-use Rattle.yw_model.specs.Texts.{reader}
+use Rattle.yw_texts.specs.Texts.{reader}
 use Rattle.yw_state.specs.State.{State}
 use Rattle.yw_state.specs.Well.{IsWell}
 use Rattle.yw_journal.specs.declared.journal.Journal.{Journal}

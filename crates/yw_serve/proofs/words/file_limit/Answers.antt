@@ -1,25 +1,8 @@
-use Rattle.std.proofs.Common.{◌≡◌, ℕ, List, [], ◌∷◌, length, get_or, Option, None, Some, map, String, Global, string_bytes, inl, inr, ⊎_elim, refl, sym, ap, ◌∙◌, subst, arith}
-use Rattle.std.specs.Prelude.{IfSome, codes}
+use Rattle.std.proofs.Common.{◌≡◌, ℕ, List, [], ◌∷◌, map, string_bytes, inl, inr, ⊎_elim, refl, sym, ap, ◌∙◌, subst, arith}
+use Rattle.std.specs.Prelude.{codes}
 use Rattle.yw_serve.specs.Words.{greatest_limit, IsLimit}
-use Rattle.yw_serve.proofs.WordsLemmas.{one_word, same_text}
+use Rattle.yw_serve.proofs.WordsLemmas.{not_one, one_word, same_text, some_as, third, three_words}
 use Rattle.yw_serve.proofs.words.file_limit.Goals as goal
-
-three_words : (xs : List (String Global)) (u v w : String Global) → length xs ≡ 3 → u ≡ get_or xs 0 u → v ≡ get_or xs 1 v → w ≡ get_or xs 2 w → xs ≡ u ∷ v ∷ w ∷ []
-three_words [] u v w e a b c = absurd (omega arith)
-three_words (x ∷ []) u v w e a b c = absurd (omega arith)
-three_words (x ∷ y ∷ []) u v w e a b c = absurd (omega arith)
-three_words (x ∷ y ∷ z ∷ []) u v w e a b c = ap (λ l. l ∷ y ∷ z ∷ []) (sym a) ∙ ap (λ l. u ∷ l ∷ z ∷ []) (sym b) ∙ ap (λ l. u ∷ v ∷ l ∷ []) (sym c)
-three_words (x ∷ y ∷ z ∷ t ∷ xs) u v w e a b c = absurd (omega arith)
-
-some_as : (o : Option ℕ) (P Q : ℕ → Type 0) → IfSome o P → ((n : ℕ) → P n → Q n) → IfSome o Q
-some_as None P Q h f = tt
-some_as (Some n) P Q h f = f n h
-
-third : (x y z a b c : List ℕ) → x ∷ y ∷ z ∷ [] ≡ a ∷ b ∷ c ∷ [] → z ≡ c
-third x y z a b c e = cc
-
-not_one : (x y z a : List ℕ) → x ∷ y ∷ z ∷ [] ≡ a ∷ [] → ⊥
-not_one x y z a e = cc
 
 pub returns-then-eq-clause-some : goal.returns-then-eq-clause-some
 returns-then-eq-clause-some c =
