@@ -19,8 +19,15 @@ async function handle() {
   for (const task of ["receive", "pack", "bill", "ship"]) {
     const item = await ask("enter", { who: "ann", case: number, task });
     await ask("start", { who: "ann", item });
+    await answered("show", number, ({ items }) => items.join() === [item, task, "executing", "ann"].join());
     await ask("complete", { who: "ann", item, out: {} });
   }
+  await answered("ended", number, (answer) => answer === "finished");
+}
+
+async function answered(query, number, holds) {
+  const { answer } = await client.command(query, { case: number });
+  if (!holds(answer)) throw new Error(`${query}: ${JSON.stringify(answer)}`);
 }
 
 function killOnce(most) {

@@ -10,7 +10,7 @@ from pathlib import Path
 TOOLS = Path(__file__).resolve().parents[1]
 TOP = TOOLS.parent
 EXAMPLES = TOP / "examples"
-NAMES = ("order", "loan", "claims", "admissions", "mortgage", "hospital", "insurance")
+NAMES = ("order", "loan", "claims", "admissions", "mortgage", "hospital", "insurance", "library")
 
 sys.path.insert(0, str(TOOLS))
 

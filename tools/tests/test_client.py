@@ -49,12 +49,21 @@ class Order:
         self.ask("load", toml=(EXAMPLES / "order.toml").read_text())
 
     def handle(self) -> None:
-        """One order from its launch to its end."""
+        """One order from its launch to its end. Queries see how far it is."""
         [case] = self.ask("launch", spec="order", data={"amount": 200}).made
         for task in ("receive", "pack", "bill", "ship"):
             [item] = self.ask("enter", who="ann", case=case, task=task).made
             self.ask("start", who="ann", item=item)
+            self.answered([[item, task, "executing", "ann"]], "show", case)
             self.ask("complete", who="ann", item=item, out={})
+        self.answered("finished", "ended", case)
+
+    def answered(self, wanted, query: str, case: str) -> None:
+        """Asks `ended`, or `show` for the items."""
+        reply = self.client.command(query, case=case)
+        found = reply.answer["items"] if query == "show" else reply.answer
+        if (found, reply.steps, reply.found) != (wanted, [], False):
+            raise AssertionError(reply)
 
 
 class CommandTest(FolderTest):
@@ -76,6 +85,16 @@ class CommandTest(FolderTest):
                 client.command("launch", spec="order", data={"amount": "much"})
             self.assertEqual((refused.exception.rule, refused.exception.at), ("BadData", "amount"))
             self.assertEqual(client.held, 2)
+
+    def test_queries_are_answered_and_are_no_entries(self):
+        with Client(self.folder) as client:
+            shop = Order(client)
+            shop.open()
+            shop.handle()
+            self.assertEqual(client.command("specs").answer, ["order"])
+            with self.assertRaises(Refused) as refused:
+                client.command("show", case="1")
+            self.assertEqual((refused.exception.rule, client.held), ("UnknownCase", len(shop.replies)))
 
     def test_it_goes_on_with_what_is_there(self):
         for _ in range(2):
@@ -138,6 +157,10 @@ class LostTest(FolderTest):
         self.assertFalse(reply.found)
         client.close()
         self.assertEqual(steps_held(self.shop()), [["person ann"]])
+
+    def test_a_query_without_an_answer_is_asked_again(self):
+        client = self.client('[ -e "$1/once" ] && exec PROGRAM "$1" run; touch "$1/once"; OPEN; read line; kill -9 $$')
+        self.assertEqual((client.command("specs").answer, client.held), ([], 0))
 
     def test_it_gives_up_where_nothing_is_held(self):
         with self.assertRaises(NotHeld):

@@ -6,7 +6,7 @@ import unittest
 
 from support import NAMES, TOOLS, FolderTest, example, serve
 from validator import Validator
-from yawl import rules, server
+from yawl import lines, rules, server
 
 # A change of examples/order.toml, or of examples/loan.toml below: the text, and what stands in its place.
 ORDER_MISTAKES = [
@@ -61,7 +61,7 @@ RIGHT_LINES = [
     '{"task":"vote","value":["a"],"who":"ann","case":"1.3","cmd":"add"}',
     '{"cmd":"launch","spec":"a","data":{"b":true,"c":-9223372036854775808,"d":"","e":[],"f":[1,2],"g":["x"]}}',
     '{"cmd":"advance","case":"281474976710655"}',
-    '{"case":"1","cmd":"show"}', '{"cmd":"ended","case":"7"}', '{"cmd":"specs"}',
+    '{"case":"1","cmd":"show"}', '{"cmd":"ended","case":"7"}', '{"cmd":"specs"}', '{"cmd":"list","who":"ann"}',
 ]
 WRONG_LINES = [
     "[]", "7", "{}", '{"cmd":"walk"}', '{"cmd":7}', '{"name":"ann","roles":[]}',
@@ -90,13 +90,16 @@ WRONG_LINES = [
     '{"cmd":"add","who":"ann","case":"1","task":"vote","value":null}',
     '{"cmd":"cancel","case":"1","who":"ann"}',
     '{"cmd":"show"}', '{"cmd":"show","case":1}', '{"cmd":"ended","case":"1","who":"ann"}', '{"cmd":"specs","case":"1"}',
+    '{"cmd":"list"}', '{"cmd":"list","who":"ann smith"}', '{"cmd":"list","who":"ann","case":"1"}',
 ]
 RIGHT_REPLIES = [
     '{"n":7,"ok":true,"quiet":false,"steps":["add 1.3 vote as 1.3.9"]}',
     '{"n":1,"ok":true,"quiet":true,"steps":["enter 1 a from i,b->c as 1.2,1.3","completeempty 1.2"]}',
     '{"at":"V3 main x","n":1,"ok":false,"rule":"SpecCheck"}',
-    '{"answer":{"due":[["1.2","select"]],"items":[["1.3","x","executing","ann"]],"nets":[["1","xj","main",{"v":[1]}]],"runs":[],'
-    '"suspended":["1"],"tokens":[["1","c->x",2]]},"n":1,"ok":true}',
+    '{"answer":{"due":[["1.2","select"]],"items":[["1.3","x","executing","ann"],["1.4","y","ready",""]],"nets":[["1","xj","main",{"v":[1],"w":""}]],'
+    '"runs":[["1.5",true,["compensate remind","continue_item"]]],"suspended":["1"],"tokens":[["1","c->x",2]]},"n":1,"ok":true}',
+    '{"answer":[{"case":"1.3","task":"vote","what":"enter"},{"item":"1.3.4","task":"vote","what":"start"},'
+    '{"item":"1.10","task":"pay","what":"complete"}],"n":2,"ok":true}',
     '{"answer":"finished","n":1,"ok":true}', '{"answer":[],"n":9,"ok":true}', '{"answer":["order","seq"],"n":9,"ok":true}',
     '{"full":120}', '{"at":29,"damaged":"a"}', '{"ok":true,"spec":"order"}', '{"at":"","ok":false,"rule":"SpecText"}',
 ]
@@ -107,8 +110,17 @@ WRONG_REPLIES = [
     '{"at":"","ok":false,"rule":"Stage"}', '{"at":29,"damaged":"c"}', '{"full":true}',
     '{"answer":"gone","n":1,"ok":true}', '{"answer":["a","a"],"n":1,"ok":true}', '{"answer":{},"n":1,"ok":true}',
     '{"answer":{"due":[],"items":[["1.2","x","Ready",""]],"nets":[],"runs":[],"suspended":[],"tokens":[]},"n":1,"ok":true}',
+    '{"answer":{"due":[],"items":[["1","x","ready",""]],"nets":[],"runs":[],"suspended":[],"tokens":[]},"n":1,"ok":true}',
+    '{"answer":{"due":[],"items":[],"nets":[["1","a","b",{"v":null}]],"runs":[],"suspended":[],"tokens":[]},"n":1,"ok":true}',
+    '{"answer":{"due":[],"items":[],"nets":[],"runs":[["1.5",true,["walk"]]],"suspended":[],"tokens":[]},"n":1,"ok":true}',
     '{"answer":{"due":[],"items":[],"nets":[],"runs":[],"suspended":[],"tokens":[["1","c"]]},"n":1,"ok":true}',
     '{"answer":"finished","n":1,"ok":true,"quiet":true}',
+    '{"answer":[{"case":"1","task":"vote","what":"start"}],"n":1,"ok":true}',
+    '{"answer":[{"item":"1.2","task":"vote","what":"enter"}],"n":1,"ok":true}',
+    '{"answer":[{"item":"1","task":"vote","what":"start"}],"n":1,"ok":true}',
+    '{"answer":[{"item":"1.2","what":"start"}],"n":1,"ok":true}',
+    '{"answer":[{"item":"1.2","task":"vote","what":"add"}],"n":1,"ok":true}',
+    '{"answer":["order",{"case":"1","task":"a","what":"enter"}],"n":1,"ok":true}',
 ]
 
 
@@ -134,7 +146,7 @@ class SpecificationTest(FolderTest):
 
 class LineTest(FolderTest):
     def test_each_word_has_the_fields_of_the_table(self):
-        told = {word: {"cmd", *fields} for word, fields in rules.forms().items()}
+        told = {word: {"cmd", *fields} for word, fields in lines.forms().items()}
         known = {}
         for part in schema("command").schema["definitions"].values():
             cmd = part.get("properties", {}).get("cmd", {})
@@ -144,8 +156,7 @@ class LineTest(FolderTest):
         self.assertEqual(known, told)
 
     def test_right_lines(self):
-        lines = [line for name in NAMES for line in example(name, "jsonl").splitlines()] + RIGHT_LINES
-        for line in lines:
+        for line in [line for name in NAMES for line in example(name, "jsonl").splitlines()] + RIGHT_LINES:
             self.assertTrue(schema("command").is_valid(json.loads(line)), line)
 
     def test_wrong_lines_are_refused(self):

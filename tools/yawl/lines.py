@@ -7,6 +7,8 @@ from pathlib import Path
 from yawl import rules
 from yawl.known import Known
 
+# Words that may be typed and have no line in docs/LINES.md yet. The server refuses them as NotBuilt until it answers them.
+AWAITED = {"list": {"who": "NAME"}}
 # What a field may be typed as, beside the forms that docs/LINES.md has: a file's name for its text.
 SHOWN = {"TEXT": "FILE", "[NAME,..]": "NAME ..", "{NAME:VALUE,..}": "NAME=VALUE .."}
 # Words whose case has to be typed: one goes for good, the other asks for a case that isn't known any more.
@@ -17,6 +19,11 @@ OF_CASE = ("advance", "show")
 
 class Unclear(Exception):
     """What was typed isn't enough for a line; the text says what lacks."""
+
+
+def forms() -> dict[str, dict[str, str]]:
+    """The fields of each word that can be typed, each with what docs/LINES.md writes for its value."""
+    return rules.forms() | AWAITED
 
 
 def value_of(word: str):
@@ -30,7 +37,7 @@ def value_of(word: str):
 def usage(word: str) -> str:
     """How a word is typed: `start [ITEM]`. The person isn't typed."""
     shown = [word]
-    for name, kind in rules.forms()[word].items():
+    for name, kind in forms()[word].items():
         if name != "who":
             shown.append(f"[{name.upper()}]" if kind == "ID" and word not in TYPED else SHOWN.get(kind, name.upper()))
     return " ".join(shown)
@@ -48,7 +55,7 @@ class Typed:
     def line(self) -> dict:
         """The command that was typed. Raises `Unclear`."""
         line = {"cmd": self.word}
-        for name, kind in rules.forms()[self.word].items():
+        for name, kind in forms()[self.word].items():
             line[name] = self.field(name, kind)
         if self.rest:
             raise Unclear(f"`{self.rest[0]}` is too much: {usage(self.word)}")
@@ -57,7 +64,7 @@ class Typed:
     def field(self, name: str, kind: str):
         """The value of one field."""
         if name == "who":
-            return self.person or self.lacks("who does it: type `as NAME` first")
+            return self.person or self.lacks("a person: type `as NAME` first")
         if kind == "ID":
             return self.identity(name)
         if kind == "[NAME,..]":
@@ -72,7 +79,7 @@ class Typed:
         if self.rest and self.rest[0][0].isdigit() and self.rest[0].replace(".", "").isdigit():
             return self.rest.pop(0)
         if self.word in TYPED:
-            return self.lacks("which case")
+            return self.lacks("a case")
         if name == "case":
             net = self.known.nets[-1] if self.known.nets else self.lacks("a case: none is known")
             return net.partition(".")[0] if self.word in OF_CASE else net
@@ -102,7 +109,7 @@ class Typed:
 
     def lacks(self, what: str):
         """Refuses what was typed."""
-        raise Unclear(f"it lacks {what}: {usage(self.word)}")
+        raise Unclear(f"`{self.word}` lacks {what}: {usage(self.word)}")
 
 
 def split(typed: str) -> list[str]:
@@ -116,8 +123,10 @@ def split(typed: str) -> list[str]:
 def choices(words: list[str], known: Known) -> list[str]:
     """What the next word may be, behind these words."""
     if not words:
-        return [*rules.forms(), "as", "items", "help", "quit"]
-    tasks = [task for spec in known.specs.values() for task in spec]
-    among = {"as": known.persons, "person": known.persons, "launch": list(known.specs), "enter": [*known.nets, *tasks],
-             "add": [*known.nets, *tasks], "start": list(known.ready), "complete": list(known.working), "help": list(rules.forms())}
-    return sorted(set(among.get(words[0], known.nets)))
+        return [*forms(), "as", "items", "help", "quit"]
+    tasks = [task.name for spec in known.specs.values() for net in spec.nets for task in net.tasks]
+    cases = list(map(str, known.cases))
+    among = {"as": known.persons, "person": known.persons, "launch": known.specs, "enter": [*known.nets, *tasks],
+             "add": [*known.nets, *tasks], "start": known.ready, "complete": known.working, "help": forms(),
+             "cancel": cases, "advance": cases, "show": cases}
+    return sorted(set(among.get(words[0], ())))

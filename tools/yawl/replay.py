@@ -1,4 +1,4 @@
-"""From the events of a folder to what stands in a case: its nets, their tokens, and the items of work.
+"""From the events of a folder to what stands in it: persons, specifications, and in each case its nets, their tokens, and the items of work.
 
 Events are taken as they come, since the server held each only where it was allowed. Values aren't kept.
 """
@@ -10,78 +10,97 @@ from dataclasses import dataclass, field
 from pathlib import Path
 
 from . import toml
+from .document import TextFault
 from .journal import Damaged, Event, Journal, Snapshot
-from .nets import Net, Spec, spec_of
+from .nets import Net, NoShape, Spec, spec_of
 from .scene import View, Work
 
 Identity = tuple[int, ...]
 
 
 class NotReplayed(Exception):
-    """The folder can't be read, or has an event that this tool doesn't know; the message says why."""
+    """The folder can't be read, or has what this tool doesn't know; the message says why."""
 
 
 @dataclass
 class Item:
-    """An item of work: its task, `ready`, `executing` or `completed`, and who started it."""
+    """An item of work: its task, `ready`, `executing` or `completed`, who started it, and the number of the event that started it, or 0."""
 
     task: str
     stage: str = "ready"
     who: str = ""
+    started: int = 0
 
 
 @dataclass
 class Live:
-    """A net that stands at an identity, with its tokens by place and its items by identity."""
+    """A net that stands at an identity, with its tokens by place and its items by identity. `named` is the number of the last event by which
+    it began, a task of it was entered, or an item was added."""
 
     spec: str
     net: Net
+    named: int
     tokens: Counter[str] = field(default_factory=Counter)
     items: dict[Identity, Item] = field(default_factory=dict)
 
 
 @dataclass
 class Folder:
-    """What stands after the events so far: loaded specifications by name, and nets by identity."""
+    """What stands after the events so far: persons, loaded specifications by name, and by the number of each case its nets by identity.
+    `count` is the number of events taken."""
 
+    persons: set[str] = field(default_factory=set)
     specs: dict[str, Spec] = field(default_factory=dict)
-    nets: dict[Identity, Live] = field(default_factory=dict)
+    cases: dict[int, dict[Identity, Live]] = field(default_factory=dict)
+    count: int = 0
 
     def take(self, event: Event) -> None:
-        """One event more. Raises NotReplayed where its kind isn't known here."""
+        """One event more. Raises NotReplayed where it isn't known here, or loads a text that isn't read here."""
         act = _ACTS.get(event.word)
         if act is None:
             raise NotReplayed(f"the folder has an event `{event.word}`, which this tool doesn't know")
+        self.count += 1
         act(self, event.fields)
+
+    def net(self, at: Identity) -> Live:
+        """The net at an identity."""
+        return self.cases[at[0]][at]
 
     # Each of these takes the fields of one kind of event.
 
     def nothing(self, _: dict) -> None:
         """An event that changes no net."""
 
+    def person(self, fields: dict) -> None:
+        self.persons.add(fields["name"])
+
     def load(self, fields: dict) -> None:
-        self.specs[fields["name"]] = spec_of(toml.read(fields["toml"]))
+        try:
+            self.specs[fields["name"]] = spec_of(toml.read(fields["toml"]))
+        except (TextFault, NoShape):
+            raise NotReplayed(f"the folder has a specification `{fields['name']}`, which this tool can't read") from None
 
     def launch(self, fields: dict) -> None:
         self.begin((fields["case"],), fields["spec"], None)
 
     def enter(self, fields: dict) -> None:
-        at, task = _identity(fields["net"]), fields["task"]
-        live = self.nets[at]
+        at, task = identity_of(fields["net"]), fields["task"]
+        live = self.net(at)
+        live.named = self.count
         live.tokens -= Counter(fields["places"])
         for number in range(fields["first"], fields["first"] + fields["count"]):
             live.items[(*at, number)] = Item(task)
 
     def start(self, fields: dict) -> None:
         item = self.item(fields)
-        item.stage, item.who = "executing", fields["who"]
+        item.stage, item.who, item.started = "executing", fields["who"], self.count
 
     def complete(self, fields: dict) -> None:
         self.item(fields).stage = "completed"
 
     def exit(self, fields: dict) -> None:
-        at = _identity(fields["net"])
-        live = self.nets[at]
+        at = identity_of(fields["net"])
+        live = self.net(at)
         task = live.net.task(fields["task"])
         for name in (task.name, *task.removes):
             live.tokens.pop(name, None)
@@ -89,62 +108,71 @@ class Folder:
         live.tokens += Counter(fields["places"])
 
     def add(self, fields: dict) -> None:
-        at = _identity(fields["net"])
-        self.nets[at].items[(*at, fields["number"])] = Item(fields["task"])
+        at = identity_of(fields["net"])
+        live = self.net(at)
+        live.named = self.count
+        live.items[(*at, fields["number"])] = Item(fields["task"])
 
     def end(self, fields: dict) -> None:
-        self.remove((fields["case"],))
+        del self.cases[fields["case"]]
 
     def start_sub(self, fields: dict) -> None:
-        at = _identity(fields["item"])
+        at = identity_of(fields["item"])
         item = self.item(fields)
         item.stage = "executing"
-        parent = self.nets[at[:-1]]
+        parent = self.net(at[:-1])
         self.begin(at, parent.spec, parent.net.task(item.task).net)
 
     def substitute(self, fields: dict) -> None:
         self.item(fields).stage = "executing"
-        self.begin(_identity(fields["item"]), fields["spec"], None)
+        self.begin(identity_of(fields["item"]), fields["spec"], None)
 
     def complete_net(self, fields: dict) -> None:
-        self.remove(_identity(fields["item"]))
+        self.remove(identity_of(fields["item"]))
         self.item(fields).stage = "completed"
 
     # What they share.
 
     def item(self, fields: dict) -> Item:
-        at = _identity(fields["item"])
-        return self.nets[at[:-1]].items[at]
+        at = identity_of(fields["item"])
+        return self.net(at[:-1]).items[at]
 
     def begin(self, at: Identity, name: str, net: str | None) -> None:
         """A net begins with a token in its input: that of the specification which is named, or its top."""
         spec = self.specs[name]
         found = spec.net(net or spec.top)
-        self.nets[at] = Live(name, found, Counter([found.input]))
+        self.cases.setdefault(at[0], {})[at] = Live(name, found, self.count, Counter([found.input]))
 
     def remove(self, at: Identity) -> None:
         """The nets at an identity and below it go."""
-        for it in [it for it in self.nets if it[: len(at)] == at]:
-            del self.nets[it]
+        nets = self.cases[at[0]]
+        for it in [it for it in nets if it[: len(at)] == at]:
+            del nets[it]
 
     def remove_items(self, at: Identity, task: str) -> None:
         """The items of a task go, with the nets at them and below."""
-        items = self.nets[at].items
+        items = self.net(at).items
         for it in [it for it, item in items.items() if item.task == task]:
             del items[it]
             self.remove(it)
 
 
 _ACTS = {
-    "person": Folder.nothing, "load": Folder.load, "rule": Folder.nothing, "launch": Folder.launch, "enter": Folder.enter,
+    "person": Folder.person, "load": Folder.load, "rule": Folder.nothing, "launch": Folder.launch, "enter": Folder.enter,
     "start": Folder.start, "complete": Folder.complete, "exit": Folder.exit, "add": Folder.add, "finish": Folder.end,
     "cancel": Folder.end, "startsub": Folder.start_sub, "completesub": Folder.complete_net, "completeempty": Folder.complete,
     "pass": Folder.nothing, "substitute": Folder.substitute, "completeworklet": Folder.complete_net, "advance": Folder.nothing,
 }
 
 
-def _identity(text: str) -> Identity:
+def identity_of(text: str) -> Identity:
+    """The numbers of an identity."""
     return tuple(map(int, text.split(".")))
+
+
+def dotted(at: Identity) -> str:
+    """An identity as lines have it."""
+    return ".".join(map(str, at))
 
 
 def replay(folder: Path) -> Folder:
@@ -161,20 +189,16 @@ def replay(folder: Path) -> Folder:
 
 def views_of_case(folder: Path, case: int) -> list[View]:
     """The nets of a case in order of identity; none where no such case stands. Raises NotReplayed."""
-    state = replay(folder)
-    return [_view(at, state) for at in sorted(state.nets) if at[0] == case]
+    nets = replay(folder).cases.get(case, {})
+    return [_view(at, nets) for at in sorted(nets)]
 
 
-def _view(at: Identity, state: Folder) -> View:
-    live = state.nets[at]
+def _view(at: Identity, nets: dict[Identity, Live]) -> View:
+    live = nets[at]
     work: dict[str, list[Work]] = {}
     for identity, item in sorted(live.items.items()):
-        work.setdefault(item.task, []).append(Work(_dotted(identity), item.stage, item.who))
+        work.setdefault(item.task, []).append(Work(dotted(identity), item.stage, item.who))
     title = f"{live.spec}, case {at[0]}"
     if len(at) > 1:
-        title = f"{live.net.name} at {_dotted(at)}: the work of {state.nets[at[:-1]].items[at].task}"
+        title = f"{live.net.name} at {dotted(at)}: the work of {nets[at[:-1]].items[at].task}"
     return View(title, live.net, dict(live.tokens), work)
-
-
-def _dotted(at: Identity) -> str:
-    return ".".join(map(str, at))

@@ -30,8 +30,5 @@ def sentences() -> dict[str, str]:
 
 
 def sentence(rule: str) -> str | None:
-    """Where a line breaks this rule: of the table of rules, or where another place of the page says `RULE where ..`. None if none does."""
-    if rule in sentences():
-        return sentences()[rule]
-    found = re.search(rf"\b{re.escape(rule)} where ([^|;]*[^|; ])", LINES.read_text())
-    return found.group(1) if found else None
+    """Where a line breaks this rule; None where the table has no such rule."""
+    return sentences().get(rule)
