@@ -113,7 +113,7 @@ function isFirstStep(step, line) {
 }
 
 class Client {
-  /** A client that has the folder alone up to `close`. `words` stand behind `run`; `timeout`, in milliseconds, is how long a reply may take; a
+  /** A client that has the folder alone up to `close`. `words` stand after `run`; `timeout`, in milliseconds, is how long a reply may take; a
    *  command is sent `tries` times as long as it isn't held. `held` is the number of entries that the files hold. */
   static async open(folder, { program = PROGRAM, words = [], timeout = 0, tries = 20 } = {}) {
     const client = Object.assign(new Client(), { folder, program, words, timeout, tries, held: 0n, isCounted: false, server: null });
@@ -174,8 +174,8 @@ class Client {
     return reply;
   }
 
-  /** What the files hold behind so many entries, as replies. */
-  behind(number) {
+  /** What the files hold after so many entries, as replies. */
+  after(number) {
     return readEntries(this.folder, number).entries.map(foundReply);
   }
 

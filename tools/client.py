@@ -4,12 +4,13 @@
         client.command("person", name="ann", roles=["clerk"])
         case = client.command("launch", spec="order", data={"amount": 200}).made[0]
 
-The client runs the server as its own process. Where that ends before a reply was whole, however it ended, the reply doesn't tell whether
-the line is held. The client then counts the entries of the folder's files: it knows how many were held before the line. One more says that
-the line is held, and has its steps; the reply is made of these. As many as before say that it isn't, and it is sent again.
+The client runs the server as its own process. Where the server ends before a reply was whole, however it ended, the reply doesn't tell
+whether the line is held. The client then counts the entries of the folder's files, since it knows how many were held before the line. Where
+there is one entry more, the line is held, and the reply is made of this entry's steps. Where there are as many as before, the line isn't
+held, and is sent again.
 
-The folder is this client's alone from its making to `close`. What another server writes in the moments in which this client's is started again
-is found out (`Foreign`). One command is sent at a time; threads that share a client need a lock of their own.
+The folder is this client's alone from its making to `close`. What another server writes while this client starts its own again is found out
+(`Foreign`). One command is sent at a time; threads that share a client need a lock of their own.
 """
 
 from dataclasses import dataclass, field
@@ -29,7 +30,7 @@ IN_STEP = ("name", "spec", "case", "task", "item", "at")
 class Refused(Exception):
     """The line breaks a rule and has changed nothing: the rule's name, and what is at fault, or the empty text."""
 
-    def __init__(self, rule: str, at: str):
+    def __init__(self, rule: str, at: str) -> None:
         super().__init__(f"{rule} {at}".rstrip())
         self.rule = rule
         self.at = at
@@ -44,8 +45,8 @@ class Reply:
     """What an accepted command did.
 
     `steps` are its own and what came of itself; `quiet` is False where more is to come, by `advance`; `answer` is that of a query. `found`
-    says that the reply was lost and is made from the files. There `quiet` is told by the count of steps: with less than the most that come
-    behind one line nothing is to come; with the most that isn't known, and it is False.
+    says that the reply was lost and is made from the files. Then `quiet` follows from the count of steps. With fewer steps than a reply may
+    have, nothing is to come. With as many, it isn't known whether more is to come, and `quiet` is False.
     """
     steps: list[str] = field(default_factory=list)
     quiet: bool = True
@@ -63,7 +64,7 @@ class Ended(Exception):
     """The server ended for a cause that lasts. `status` is a number of the server's, `said` the line that it said, as `{"full":120}`, or None;
     `reply` is that of the command at work where the files hold it, and None where they don't."""
 
-    def __init__(self, lost: Lost, reply: Reply | None):
+    def __init__(self, lost: Lost, reply: Reply | None) -> None:
         super().__init__(f"{lost}; the command is {'held' if reply else 'not held'}")
         self.status = lost.status
         self.said = lost.said
@@ -78,8 +79,8 @@ class Client:
     """A client over a folder. `held` is the number of entries that the files hold, by what was replied and found so far."""
 
     def __init__(self, folder: str | Path, program: str | None = None, words: tuple[str, ...] = (), timeout: float | None = None,
-                 tries: int = 20):
-        """`words` stand behind `run`, as `("--limit", "1000000")`. A reply that doesn't come within the timeout, in seconds, counts as
+                 tries: int = 20) -> None:
+        """`words` stand after `run`, as `("--limit", "1000000")`. A reply that doesn't come within the timeout, in seconds, counts as
         lost. A command is sent so many times as long as the files don't hold it. Raises what `yawl.journal.Journal` raises, and `Ended` or
         `NotHeld` where the server can't be started, as where another has the folder."""
         self.folder = folder
@@ -175,9 +176,9 @@ class Client:
         self.held += 1
         return reply_of(events)
 
-    def behind(self, number: int) -> list[Reply]:
-        """What the files hold behind so many entries, as replies. A client that ended over a command leaves its `held` from before the command to
-        the next one: here that has the command's reply, or nothing where it isn't held."""
+    def after(self, number: int) -> list[Reply]:
+        """What the files hold after so many entries, as replies. A client that ended over a command leaves its `held` from before the command to
+        the next one, which finds here the command's reply, or nothing where the command isn't held."""
         return [reply_of(events) for entry, events in Journal(self.folder).entries() if entry.number > number]
 
     def close(self) -> int:

@@ -47,7 +47,7 @@ async function main() {
   const refused = await client.command("cancel", { case: "999999" }).catch((cause) => cause);
   if (!(refused instanceof Refused) || refused.rule !== "UnknownCase" || refused.at !== "") throw refused;
   await client.close();
-  if (JSON.stringify(client.behind(0n).map((it) => it.steps)) !== JSON.stringify(replies.map((it) => it.steps))) throw new Error("behind");
+  if (JSON.stringify(client.after(0n).map((it) => it.steps)) !== JSON.stringify(replies.map((it) => it.steps))) throw new Error("after");
   process.stdout.write(JSON.stringify(replies));
 }
 

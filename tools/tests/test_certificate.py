@@ -101,6 +101,14 @@ class CertificateTest(FolderTest):
         ran = subprocess.run([sys.executable, CERTIFICATE, EXAMPLES / "claims.toml"], cwd=TOP, capture_output=True, text=True)
         self.assertEqual((ran.returncode, ran.stdout, ran.stderr), (1, "", "the net has no certificate\n"))
 
+    def test_what_is_no_specification(self):
+        wrong, none = self.folder / "wrong.toml", self.folder / "none.toml"
+        wrong.write_text(TWO.replace('name = "seq"', "name = seq"))
+        for words, status, begin in (((wrong,), 1, f"{wrong}:1:8: "), ((none,), 3, "certificate.py: "),
+                                     ((EXAMPLES / "order.toml", "none"), 1, "no net has the name none\n")):
+            ran = subprocess.run([sys.executable, CERTIFICATE, *words], capture_output=True, text=True)
+            self.assertEqual((ran.returncode, ran.stdout, ran.stderr[:len(begin)]), (status, "", begin))
+
     def test_at_the_limit(self):
         text = json.dumps(proof()).encode()
         self.assertEqual(self.prove(text + b" " * (2_097_152 - len(text)))[0], 0)

@@ -109,8 +109,8 @@ class CommandTest(FolderTest):
         first.close()
         serve(self.folder, '{"cmd":"launch","spec":"order","data":{"amount":7}}\n')
         with Client(self.folder) as client:
-            self.assertEqual([(it.steps, it.made) for it in client.behind(kept)], [(["launch 1 order"], ["1"])])
-            self.assertEqual(client.behind(3), [])
+            self.assertEqual([(it.steps, it.made) for it in client.after(kept)], [(["launch 1 order"], ["1"])])
+            self.assertEqual(client.after(3), [])
 
     def test_another_client_may_come_between(self):
         with Client(self.folder) as first:
@@ -225,7 +225,7 @@ class FirstStepTest(unittest.TestCase):
 
 
 class Killer(threading.Thread):
-    """Kills a client's server so many times, at random moments: every second time within a life, and else behind a write to the file."""
+    """Kills a client's server so many times, at random moments: every second time within a life, and else after a write to the file."""
 
     def __init__(self, client: Client, kills: int, life: float, line: float):
         """`life` is how long a server lives at most, and `line` how long one line takes, in seconds."""

@@ -2,26 +2,31 @@
 
 The commands of a document are run in their order, in one folder that has the examples, the tools, `./yw` and `./try`. Blocks are found by their fences:
 
-- `sh` with lines that begin with `$ `: commands, each with its whole output behind it;
-- `sh` otherwise: commands that end well; what a single one says stands behind `  # `;
-- `python`: a program that ends well, and says what stands behind each `  # `;
+- `sh` with lines that begin with `$ `: commands, each with its whole output below it;
+- `sh` otherwise: commands that end well; what a single command says stands after `  # `;
+- `python`: a program that ends well, and says what stands after each `  # `;
 - lines of JSON: they stand in what was said so far.
 
 In an output `..` at the end of a line stands for the rest of it. What isn't run is named in LEFT_OUT.
 """
 
+import configparser
 import json
 import os
 import re
+import shlex
 import shutil
+import signal
 import subprocess
 import textwrap
+import time
 import unittest
 from dataclasses import dataclass
 from pathlib import Path
 
 from support import TOP, FolderTest, example, program_path, serve
 from yawl.journal import Journal
+from yawl.server import STATUSES
 
 DOCUMENTS = ("README.md", "docs/LINES.md", "docs/OPERATING.md", "docs/DESKS.md", "docs/SPECIFICATIONS.md", "tools/README.md")
 FENCE = re.compile(r"^( *)```(\w*)\n(.*?)^ *```$", re.MULTILINE | re.DOTALL)
@@ -58,7 +63,7 @@ def is_left_out(line: str) -> bool:
 
 
 def sessions(text: str) -> list[tuple[str, str]]:
-    """The commands behind `$ `, each with the output below it. A command has the lines of what is handed to it by `<<WORD`."""
+    """The commands after `$ `, each with the output below it. A command has the lines of what is handed to it by `<<WORD`."""
     found = []
     lines = iter(text.splitlines(keepends=True))
     for line in lines:
@@ -135,7 +140,7 @@ class Room:
                     self.test.assertTrue(is_shown(shown, line), f"shown: {shown}\nsaid:  {line}")
 
     def program(self, text: str, language: str) -> None:
-        """A program that ends well, and says what stands behind `  # `."""
+        """A program that ends well, and says what stands after `  # `."""
         kept = [line for line in text.splitlines() if not is_left_out(line)]
         wanted = [found[1].split() for line in kept if (found := re.search(r"\S  +# (.*)$", line))]
         words = {"sh": ["bash", "-c"], "python": ["python3", "-c"]}[language]
@@ -178,6 +183,10 @@ class DocumentsTest(FolderTest):
                 with self.subTest(document=document):
                     room.block(block)
 
+    def test_the_process_that_is_shown_whole_is_an_example(self):
+        lines = [line for line in example("loan", "toml").splitlines(keepends=True) if not line.startswith("#")]
+        self.assertIn("".join(lines), [block.text for block in blocks("docs/SPECIFICATIONS.md")])
+
     def test_a_gate_that_is_closed_by_hand_ends_the_damage(self):
         room = self.room("damage")
         status, said = room.shell("./yw copy run </dev/null")
@@ -185,6 +194,58 @@ class DocumentsTest(FolderTest):
         [closing] = [block for block in blocks("docs/OPERATING.md") if "seek=PLACE" in block.text]
         room.block(closing)
         self.assertEqual(room.shell("./yw copy run </dev/null"), (0, ""))
+
+
+def handed(pipe: Path, line: str) -> bool:
+    """Whether a line could be written to a named pipe, which is opened and closed for it: somebody has to read the pipe."""
+    try:
+        end = os.open(pipe, os.O_WRONLY | os.O_NONBLOCK)
+    except OSError:
+        return False
+    os.write(end, line.encode())
+    os.close(end)
+    return True
+
+
+class UnitTest(FolderTest):
+    """The unit of docs/OPERATING, over a folder of its own and the built program."""
+
+    def within(self, tried) -> None:
+        """Tries again and again, for half a minute at most."""
+        until = time.monotonic() + 30
+        while not tried():
+            self.assertLess(time.monotonic(), until)
+            time.sleep(0.01)
+
+    def service(self) -> dict[str, str]:
+        """The unit's lines on the service, by key."""
+        [unit] = [block.text for block in blocks("docs/OPERATING.md") if block.language == "ini"]
+        read = configparser.ConfigParser(interpolation=None)
+        read.optionxform = str
+        read.read_string(unit.replace("/srv", str(self.folder)).replace("crates/yw_main/out/yw_main", program_path()))
+        return dict(read["Service"])
+
+    def test_it_serves_a_pipe_until_it_is_stopped(self):
+        service = self.service()
+        pipe, replies = self.folder / "shop.lines", self.folder / "shop.replies"
+        (self.folder / "shop").mkdir()
+        os.mkfifo(pipe)
+        replies.touch()
+        self.assertEqual(subprocess.run(shlex.split(service["ExecStartPre"])).returncode, 0)
+        server = subprocess.Popen(shlex.split(service["ExecStart"]))
+        self.addCleanup(server.wait)
+        self.addCleanup(server.kill)
+        wanted = ""
+        for number, name in enumerate(("ann", "bob"), 1):
+            self.within(lambda: handed(pipe, f'{{"cmd":"person","name":"{name}","roles":[]}}\n'))
+            wanted += f'{{"n":{number},"ok":true,"quiet":true,"steps":["person {name}"]}}\n'
+            self.within(lambda: replies.read_text() == wanted)
+        server.terminate()
+        self.assertEqual(server.wait(), -signal.SIGTERM)
+
+    def test_what_lasts_is_not_tried_again(self):
+        lasting = [STATUSES[int(it)] for it in self.service()["RestartPreventExitStatus"].split()]
+        self.assertEqual(lasting, ["Usage", "Damaged", "Full"])
 
 
 class ReadingTest(unittest.TestCase):

@@ -26,7 +26,7 @@ def identity(*numbers: int) -> bytes:
 
 
 def record(*events: bytes) -> bytes:
-    """A length and an entry, as they stand behind an open gate."""
+    """A length and an entry, as they stand after an open gate."""
     entry = number(2, len(events)) + b"".join(events)
     return number(4, len(entry)) + entry
 
@@ -81,7 +81,7 @@ WRONG = {
     "value of a sixth sort": b"\7" + ITEM + number(4, 1) + b"\5",
     "truth of 2": b"\7" + ITEM + number(4, 1) + b"\0\2",
     "count that passes the end": b"\7" + ITEM + b"\xff" * 4,
-    "bytes behind it": b"\x18" + number(8, 1) + b"\0",
+    "bytes after it": b"\x18" + number(8, 1) + b"\0",
 }
 
 

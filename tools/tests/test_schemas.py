@@ -4,6 +4,7 @@ import json
 import tomllib
 import unittest
 
+from mistakes import MISTAKES
 from support import NAMES, TOOLS, FolderTest, example, serve
 from validator import Validator
 from yawl import lines, rules, server
@@ -142,6 +143,15 @@ class SpecificationTest(FolderTest):
                     wrong = text.replace(old, new, 1)
                     self.assertFalse(schema("specification").is_valid(tomllib.loads(wrong)))
                     self.assertEqual(server.check(wrong.encode())[0], 1)
+
+    def test_each_mistake_of_shape_is_invalid(self):
+        desk = (TOOLS / "tests/data/desk.toml").read_text()
+        self.assertTrue(schema("specification").is_valid(tomllib.loads(desk)))
+        for mistake in MISTAKES:
+            if mistake.says.startswith("SpecShape "):
+                with self.subTest(mistake.says):
+                    wrong = desk.replace(mistake.old, mistake.new, 1)
+                    self.assertFalse(schema("specification").is_valid(tomllib.loads(wrong)))
 
 
 class LineTest(FolderTest):

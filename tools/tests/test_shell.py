@@ -3,8 +3,11 @@
 import json
 import subprocess
 import unittest
+from importlib.machinery import SourceFileLoader
+from importlib.util import module_from_spec, spec_from_loader
+from unittest.mock import patch
 
-from support import EXAMPLES, TOOLS, FolderTest, example, run
+from support import EXAMPLES, TOOLS, FolderTest, example, run, serve
 from yawl import answers, lines, rules
 from yawl.journal import Event
 from yawl.known import Known
@@ -91,6 +94,22 @@ class SessionTest(FolderTest):
         ran = subprocess.run([SHELL, self.folder], input=b"", capture_output=True)
         self.assertEqual((ran.returncode, ran.stdout), (7, b""))
         self.assertIn(b"yawl.a is damaged at byte 1", ran.stderr)
+
+
+class CompletionTest(FolderTest):
+    def test_what_was_begun_is_completed(self):
+        loader = SourceFileLoader("shell", str(SHELL))
+        module = module_from_spec(spec_from_loader("shell", loader))
+        loader.exec_module(module)
+        serve(self.folder, "\n".join(example("order", "jsonl").splitlines()[:4]))
+        shell = module.Shell(str(self.folder))
+        self.addCleanup(shell.client.close)
+        for typed, wanted in (("sta", ["start "]), ("launch o", ["order "]), ("as ", ["ann ", "bob "]), ("enter re", ["receive "]),
+                              (f"load {EXAMPLES}/wron", [f"{EXAMPLES}/wrong.toml"]), ("start 9", []), ("person 'ann c", [])):
+            begin = typed.rfind(" ") + 1
+            with patch("readline.get_line_buffer", return_value=typed), patch("readline.get_begidx", return_value=begin):
+                found = [shell.complete(typed[begin:], number) for number in range(len(wanted) + 1)]
+            self.assertEqual(found, [*wanted, None])
 
 
 class AnswerTest(unittest.TestCase):

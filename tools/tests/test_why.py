@@ -4,6 +4,7 @@ from __future__ import annotations
 
 import json
 import re
+import subprocess
 import tempfile
 import unittest
 from pathlib import Path
@@ -12,7 +13,7 @@ from mistakes import COMMON, MISTAKES
 from support import TOOLS, TOP, serve
 from support import run as run_words
 from yawl import check, rules, toml
-from yawl.document import Source
+from yawl.document import Source, Span
 from yawl.lint import Lint
 from yawl.nets import spec_of
 
@@ -104,6 +105,16 @@ class FileTests(unittest.TestCase):
             self.assertEqual(status, 1 if wrong else 0, said)
             self.assertEqual(said.endswith(": accepted\n"), not wrong)
 
+    def test_a_long_line_is_shown_in_part(self) -> None:
+        source = Source("x", "a" * 300 + "b" + "c" * 300)
+        self.assertEqual(source.marked(Span(300, 301)), f"    1 | ..{'a' * 60}b{'c' * 99}..\n      | {' ' * 62}^")
+        self.assertEqual(source.marked(Span(600, 601)), f"    1 | ..{'c' * 160}\n      | {' ' * 161}^")
+
+    def test_what_cannot_be_read(self) -> None:
+        ran = subprocess.run([TOOLS / "why", "/nowhere/x.toml"], capture_output=True, text=True)
+        self.assertEqual((ran.returncode, ran.stdout), (3, ""))
+        self.assertIn("/nowhere/x.toml", ran.stderr)
+
     def test_a_finding_is_a_place_the_line_and_a_mark(self) -> None:
         status, said = run("-", given=DESK.replace("yes = 2", "yes == 2"))
         self.assertEqual(status, 1)
@@ -137,6 +148,7 @@ class LineTests(unittest.TestCase):
         '{"cmd":"person","name":"ann","roles":["a","b","a"]}': ("NotCommand", 47),
         '{"cmd":"complete","who":"ann","item":"1.2","out":[]}': ("NotCommand", 50),
         '["cmd"]': ("NotCommand", 1),
+        '{"cmd":"rule"}': ("NotBuilt", 8),
         '{"cmd":"person","name":"ann","roles":["clerk",]}': ("NotJson", 47),
         "{'cmd':'advance','case':'1'}": ("NotJson", 2),
         '{"cmd":"advance" "case":"1"}': ("NotJson", 17),
@@ -157,6 +169,12 @@ class LineTests(unittest.TestCase):
                 self.assertTrue(first.startswith(f"input:{number}:{column}: "), first)
                 self.assertEqual((shown[8:], mark.index("^") - 7, last), (line, column, f"({rule})"))
 
+    def test_a_line_that_is_too_long(self) -> None:
+        status, said = run("--line", given='{"cmd":"specs"}' + " " * 1_048_562)
+        first, *_, last = said.splitlines()
+        self.assertEqual((status, first), (1, "input:1:1: the line has 1,048,577 bytes; a line has at most 1,048,576"))
+        self.assertEqual((last, len(said) < 1000), ("(LineTooLong)", True))
+
     def test_the_server_refuses_these_lines_so(self) -> None:
         self.assertEqual([it["rule"] for it in replies(list(self.LINES))], [rule for rule, _ in self.LINES.values()])
 
@@ -171,6 +189,7 @@ class LineTests(unittest.TestCase):
         for rule in named:
             self.assertTrue(rules.sentence(rule), rule)
         self.assertEqual(run("--line", "Role"), (0, "Role: the line breaks it where the person lacks the task's role\n"))
+        self.assertEqual(run("--line", "Rule"), (1, "Rule: docs/LINES.md has no such rule\n"))
 
     def test_a_refused_reply_gets_its_sentence(self) -> None:
         status, said = run("--line", given='{"at":"den","n":2,"ok":false,"rule":"Mapping"}\n{"n":3,"ok":true,"quiet":true,"steps":["x"]}\n')

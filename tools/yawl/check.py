@@ -4,7 +4,7 @@ from __future__ import annotations
 
 from . import check_nets, check_tasks, shape, toml
 from .document import Finding, Node, Source, Span, TextFault, steps
-from .nets import Spec, spec_of
+from .nets import NoShape, Spec, spec_of
 
 LARGEST = 1_048_576
 CHECKS = {
@@ -26,6 +26,17 @@ def decoded(name: str, data: bytes) -> tuple[Source, Finding | None]:
     return source, None
 
 
+def read(name: str, data: bytes) -> tuple[Source, Spec | Finding]:
+    """The specification in a file, unchecked; or what is wrong with its bytes, its TOML or its shape."""
+    source, finding = decoded(name, data)
+    if finding:
+        return source, finding
+    try:
+        return source, spec_of(toml.read(source.text))
+    except (TextFault, NoShape) as fault:
+        return source, fault.finding
+
+
 def explain(source: Source, rule: str, at: str) -> Finding:
     """What a refusal by this rule, with this `at`, means in this text."""
     if rule == "LineTooLong":
@@ -43,7 +54,7 @@ def explain(source: Source, rule: str, at: str) -> Finding:
 
 
 def _shape(root: Node, path: str) -> Finding:
-    """The fault at a path: that which this package finds first, where it is at the same path."""
+    """The fault at a path: the first that this package finds, where it is at the same path."""
     found = shape.fault(root)
     if found and found[0] == path:
         return found[1]

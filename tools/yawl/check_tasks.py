@@ -112,7 +112,7 @@ def _branches(_: Spec, net: Net, task: Task) -> Iterator[Finding]:
 def _defaults(task: Task, node: Node) -> Iterator[Finding]:
     plain = [it for it in task.branches if it.when is None]
     if not plain:
-        do = "take `when` from the last: it is the default, for where no other holds"
+        do = "take `when` from the last branch: it is the default, for where no other condition holds"
         yield Finding(task.branches[-1].node.get("when").key_or_value, f"no branch of `{task.name}` is without `when`", do)
     if len(plain) > 1:
         also = ((plain[0].node.span, "it is the first without `when`"),)

@@ -6,6 +6,9 @@ from dataclasses import dataclass, field
 from typing import Iterator, Union
 
 Scalar = Union[str, int, float, bool, None, "Moment"]
+# How many characters of a long line are shown, and how many of these before the marked part.
+WIDEST = 160
+BEFORE = 60
 
 
 @dataclass(frozen=True)
@@ -17,7 +20,7 @@ class Moment:
 
 @dataclass(frozen=True)
 class Span:
-    """A part of a text: from its first character up to the one behind its last, both counted from 0."""
+    """A part of a text: from its first character up to the one after its last, both counted from 0."""
 
     start: int
     end: int
@@ -28,7 +31,7 @@ class Node:
     """A value: a text, number, boolean or date, a list of nodes, or a table of nodes by their keys.
 
     `span` is where the value is written, and of a table with a header that header. `key` is where its key is written, if it has
-    one. Of a text `starts` has the place of each of its characters, and behind them that of the closing quote.
+    one. Of a text `starts` has the place of each of its characters, and after them that of the closing quote.
     """
 
     value: Scalar | list[Node] | dict[str, Node]
@@ -82,13 +85,16 @@ class Source:
 
     def marked(self, span: Span) -> str:
         """The line in which a part begins, and below it carets under the part. A part over several lines is marked up to the end of
-        the first."""
+        the first. Of a long line the part is shown with what stands near it, and `..` stands for the rest."""
         number, column = self.place(span.start)
         line = self.line_at(span.start)
-        width = max(1, min(span.end - span.start, len(line) - column + 1))
+        start = max(0, min(column - 1 - BEFORE, len(line) - WIDEST))
+        shown, at = line[start : start + WIDEST], column - 1 - start
+        cut, rest = ".." if start else "", ".." if start + WIDEST < len(line) else ""
+        width = max(1, min(span.end - span.start, len(shown) - at))
         head = f"{number:5} | "
-        gap = "".join("\t" if c == "\t" else " " for c in line[: column - 1])
-        return f"{head}{line}\n{' ' * (len(head) - 2)}| {gap}{'^' * width}"
+        gap = "".join("\t" if c == "\t" else " " for c in cut + shown[:at])
+        return f"{head}{cut}{shown}{rest}\n{' ' * (len(head) - 2)}| {gap}{'^' * width}"
 
 
 @dataclass(frozen=True)

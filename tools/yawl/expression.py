@@ -134,6 +134,7 @@ class _Parser:
 
     @property
     def next(self) -> Token:
+        """The next token."""
         return self.tokens[self.at]
 
     def sign(self, *texts: str) -> Token | None:
@@ -145,6 +146,7 @@ class _Parser:
         return None
 
     def want(self, text: str, do: str) -> None:
+        """Takes the next token, which has to be this sign."""
         if not self.sign(text):
             raise self.fault(do)
 
@@ -161,6 +163,7 @@ class _Parser:
         return Fault(token.start, token.end, f"`{token.text}` can't stand here", do)
 
     def whole(self) -> Tree:
+        """All tokens, as one expression."""
         tree = self.either()
         token = self.next
         if token.kind == "end":
@@ -181,29 +184,36 @@ class _Parser:
         return tree
 
     def either(self) -> Tree:
+        """Operands with `or` between them."""
         return self.left(("or",), self.both)
 
     def both(self) -> Tree:
+        """Operands with `and` between them."""
         return self.left(("and",), self.inverse)
 
     def inverse(self) -> Tree:
+        """`not`, any number of times, before a comparison."""
         token = self.sign("not")
         return Tree("not", token, (self.inverse(),)) if token else self.comparison()
 
     def comparison(self) -> Tree:
+        """A sum, or two sums with a comparison between them."""
         tree = self.left(("+", "-"), self.product)
         if token := self.sign(*_COMPARISONS):
             tree = Tree(token.text, token, (tree, self.left(("+", "-"), self.product)))
         return tree
 
     def product(self) -> Tree:
+        """Operands with `*`, `/` or `%` between them."""
         return self.left(("*", "/", "%"), self.unary)
 
     def unary(self) -> Tree:
+        """`-`, any number of times, before an operand."""
         token = self.sign("-")
         return Tree("minus", token, (self.unary(),)) if token else self.indexed()
 
     def indexed(self) -> Tree:
+        """An operand with any number of indexes."""
         tree = self.primary()
         while token := self.sign("["):
             tree = Tree("[", token, (tree, self.either()))
@@ -211,6 +221,7 @@ class _Parser:
         return tree
 
     def primary(self) -> Tree:
+        """A constant, a name, `len`, `sum`, a list, or an expression in brackets."""
         token = self.next
         if token.kind in ("number", "text", "name"):
             self.at += 1
@@ -241,6 +252,7 @@ class _Parser:
         return Tree("list", opening, tuple(elements))
 
     def constant(self) -> Tree:
+        """An element of a list."""
         minus = self.sign("-")
         token = self.next
         if token.kind == "number" or token.kind == "text" and not minus:
@@ -266,7 +278,7 @@ def _sort(tree: Tree, scope: Mapping[str, str]) -> str:
 _INTS = "it takes ints"
 _TAKES = {
     "=": "it takes two bools, two ints or two texts; lists aren't compared", "!=": "it takes two bools, two ints or two texts",
-    "and": "it takes two bools", "or": "it takes two bools", "not": "it takes a bool; put a comparison behind it in brackets",
+    "and": "it takes two bools", "or": "it takes two bools", "not": "it takes a bool; put a comparison after it in brackets",
     "[": "an index is an int, into ints or texts", "len": "it takes ints or texts", "sum": "it takes ints",
     "list": "a list has ints alone, or texts alone", "+": "it takes two ints; texts aren't joined",
 }

@@ -122,8 +122,8 @@ function readHead(file, name) {
   return { name, generation, count, snapshot };
 }
 
-/** The number of the last entry that a folder holds, and the bytes of those with numbers past `behind`, in order. */
-function readEntries(folder, behind) {
+/** The number of the last entry that a folder holds, and the bytes of those with numbers past `known`, in order. */
+function readEntries(folder, known) {
   const heads = FILES.map((name) => withFile(folder, name, (file) => readHead(file, name))).filter(Boolean);
   const [head] = heads.sort((one, other) => (one.generation < other.generation ? 1 : -1));
   if (!head) return { number: 0n, entries: [] };
@@ -134,7 +134,7 @@ function readEntries(folder, behind) {
     for (let bytes; (bytes = readAt(file, gate, 5))[0] === 1; ) {
       const size = bytes.readUInt32BE(1);
       number += 1n;
-      if (number > behind) entries.push(readAt(file, gate + 5, size));
+      if (number > known) entries.push(readAt(file, gate + 5, size));
       gate += 5 + size;
     }
     if (!readAt(file, gate, 1).length) throw new Damaged(`${head.name} is cut at byte ${gate}`);

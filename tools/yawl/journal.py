@@ -6,13 +6,16 @@ isn't open ends them. A file is only read here, also while a server writes it: a
 
 import os
 import re
-from collections.abc import Callable, Iterator
+from collections.abc import Callable, Iterator, Sequence
 from dataclasses import dataclass
 from pathlib import Path
+from typing import NoReturn, TypeVar
+
+T = TypeVar("T")
 
 FILES = {"a": "yawl.a", "b": "yawl.b"}
 MAGIC = b"YWJ1"
-# A header with its first gate: gate, magic, generation, count, length of the snapshot; and the gate behind an empty snapshot.
+# A header with its first gate: gate, magic, generation, count, length of the snapshot; and the gate after an empty snapshot.
 HEADER = 29
 GREATEST = 1 << 62
 MOST_EVENTS = 4097
@@ -29,7 +32,7 @@ PRIMITIVES = ("suspend_item", "continue_item", "restart_item", "complete_item", 
 class Damaged(Exception):
     """The files hold no state: the file `a` or `b` has its first damage at this offset."""
 
-    def __init__(self, file: str, place: int):
+    def __init__(self, file: str, place: int) -> None:
         super().__init__(f"{FILES[file]} is damaged at byte {place}")
         self.file = file
         self.place = place
@@ -38,7 +41,7 @@ class Damaged(Exception):
 class Snapshot(Exception):
     """The chosen file begins with a snapshot, which this version doesn't read."""
 
-    def __init__(self, file: str):
+    def __init__(self, file: str) -> None:
         super().__init__(f"{FILES[file]} begins with a snapshot, which this version doesn't read")
         self.file = file
 
@@ -50,7 +53,7 @@ class NotAnEntry(Exception):
 class Reader:
     """Takes fields from the front of an entry's bytes. Each method raises `NotAnEntry` where its field doesn't stand there."""
 
-    def __init__(self, entry: bytes):
+    def __init__(self, entry: bytes) -> None:
         self.entry = entry
         self.at = 0
 
@@ -78,7 +81,7 @@ class Reader:
         """A whole number of eight bytes, in two's complement."""
         return int.from_bytes(self.take(8), "big", signed=True)
 
-    def choice(self, names: tuple):
+    def choice(self, names: Sequence[T]) -> T:
         """A byte that picks one of these."""
         picked = self.number(1)
         if picked >= len(names):
@@ -97,34 +100,34 @@ class Reader:
             raise NotAnEntry from None
 
     def text(self) -> str:
-        """A text behind its length."""
+        """A text after its length."""
         return self.letters(self.u32())
 
     def name_or_none(self) -> str:
-        """A name behind its length, or the empty text."""
+        """A name after its length, or the empty text."""
         name = self.letters(self.number(1))
         if name and not NAME.match(name):
             raise NotAnEntry
         return name
 
     def name(self) -> str:
-        """A name behind its length."""
+        """A name after its length."""
         return self.name_or_none() or self.refuse()
 
-    def refuse(self):
+    def refuse(self) -> NoReturn:
         """Nothing that is allowed stands here."""
         raise NotAnEntry
 
     def list_of(self, field: Callable[[], object]) -> list:
-        """Such fields behind their count."""
+        """Such fields after their count."""
         return [field() for _ in range(self.u32())]
 
     def names(self) -> list[str]:
-        """Names behind a count of one byte."""
+        """Names after a count of one byte."""
         return [self.name() for _ in range(self.number(1))]
 
     def identity(self) -> str:
-        """Numbers behind their count, with dots between them."""
+        """Numbers after their count, with dots between them."""
         numbers = [self.u64() for _ in range(self.number(1))]
         if not 1 <= len(numbers) <= MOST_NUMBERS or not all(0 < it < NUMBER_END for it in numbers):
             raise NotAnEntry
@@ -135,15 +138,15 @@ class Reader:
         return f"{self.name()}->{self.name()}" if self.flag() else self.name()
 
     def places(self) -> list[str]:
-        """Places behind their count."""
+        """Places after their count."""
         return self.list_of(self.place)
 
     def value(self) -> bool | int | str | list:
-        """A value behind its sort."""
+        """A value after its sort."""
         return self.choice((self.flag, self.i64, self.text, lambda: self.list_of(self.i64), lambda: self.list_of(self.text)))()
 
     def values(self) -> list:
-        """Values behind their count."""
+        """Values after their count."""
         return self.list_of(self.value)
 
     def tree(self) -> str:
@@ -264,7 +267,7 @@ class Head:
 class Bytes:
     """The bytes of a file, read a piece at a time, for one pass over it."""
 
-    def __init__(self, path: Path):
+    def __init__(self, path: Path) -> None:
         self.file = os.open(path, os.O_RDONLY)
         self.at = 0
         self.piece = b""
@@ -336,7 +339,7 @@ class Journal:
     at which reading goes on.
     """
 
-    def __init__(self, folder: str | Path):
+    def __init__(self, folder: str | Path) -> None:
         """Looks at the headers. Raises `Damaged` or `Snapshot`, and FileNotFoundError where there is no folder."""
         self.folder = Path(folder)
         os.stat(self.folder)

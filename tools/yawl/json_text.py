@@ -21,7 +21,7 @@ def read(text: str) -> Node:
     node = reader.value(0)
     reader.space()
     if reader.at < len(text):
-        what = "something stands behind the end of the value"
+        what = "something stands after the end of the value"
         raise TextFault(Span(reader.at, len(text)), what, "a line has one command, and each command a line of its own")
     return node
 
@@ -34,19 +34,23 @@ class _Reader:
         self.at = 0
 
     def peek(self) -> str:
+        """The next character, or nothing at the end."""
         return self.text[self.at : self.at + 1]
 
     def takes(self, word: str) -> bool:
+        """Whether the text goes on with this word, which is then taken."""
         found = self.text.startswith(word, self.at)
         if found:
             self.at += len(word)
         return found
 
     def space(self) -> None:
+        """Takes what JSON counts as blank."""
         while self.peek() and self.peek() in " \t\r\n":
             self.at += 1
 
     def value(self, depth: int) -> Node:
+        """Any value, with so many brackets open around it."""
         start = self.at
         if depth > DEEPEST:
             raise TextFault(Span(start, start + 1), f"more than {DEEPEST} brackets are open", "a command has a few")
@@ -79,6 +83,7 @@ class _Reader:
         raise TextFault(span, f"`{word}` is no value of JSON", do)
 
     def list(self, start: int, depth: int) -> Node:
+        """A list, whose opening bracket is taken."""
         elements: list[Node] = []
         self.space()
         if self.takes("]"):
@@ -96,6 +101,7 @@ class _Reader:
                 raise TextFault(Span(end, end + 1), "a `,` or the closing `]` is missing", "write it here")
 
     def table(self, start: int, depth: int) -> Node:
+        """An object, whose opening bracket is taken."""
         fields: dict[str, Node] = {}
         self.space()
         if self.takes("}"):
@@ -143,6 +149,7 @@ class _Reader:
         return made
 
     def escape(self) -> str:
+        """The character that an escape stands for."""
         pair = _SURROGATES.match(self.text, self.at)
         if pair:
             self.at = pair.end()

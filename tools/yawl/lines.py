@@ -3,6 +3,7 @@
 import json
 import shlex
 from pathlib import Path
+from typing import NoReturn
 
 from yawl import rules
 from yawl.known import Known
@@ -11,7 +12,7 @@ from yawl.known import Known
 AWAITED = {"list": {"who": "NAME"}}
 # What a field may be typed as, beside the forms that docs/LINES.md has: a file's name for its text.
 SHOWN = {"TEXT": "FILE", "[NAME,..]": "NAME ..", "{NAME:VALUE,..}": "NAME=VALUE .."}
-# Words whose case has to be typed: one goes for good, the other asks for a case that isn't known any more.
+# Words whose case has to be typed: `cancel` ends it for good, and `ended` asks for a case that isn't known any more.
 TYPED = ("cancel", "ended")
 # Words that take the number of a case and no net within it.
 OF_CASE = ("advance", "show")
@@ -26,7 +27,7 @@ def forms() -> dict[str, dict[str, str]]:
     return rules.forms() | AWAITED
 
 
-def value_of(word: str):
+def value_of(word: str) -> object:
     """A value as it is typed: JSON where the word is such, else the word itself as a text."""
     try:
         return json.loads(word)
@@ -44,9 +45,9 @@ def usage(word: str) -> str:
 
 
 class Typed:
-    """The words behind the first, and what stands for those that are left out."""
+    """The words after the first, and what stands for those that are left out."""
 
-    def __init__(self, word: str, rest: list[str], known: Known, person: str):
+    def __init__(self, word: str, rest: list[str], known: Known, person: str) -> None:
         self.word = word
         self.rest = rest
         self.known = known
@@ -61,7 +62,7 @@ class Typed:
             raise Unclear(f"`{self.rest[0]}` is too much: {usage(self.word)}")
         return line
 
-    def field(self, name: str, kind: str):
+    def field(self, name: str, kind: str) -> object:
         """The value of one field."""
         if name == "who":
             return self.person or self.lacks("a person: type `as NAME` first")
@@ -95,7 +96,7 @@ class Typed:
         words, self.rest = self.rest, []
         return words
 
-    def pair(self, word: str) -> tuple:
+    def pair(self, word: str) -> tuple[str, object]:
         """A name and its value."""
         name, equals, value = word.partition("=")
         return (name, value_of(value)) if equals else self.lacks(f"`=` in `{word}`")
@@ -107,7 +108,7 @@ class Typed:
         except (OSError, UnicodeDecodeError) as cause:
             raise Unclear(f"{path}: {cause}") from None
 
-    def lacks(self, what: str):
+    def lacks(self, what: str) -> NoReturn:
         """Refuses what was typed."""
         raise Unclear(f"`{self.word}` lacks {what}: {usage(self.word)}")
 
@@ -121,7 +122,7 @@ def split(typed: str) -> list[str]:
 
 
 def choices(words: list[str], known: Known) -> list[str]:
-    """What the next word may be, behind these words."""
+    """What the next word may be, after these words."""
     if not words:
         return [*forms(), "as", "items", "help", "quit"]
     tasks = [task.name for spec in known.specs.values() for net in spec.nets for task in net.tasks]

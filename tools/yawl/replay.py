@@ -72,18 +72,22 @@ class Folder:
         """An event that changes no net."""
 
     def person(self, fields: dict) -> None:
+        """A person is known."""
         self.persons.add(fields["name"])
 
     def load(self, fields: dict) -> None:
+        """A specification is loaded."""
         try:
             self.specs[fields["name"]] = spec_of(toml.read(fields["toml"]))
         except (TextFault, NoShape):
             raise NotReplayed(f"the folder has a specification `{fields['name']}`, which this tool can't read") from None
 
     def launch(self, fields: dict) -> None:
+        """A case begins with its top net."""
         self.begin((fields["case"],), fields["spec"], None)
 
     def enter(self, fields: dict) -> None:
+        """A task takes tokens, and its items are made."""
         at, task = identity_of(fields["net"]), fields["task"]
         live = self.net(at)
         live.named = self.count
@@ -92,13 +96,16 @@ class Folder:
             live.items[(*at, number)] = Item(task)
 
     def start(self, fields: dict) -> None:
+        """A person starts an item."""
         item = self.item(fields)
         item.stage, item.who, item.started = "executing", fields["who"], self.count
 
     def complete(self, fields: dict) -> None:
+        """An item is completed."""
         self.item(fields).stage = "completed"
 
     def exit(self, fields: dict) -> None:
+        """A task is left: its items and what it removes go, and it gives tokens."""
         at = identity_of(fields["net"])
         live = self.net(at)
         task = live.net.task(fields["task"])
@@ -108,15 +115,18 @@ class Folder:
         live.tokens += Counter(fields["places"])
 
     def add(self, fields: dict) -> None:
+        """One more item of a task is made."""
         at = identity_of(fields["net"])
         live = self.net(at)
         live.named = self.count
         live.items[(*at, fields["number"])] = Item(fields["task"])
 
     def end(self, fields: dict) -> None:
+        """A case is over."""
         del self.cases[fields["case"]]
 
     def start_sub(self, fields: dict) -> None:
+        """The net of an item begins."""
         at = identity_of(fields["item"])
         item = self.item(fields)
         item.stage = "executing"
@@ -124,16 +134,19 @@ class Folder:
         self.begin(at, parent.spec, parent.net.task(item.task).net)
 
     def substitute(self, fields: dict) -> None:
+        """A worklet begins in place of an item."""
         self.item(fields).stage = "executing"
         self.begin(identity_of(fields["item"]), fields["spec"], None)
 
     def complete_net(self, fields: dict) -> None:
+        """The net of an item ends, which completes the item."""
         self.remove(identity_of(fields["item"]))
         self.item(fields).stage = "completed"
 
     # What they share.
 
     def item(self, fields: dict) -> Item:
+        """The item that an event names."""
         at = identity_of(fields["item"])
         return self.net(at[:-1]).items[at]
 

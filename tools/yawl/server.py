@@ -1,4 +1,4 @@
-"""The server's process: it is started over a folder, handed lines, and its replies are read."""
+"""The server's process: it is started over a folder, is handed lines, and gives replies."""
 
 import json
 import os
@@ -17,7 +17,7 @@ class Lost(Exception):
     """The server ended before a reply was whole. `status` is what it ended with, or minus the signal's number, and `said` the line that it
     said in place of a reply, as `{"full":120}`, or None."""
 
-    def __init__(self, status: int, said: dict | None):
+    def __init__(self, status: int, said: dict | None) -> None:
         name = STATUSES[status] if 0 <= status < len(STATUSES) else f"signal {-status}" if status < 0 else "none of the server's"
         super().__init__(f"the server ended with status {status} ({name})" + (f" and said {json.dumps(said)}" if said else ""))
         self.status = status
@@ -45,8 +45,8 @@ def line_of(command: dict) -> bytes:
 class Server:
     """A server that runs over a folder. It lives until `end` or `kill`, or until it ends by itself."""
 
-    def __init__(self, folder: str | Path, program: str | None = None, words: tuple[str, ...] = ()):
-        """Starts it; `words` stand behind `run`. What keeps it from opening the folder is told by the first `ask`."""
+    def __init__(self, folder: str | Path, program: str | None = None, words: tuple[str, ...] = ()) -> None:
+        """Starts it; `words` stand after `run`. What keeps it from opening the folder is reported by the first `ask`."""
         command = [program or program_path(), str(folder), "run", *words]
         self.process = subprocess.Popen(command, stdin=subprocess.PIPE, stdout=subprocess.PIPE, bufsize=0)
         self.asked = 0

@@ -178,7 +178,7 @@ def _missing(node: Node, key: Key, table: str, root: Node) -> Finding:
         return Finding(node.get(near[0]).key_or_value, what, f"did you mean `{key.name}`?")
     stray = next(_strays(node, key.name, table), None)
     if stray is not None:
-        what = f"`{key.name}` is missing in {title}: it stands below a header of another table, and so belongs to that"
+        what = f"`{key.name}` is missing in {title}: it stands below a header of another table, and so belongs to that table"
         where = "above the first header" if table == "document" else "right below the header `[[net]]`, above the next header"
         return Finding(stray.key_or_value, what, f"move the line {where}")
     kind = _KINDS.get(key.kind, "a list of tables")

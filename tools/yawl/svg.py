@@ -63,6 +63,7 @@ class Drawing:
         self.height = TITLE + self.layout.height
 
     def size(self, name: str) -> Size:
+        """The room that a node takes."""
         task = self.net.task(name)
         if task is None:
             return Size(2 * RADIUS, max(2 * RADIUS, len(name) * SMALL), RADIUS, RADIUS + 14, 12.0)
@@ -107,13 +108,14 @@ class Drawing:
     # Flows
 
     def flow(self, flow: Flow, line: Sequence[Point]) -> Iterator[str]:
+        """A flow as a line with a point at its end."""
         points = " ".join(f"{_n(x)},{_n(y)}" for x, y in line)
         x, y = line[-1]
         yield f'<g class="flow" data-from="{escape(flow[0])}" data-to="{escape(flow[1])}"><polyline class="l" points="{points}"/>'
         yield f'<path class="m" d="M{_n(x)} {_n(y)}l-8 -3.5v7z"/></g>'
 
     def label(self, flow: Flow) -> Iterator[str]:
-        """The label of a flow: behind its first slant, where it is level again. Of several that end at one node the lowest has its label
+        """The label of a flow: after its first slant, where it is level again. Of several that end at one node the lowest has its label
         below it."""
         line = self.layout.lines[flow]
         slants = (end for start, end in zip(line, line[1:]) if start[0] != end[0] and start[1] != end[1])
@@ -145,6 +147,7 @@ class Drawing:
     # Nodes
 
     def condition(self, name: str) -> Iterator[str]:
+        """A condition with its tokens and its name."""
         x, y = self.layout.centres[name]
         count = self.view.tokens.get(name, 0)
         yield f'<g class="condition"><circle class="b{" w" if count else ""}" cx="{_n(x)}" cy="{_n(y)}" r="{_n(RADIUS)}"/>'
@@ -157,6 +160,7 @@ class Drawing:
         yield f'<text class="s n" x="{_n(x)}" y="{_n(y + RADIUS + 11)}">{escape(name)}</text></g>'
 
     def task(self, task: Task) -> Iterator[str]:
+        """A task with its marks, its name, and what stands below it."""
         x, y = self.layout.centres[task.name]
         size = self.sizes[task.name]
         left, top, width = x - size.shape / 2, y - BOX / 2, size.shape
@@ -235,5 +239,5 @@ def _short(text: str) -> str:
 
 
 def _n(number: float) -> str:
-    """A number with at most one digit behind the point."""
+    """A number with at most one digit after the point."""
     return f"{round(number, 1):g}" if abs(number) < 100000 else f"{number:.1f}"

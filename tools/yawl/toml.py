@@ -58,9 +58,11 @@ class _Reader:
             self.at += 1
 
     def newline(self) -> bool:
+        """Whether a line ends here, whose end is then taken."""
         return self.takes("\n") or self.takes("\r\n")
 
     def comment(self) -> None:
+        """Takes a comment up to the end of its line."""
         if self.peek() == "#":
             while self.peek() and not self.text.startswith(("\n", "\r\n"), self.at):
                 if _is_control(self.peek()):
@@ -77,6 +79,7 @@ class _Reader:
             self.newline()
 
     def here(self, length: int = 1) -> Span:
+        """The next characters, so many."""
         return Span(self.at, self.at + length)
 
     # Lines
@@ -96,11 +99,12 @@ class _Reader:
         return self.root
 
     def end_of_line(self) -> None:
+        """Takes the rest of a line, in which a comment alone may stand."""
         self.blank()
         self.comment()
         if self.peek() and not self.newline():
             end = self.text.find("\n", self.at)
-            what = "something stands behind the end of the value"
+            what = "something stands after the end of the value"
             do = "take it out, begin a new line before it, or put a text that it belongs to in quotes as a whole"
             raise TextFault(Span(self.at, len(self.text) if end < 0 else end), what, do)
 
@@ -132,6 +136,7 @@ class _Reader:
         return found
 
     def new_table(self, table: Node, key: tuple[str, Span], span: Span) -> Node:
+        """The table of a header in single brackets, which stands once."""
         name, at = key
         found = table.get(name)
         if found is None:
@@ -144,6 +149,7 @@ class _Reader:
         return found
 
     def new_element(self, table: Node, key: tuple[str, Span], span: Span) -> Node:
+        """One more table of the list of a header in double brackets."""
         name, at = key
         found = table.get(name)
         if found is None:
@@ -202,6 +208,7 @@ class _Reader:
     # Values
 
     def value(self) -> Node:
+        """Any value."""
         character = self.peek()
         if character == "[":
             return self.bracketed()
@@ -277,7 +284,7 @@ class _Reader:
                 self.close(it)
 
     def unclosed(self, start: int, close: str, elements: list[Node], end: int | None = None) -> TextFault:
-        """The fault of a list or a table in braces that goes on as none does: behind its last element, where there is one."""
+        """The fault of a list or a table in braces that goes on as none does: after its last element, where there is one."""
         at = end if end is not None else elements[-1].span.end if elements else start
         what = f"a `,` or the closing `{close}` is missing" if elements else f"the closing `{close}` is missing"
         also = () if "\n" not in self.text[start:at] else ((Span(start, start + 1), "it is opened here"),)
@@ -333,6 +340,7 @@ class _Reader:
             self.add(text, character, start)
 
     def escape(self) -> str:
+        """The character that an escape stands for."""
         start = self.at
         letter = self.text[start + 1 : start + 2]
         digits = self.text[start + 2 : start + 2 + _HEX.get(letter, 0)]
@@ -348,10 +356,12 @@ class _Reader:
 
     @staticmethod
     def add(text: Node, character: str, at: int) -> None:
+        """One more character of a text, with its place."""
         text.value += character
         text.starts.append(at)
 
     def finish(self, text: Node, start: int, close: int) -> None:
+        """Gives a text its span, and the place of its closing quote."""
         text.span = Span(start, self.at)
         text.starts.append(close)
 
