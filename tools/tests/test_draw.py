@@ -10,7 +10,7 @@ from pathlib import Path
 from xml.etree import ElementTree
 
 from support import EXAMPLES, TOOLS, TOP, FolderTest, example, run, serve
-from yawl import dot, layout, svg, toml
+from yawl import dot, layout, outline, svg, toml
 from yawl.nets import spec_of
 from yawl.replay import views_of_case
 from yawl.scene import views_of
@@ -44,6 +44,17 @@ def flows_of(text: str) -> list[list[tuple[str, str]]]:
     return [[tuple(it) for it in net["flows"]] for net in tomllib.loads(text)["net"]]
 
 
+def flows_of_outline(said: str) -> list[tuple[str, str]]:
+    """The flows in what `--text` says: each stands below its node."""
+    found, source = [], ""
+    for line in said.splitlines():
+        if node := re.match(r"  (?:input |output )?[(\[](\w+)[)\]]", line):
+            source = node[1]
+        elif flow := re.match(r"      -> (\w+)", line):
+            found.append((source, flow[1]))
+    return found
+
+
 def views(text: str) -> list:
     return views_of(spec_of(toml.read(text)))
 
@@ -60,6 +71,7 @@ class PictureTests(FolderTest):
             self.assertEqual(drawn, [it for net in flows_of(text) for it in net])
             edges = re.findall(r'^    "(\d+):(\w+)" -> "\d+:(\w+)"(?! \[style=dashed)', dot.graph(views(text)), re.MULTILINE)
             self.assertEqual([it[1:] for it in edges], drawn)
+            self.assertEqual(sorted(flows_of_outline(outline.text(views(text)))), sorted(drawn))
 
     def test_each_node_is_drawn_once_and_each_removal(self) -> None:
         for text in [ROUND, *(it.read_text() for it in FILES)]:
@@ -183,6 +195,10 @@ class CaseTests(FolderTest):
         status, said = run(DRAW, "--folder", self.folder, "--case", "1", "--dot")
         self.assertEqual(status, 0)
         self.assertIn("1.3.6 executing: cy", said)
+        status, said = run(DRAW, "--folder", self.folder, "--case", "1", "--text")
+        self.assertEqual(status, 0)
+        for line in ("  (open)  o", "      * 1.3 executing", "      * 1.3.6 executing: cy"):
+            self.assertIn(line, said.splitlines())
 
 
 if __name__ == "__main__":
