@@ -10,7 +10,7 @@ from pathlib import Path
 from support import EXAMPLES, TOOLS, run
 from yawl import toml
 from yawl.document import Source
-from yawl.lint import Lint
+from yawl.lint import Lint, roles_of
 from yawl.nets import spec_of
 from yawl.play import Play
 
@@ -110,6 +110,16 @@ class PlayedTests(unittest.TestCase):
         self.assertEqual((play.whole, len(play.came)), (False, 1000))
 
 
+    def test_a_wide_or_split_is_played_in_part(self) -> None:
+        outputs = [f"a{k}" for k in range(7)]
+        flows = [["i", "s"], *(["s", it] for it in outputs), *([it, "j"] for it in outputs), ["j", "o"]]
+        branches = ", ".join(f'{{ to = "{it}", when = "true" }}' for it in outputs[1:])
+        tasks = "".join(f'[[net.task]]\nname = "{it}"\n' for it in [*outputs, "j"])
+        split = f'[[net.task]]\nname = "s"\nsplit = "or"\nbranch = [{branches}, {{ to = "a0" }}]\n'
+        net = spec_of(toml.read(f'{HEAD}flows = {json.dumps(flows)}\n{split}{tasks}join = "or"\n')).nets[0]
+        self.assertFalse(Play(net).whole)
+
+
 class WrittenTests(unittest.TestCase):
     VARIABLES = 'vars = [{ name = "xs", sort = "texts" }, { name = "n", sort = "int" }]\n'
     SEQUENCE = f'{HEAD}{VARIABLES}flows = [["i", "a"], ["a", "o"]]\n[[net.task]]\nname = "a"\n'
@@ -130,6 +140,9 @@ class WrittenTests(unittest.TestCase):
         self.assertEqual(warnings(text, {"officer"}), [(11, "nobody has the role `clerk` of task `a`")])
         self.assertEqual(warnings(text, {"officer", "clerk"}), [])
         self.assertEqual(warnings(text), [])
+        lines = ['{"cmd":"person","name":"ann","roles":["clerk"]}', '{"cmd":"person","name":"ann","roles":["officer"]}',
+                 '{"cmd":"person","name":"bob"}', '{"cmd":"specs"}', "[]"]
+        self.assertEqual(roles_of(lines), {"officer"})
 
 
 class ToolTests(unittest.TestCase):

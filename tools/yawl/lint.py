@@ -5,8 +5,9 @@ from __future__ import annotations
 import json
 from typing import Iterable, Iterator
 
+from . import command
 from .check_nets import node_of
-from .document import Finding, Span
+from .document import Finding, Source, Span
 from .expression import names_of
 from .nets import Net, Spec, Task
 from .play import MOST_TOKENS, Play
@@ -30,11 +31,12 @@ class Lint:
 
 
 def roles_of(lines: Iterable[str]) -> set[str]:
-    """The roles in lines of `person` commands; the last line of a person counts. Raises ValueError at a line that isn't JSON."""
+    """The roles in lines of `person` commands. The last line of a person counts, and what is no command doesn't. Raises ValueError at a line
+    that isn't JSON."""
     persons = {}
     for line in lines:
         said = json.loads(line)
-        if isinstance(said, dict) and said.get("cmd") == "person":
+        if command.fault(Source("", line)) is None and said["cmd"] == "person":
             persons[said["name"]] = said["roles"]
     return {role for roles in persons.values() for role in roles}
 

@@ -30,7 +30,7 @@ class Marking:
 
 class Play:
     """The markings that a net comes to, each with the step that first led there: at most so many, and none is followed in which tokens pile
-    up."""
+    up. `whole` says whether all of them were come to."""
 
     def __init__(self, net: Net, most: int = MOST_MARKINGS) -> None:
         self.net = net
@@ -42,7 +42,8 @@ class Play:
         start = Marking(tuple(int(it == net.input) for it in self.places), frozenset())
         self.came: dict[Marking, tuple[Marking, str] | None] = {start: None}
         self.stuck: list[Marking] = []
-        self.whole = True
+        # Of a wide OR-split some choices alone are played.
+        self.whole = not any(it.split == "or" and len(self.outputs[it.name]) > WIDEST_OR for it in net.tasks)
         self._walk(start, most)
 
     def _walk(self, start: Marking, most: int) -> None:
