@@ -169,6 +169,8 @@ class LostTest(FolderTest):
             self.client("OPEN; exec sleep 60", tries=2, timeout=0.1).command("person", name="ann", roles=[])
 
     def test_an_interrupted_line_is_counted(self):
+        # A shell begins what runs in its background with SIGINT ignored.
+        self.addCleanup(signal.signal, signal.SIGINT, signal.signal(signal.SIGINT, signal.default_int_handler))
         client = self.client('OPEN; head -n 1 | PROGRAM "$1" run >/dev/null; touch "$1/done"; exec sleep 60')
         main, done = threading.get_ident(), self.shop() / "done"
         for name in ("ann", "bob"):
