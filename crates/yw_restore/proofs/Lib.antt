@@ -1,0 +1,14 @@
+pub mod Below
+pub mod ComesLast
+pub mod Drawn
+pub mod Framing
+pub mod Gathering
+pub mod Growing
+pub mod Here
+pub mod InOrder
+pub mod Marked
+pub mod OfParts
+pub mod Opening
+pub mod Over
+pub mod StateBytes
+pub mod UnderName
