@@ -78,10 +78,14 @@ class SessionTest(FolderTest):
             "order", "cancel 1", "cancelled",
             "refused: UnknownCase", f"  {rules.sentence('UnknownCase')}", "? `ended` lacks a case: ended CASE"])
 
-    def test_a_word_that_is_not_built_is_told(self):
-        said = run(SHELL, self.folder, given="list\nas ann\nlist\nlist 1\nperson ann clerk\n")[1].splitlines()
-        self.assertEqual(said, ["? `list` lacks a person: type `as NAME` first: list", "refused: NotBuilt", f"  {rules.sentence('NotBuilt')}",
-                                "? `1` is too much: list", "person ann"])
+    def test_work_lists(self):
+        typed = ["list", "as ann", "list", "list 1", "person ann clerk", "list", ORDER.partition("enter pack")[0], "as ann", "list", "as bob", "list",
+                 "enter pack", "list", "start", "list"]
+        said = run(SHELL, self.folder, given="\n".join(typed))[1].splitlines()
+        self.assertEqual(said[:6], ["? `list` lacks a person: type `as NAME` first: list", "refused: UnknownPerson",
+                                    f"  {rules.sentence('UnknownPerson')}", "? `1` is too much: list", "person ann", "nothing"])
+        self.assertEqual(said[-6:], ["enter 1 bill", "enter 1 pack", "enter 1 pack from prepare->pack as 1.5", "start 1.5  # pack", "start 1.5",
+                                     "complete 1.5  # pack"])
 
     def test_what_is_unclear_is_told(self):
         typed = ["enter receive", "walk", "start", "load none.toml", "complete x", "person 'ann", "help start", "cancel"]

@@ -5,11 +5,9 @@ import shlex
 from pathlib import Path
 from typing import NoReturn
 
-from yawl import rules
 from yawl.known import Known
+from yawl.rules import forms
 
-# Words that may be typed and have no line in docs/LINES.md yet. The server refuses them as NotBuilt until it answers them.
-AWAITED = {"list": {"who": "NAME"}}
 # What a field may be typed as, beside the forms that docs/LINES.md has: a file's name for its text.
 SHOWN = {"TEXT": "FILE", "[NAME,..]": "NAME ..", "{NAME:VALUE,..}": "NAME=VALUE .."}
 # Words whose case has to be typed: `cancel` ends it for good, and `ended` asks for a case that isn't known any more.
@@ -20,11 +18,6 @@ OF_CASE = ("advance", "show")
 
 class Unclear(Exception):
     """What was typed isn't enough for a line; the text says what lacks."""
-
-
-def forms() -> dict[str, dict[str, str]]:
-    """The fields of each word that can be typed, each with what docs/LINES.md writes for its value."""
-    return rules.forms() | AWAITED
 
 
 def value_of(word: str) -> object:

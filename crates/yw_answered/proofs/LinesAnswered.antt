@@ -27,7 +27,7 @@ pub command_has_answer : (s : State) (n : ℕ) (c : Command) → IsWell reader s
 command_has_answer s n c well right = has_answer reads_all s n well (well_holds_within reader s accepted_are_within well) c right
 
 pub query_has_answer : (s : State) (n : ℕ) (q : Query) → IsWell reader s → QueryHasAnswer s n q
-query_has_answer s n q well = query_answered s n (well_holds_within reader s accepted_are_within well) q
+query_has_answer s n q well = query_answered s n well (well_holds_within reader s accepted_are_within well) q
 
 refuses : (s : State) (n : ℕ) (r : Rule) → CannotLack ((step : Step) × (t : State) × MeaningAnswers (Err r) s n step t)
 refuses s n r = here (record { taken = []; reply = refused_line n (placeless r) }, s, record { nothing = refl; told = refl; same = refl })

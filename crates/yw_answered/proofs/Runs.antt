@@ -17,10 +17,8 @@ use Rattle.yw_state.specs.declared.command.Asked.{Asked}
 use Rattle.yw_state.specs.declared.command.Asked.TheVariants as asked
 use Rattle.yw_state.specs.declared.command.Command.{Command}
 use Rattle.yw_state.specs.declared.command.Query.{Query}
-use Rattle.yw_state.specs.declared.command.Query.TheVariants as queries
 use Rattle.yw_state.specs.declared.rule.Refusal.{Refusal}
 use Rattle.yw_state.specs.declared.rule.Rule.{Rule}
-use Rattle.yw_state.specs.declared.rule.Rule.TheVariants.{NotBuilt}
 use Rattle.yw_turns.proofs.Entries.{legal_leads}
 
 -- ---- what is taken leads to the state
@@ -49,10 +47,7 @@ module _ (s : State) (n : ℕ) (step : Step) (t : State) where
   told_leads None q a = nothing_leads a.nothing a.same
 
   query_leads : (q : Query) → QueryAnswers q s n step t → StepLeads
-  query_leads (queries.List who) a = refused_leads (placeless NotBuilt) a
-  query_leads (queries.Show j) a = told_leads a.0 (queries.Show j) a.2
-  query_leads (queries.Ended j) a = told_leads a.0 (queries.Ended j) a.2
-  query_leads queries.Specs a = told_leads a.0 queries.Specs a.2
+  query_leads q a = told_leads a.0 q a.2
 
   meant_leads : (m : Result Asked Rule) → MeaningAnswers m s n step t → StepLeads
   meant_leads (Err r) a = refused_leads (placeless r) a

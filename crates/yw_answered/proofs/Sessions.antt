@@ -13,10 +13,8 @@ use Rattle.yw_state.specs.declared.command.Asked.{Asked}
 use Rattle.yw_state.specs.declared.command.Asked.TheVariants as asked
 use Rattle.yw_state.specs.declared.command.Command.{Command}
 use Rattle.yw_state.specs.declared.command.Query.{Query}
-use Rattle.yw_state.specs.declared.command.Query.TheVariants as queries
 use Rattle.yw_state.specs.declared.rule.Refusal.{Refusal}
 use Rattle.yw_state.specs.declared.rule.Rule.{Rule}
-use Rattle.yw_state.specs.declared.rule.Rule.TheVariants.{NotBuilt}
 
 module _ (s : State) (n k : ℕ) (step : Step) (t : State) where
   -- the same step with the other number
@@ -53,10 +51,7 @@ module _ (s : State) (n k : ℕ) (step : Step) (t : State) where
   found_of None q a = tells q a
 
   told : (q : Query) → QueryAnswers q s n step t → Renumbered (λ other. QueryAnswers q s k other t)
-  told (queries.List who) a = refuses (placeless NotBuilt) a
-  told (queries.Show j) a = let r = found_of a.0 (queries.Show j) a.2 in (r.0, r.1, (a.0, a.1, r.2))
-  told (queries.Ended j) a = let r = found_of a.0 (queries.Ended j) a.2 in (r.0, r.1, (a.0, a.1, r.2))
-  told queries.Specs a = let r = found_of a.0 queries.Specs a.2 in (r.0, r.1, (a.0, a.1, r.2))
+  told q a = let r = found_of a.0 q a.2 in (r.0, r.1, (a.0, a.1, r.2))
 
   meant : (m : Result Asked Rule) → MeaningAnswers m s n step t → Renumbered (λ other. MeaningAnswers m s k other t)
   meant (Err r) a = refuses (placeless r) a

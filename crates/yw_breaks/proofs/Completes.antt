@@ -1,6 +1,6 @@
 -- What a completion breaks first behind the check that the case is quiet.
-use Rattle.std.proofs.Common.{Bool, List, None, Option, Some, ap, refl, subst, true, ℕ, ◌∙◌, ◌≡◌}
-use Rattle.std.specs.Prelude.{Box, ◌||◌, drop, is_some, not, option_and_then, option_map}
+use Rattle.std.proofs.Common.{Bool, List, None, Option, Some, ap, false, refl, subst, sym, true, ℕ, ◌∙◌, ◌≡◌}
+use Rattle.std.specs.Prelude.{Box, ◌||◌, drop, is_some, not, option_and_then, option_map, if◌then◌else◌}
 use Rattle.std.specs.declared.alloc.Global.{Global}
 use Rattle.yw_base.specs.Identity.{is_identity}
 use Rattle.yw_breaks.proofs.Joining.{then_rest}
@@ -15,6 +15,7 @@ use Rattle.yw_library.specs.Holdings.{Holdings}
 use Rattle.yw_nest.proofs.Known.{site_known}
 use Rattle.yw_plain.proofs.Words.{words}
 use Rattle.yw_plain.specs.Plain.{IsPlain}
+use Rattle.yw_state.proofs.Tests.{nowhere}
 use Rattle.yw_state.specs.Broken.{First, placed, placeless}
 use Rattle.yw_state.specs.Given.{misfit}
 use Rattle.yw_state.specs.Identity.{Ident}
@@ -23,6 +24,8 @@ use Rattle.yw_state.specs.Options.{is_some_and}
 use Rattle.yw_state.specs.State.{ItemAt, Site, State, item_at, net_part}
 use Rattle.yw_state.specs.Words as word
 use Rattle.yw_state.specs.declared.command.Given.{Given}
+use Rattle.yw_state.specs.declared.rule.Refusal.{Refusal}
+use Rattle.yw_state.specs.declared.rule.Rule.{Rule}
 use Rattle.yw_state.specs.declared.rule.Rule.TheVariants as rules
 use Rattle.yw_task.proofs.AskLaw.{asks_complete}
 use Rattle.yw_task.specs.Asked.{complete_fault, complete_shown}
@@ -59,3 +62,19 @@ completes_first known f s who j gs x h plain here =
     (idle_row (word.held s j) ((words s plain).held j) rules.Held (drop 2 (complete_most s who j gs)) (or_else later rule)
     (then_rest (complete_shown s who j gs) (drop 5 (complete_most s who j gs)) rule later shown
     (λ none. last_place (option_and_then (misfit_at gs) (item_at s j)) (misfit x.task.now.outs gs) (ap (option_and_then (misfit_at gs)) here.at) rules.Output)))
+
+-- ---- where none of these is broken, the item itself breaks nothing
+
+none_first : (later : Option Refusal) (o : Option Rule) → or_else later o ≡ None → o ≡ None
+none_first later None e = refl
+none_first later (Some r) e = nowhere (sym e)
+
+none_behind : (b : Bool) (refusal : Refusal) (o : Option Refusal) → (if b then Some refusal else o) ≡ None → o ≡ None
+none_behind true refusal o e = nowhere (sym e)
+none_behind false refusal o e = e
+
+pub none_shown : (who : List ℕ) (gs : List Given) (x : ItemHere) → most_broken who gs x ≡ None → complete_fault x.item.now who ≡ None
+none_shown who gs x e =
+    let later = option_map (placed rules.Output) (misfit x.task.now.outs gs) in
+    none_first later (complete_fault x.item.now who)
+    (none_behind (is_by_itself x) (placeless rules.ByItself) (or_else later (complete_fault x.item.now who)) e)

@@ -1,48 +1,44 @@
--- What keeps the items of an entry from coming, by how many its list has.
-use Rattle.std.proofs.Common.{List, None, Option, Some, [], ap, false, length, map, refl, subst, suc, sym, true, ℕ, ◌+◌, ◌∙◌, ◌∷◌, ◌≡◌}
+-- What keeps the items of an entry from coming.
+use Rattle.std.proofs.Common.{List, None, Option, Some, [], ap, arith, cond, false, length, map, refl, subst, suc, sym, true, ℕ, ◌+◌, ◌∙◌, ◌∷◌, ◌≡◌}
 use Rattle.std.proofs.lemmas.Bool.{le-leb, ltb-false}
 use Rattle.std.proofs.lemmas.List.Elements.{All-head, All-tail}
 use Rattle.std.specs.List.{All}
 use Rattle.std.specs.Option.{option_or}
-use Rattle.std.specs.Prelude.{codes, find, is_none, is_some, nat_le, nat_lt, not, option_and_then, option_map, unwrap_or, if◌then◌else◌}
+use Rattle.std.specs.Prelude.{codes, find, is_none, is_some, nat_lt, not, option_and_then, option_map, unwrap_or, if◌then◌else◌}
 use Rattle.yw_base.specs.Identity.{number_end}
 use Rattle.yw_base.specs.declared.value.Value.{Value}
 use Rattle.yw_base.specs.declared.value.Value.TheVariants as values
-use Rattle.yw_breaks.specs.Enter.{IsFed, ItemsFit, item_count}
+use Rattle.yw_breaks.specs.Enter.{AreGiven, IsFed, ItemsFit}
 use Rattle.yw_expr.specs.Meaning.{val}
 use Rattle.yw_expr.specs.Tree.{Tree}
 use Rattle.yw_spec.specs.declared.task.Many.{Many}
 use Rattle.yw_spec.specs.declared.task.Param.{Param}
 use Rattle.yw_spec.specs.declared.task.Task.{Task}
-use Rattle.yw_state.proofs.Tests.{by_option, by_test, map_some, never, nowhere, some_same}
+use Rattle.yw_state.proofs.Tests.{by_option, by_test, map_some, never, nowhere, some_same, then_some}
 use Rattle.yw_state.specs.Broken.{placed, placeless}
-use Rattle.yw_state.specs.Options.{all_of}
+use Rattle.yw_state.specs.Options.{all_of, is_some_and}
 use Rattle.yw_state.specs.Passing.{elements_for, entry_values, given_values, within_bounds}
 use Rattle.yw_state.specs.Values.{Row}
 use Rattle.yw_state.specs.declared.rule.Refusal.{Refusal}
 use Rattle.yw_state.specs.declared.rule.Rule.{Rule}
 use Rattle.yw_state.specs.declared.rule.Rule.TheVariants as rules
 use Rattle.yw_task.proofs.AddTable.{is_given}
-use Rattle.yw_task.specs.Giving.{count_rule, entry_fault, entry_rows, given_value, lacks_value, undefined_entry, undefined_param, value_or}
+use Rattle.yw_task.specs.Giving.{count_rule, entry_fault, entry_rows, given_value, lacks_value, undefined_param, value_or}
 
--- ---- each item is given something
+-- ---- where each parameter has a value, each item is given something
 
--- as many as there are
-record AsMany (n : ℕ) (o : Option (List Row)) : Type 0 where
-  pub rows : List Row
-  pub are : o ≡ Some rows
-  pub many : length rows ≡ n
+abbrev IsThere : Option (List Row) → Type 0
+IsThere o = (rows : List Row) × (o ≡ Some rows)
 
-rows_there : (g : Option Value → Option Row) → ((v : Value) → (r : Row) × (g (Some v) ≡ Some r)) → (vs : List Value) → AsMany (length (map Some vs)) (all_of (map g (map Some vs)))
-rows_there g each [] = record { rows = []; are = refl; many = refl }
+rows_there : (g : Option Value → Option Row) → ((v : Value) → (r : Row) × (g (Some v) ≡ Some r)) → (vs : List Value) → IsThere (all_of (map g (map Some vs)))
+rows_there g each [] = ([], refl)
 rows_there g each (v ∷ vs) =
     let first = each v in
-    let rest = rows_there g each vs in
-    record {
-      rows = first.0 ∷ rest.rows;
-      are = ap (option_and_then (λ (x : Row). option_map (λ (xs : List Row). x ∷ xs) (all_of (map g (map Some vs))))) first.1 ∙ ap (option_map (λ (xs : List Row). first.0 ∷ xs)) rest.are;
-      many = ap (λ k. suc k) rest.many;
-    }
+    let rest = rows_there g each vs in (
+      first.0 ∷ rest.0,
+      ap (option_and_then (λ (x : Row). option_map (λ (xs : List Row). x ∷ xs) (all_of (map g (map Some vs))))) first.1
+          ∙ ap (option_map (λ (xs : List Row). first.0 ∷ xs)) rest.1,
+    )
 
 -- without a list each parameter has an expression, so what an element is doesn't matter
 value_same : (vals : Row) (v : Value) (o : Option Tree) → (o ≡ None → ⊥) → value_or vals None o ≡ value_or vals (Some v) o
@@ -64,99 +60,105 @@ module _ (task : Task) (vals : Row) (fed : IsFed task) (defined : undefined_para
       let r = is_given task vals v defined in
       (r.0, ap all_of (values_same vals v task.ins (subst (λ many. All (Fed many) task.ins) single fed)) ∙ r.1)
 
-  by_list : (many : Option Many) → task.many ≡ many → (es : List (Option Value)) → elements_for many vals ≡ Some es → AsMany (length es) (all_of (map (given_values task vals) es))
+  by_list : (many : Option Many) → task.many ≡ many → (es : List (Option Value)) → elements_for many vals ≡ Some es → IsThere (all_of (map (given_values task vals) es))
   by_list None single es e =
       let r = one_there single in
-      subst (λ xs. AsMany (length xs) (all_of (map (given_values task vals) xs))) (some_same (None ∷ []) es e)
-      (record {
-        rows = r.0 ∷ [];
-        are = ap (option_and_then (λ (x : Row). option_map (λ (xs : List Row). x ∷ xs) (Some []))) r.1;
-        many = refl;
-      })
+      subst (λ xs. IsThere (all_of (map (given_values task vals) xs))) (some_same (None ∷ []) es e)
+      (r.0 ∷ [], ap (option_and_then (λ (x : Row). option_map (λ (xs : List Row). x ∷ xs) (Some []))) r.1)
   by_list (Some m) several es e =
       let v = map_some _ (val m.each vals) es e in
-      subst (λ xs. AsMany (length xs) (all_of (map (given_values task vals) xs))) v.2
+      subst (λ xs. IsThere (all_of (map (given_values task vals) xs))) v.2
       (rows_there (given_values task vals) (λ w. is_given task vals w defined) _)
 
-  -- the rows are as many as the list has elements
-  rows_are : (count : ℕ) → item_count task vals ≡ Some count → length (entry_rows task vals) ≡ count
-  rows_are count e =
-      let es = map_some (λ (xs : List (Option Value)). length xs) (elements_for task.many vals) count e in
-      let all = by_list task.many refl es.0 es.1 in
-      ap (λ o. length (unwrap_or (option_and_then (λ (xs : List (Option Value)). all_of (map (given_values task vals) xs)) o) [])) es.1
-      ∙ ap (λ o. length (unwrap_or o [])) all.are ∙ all.many ∙ es.2
+-- ---- where an item is given something, each parameter has a value
+
+has_value : (vals : Row) (element : Option Value) (o : Option Tree) (v : Value) → value_or vals element o ≡ Some v
+    → is_some_and o (λ e. is_none (val e vals)) ≡ false
+has_value vals element None v e = refl
+has_value vals element (Some x) v e = ap (λ (o : Option Value). is_none o) e
+
+none_lacks : (vals : Row) (element : Option Value) (ps : List Param) (row : Row) → all_of (map (given_value vals element) ps) ≡ Some row
+    → find (lacks_value vals) ps ≡ None
+none_lacks vals element [] row e = refl
+none_lacks vals element (p ∷ ps) row e =
+    let first = then_some (λ (x : Value). option_map (λ (xs : Row). x ∷ xs) (all_of (map (given_value vals element) ps))) (given_value vals element p) row e in
+    let rest = map_some (λ (xs : Row). first.0 ∷ xs) (all_of (map (given_value vals element) ps)) row first.2 in
+    ap (λ b. cond b (Some p) (find (lacks_value vals) ps)) (has_value vals element p.value first.0 first.1) ∙ none_lacks vals element ps rest.0 rest.1
 
 -- ---- what is found
 
-no_list : (task : Task) (vals : Row) → item_count task vals ≡ None → elements_for task.many vals ≡ None
-no_list task vals e = by (elements_for task.many vals) e
-  where
-    by : (o : Option (List (Option Value))) → option_map (λ (es : List (Option Value)). length es) o ≡ None → o ≡ None
-    by None g = refl
-    by (Some es) g = nowhere (sym g)
+module _ (task : Task) (vals : Row) where
+  abbrev given : List (Option Value) → Option (List Row)
+  given es = all_of (map (given_values task vals) es)
 
-module _ (task : Task) (vals : Row) (next : ℕ) where
-  pub at_each : item_count task vals ≡ None → Some (placed rules.Mapping (codes "each")) ≡ entry_fault task vals next
-  at_each e =
-      let o = no_list task vals e in
-      sym (ap (λ b. option_or (option_map (placed rules.Mapping) (if b then Some (codes "each") else undefined_param task vals)) (option_map placeless (count_rule task next (length (entry_rows task vals))))) (ap is_none o))
+  by_first : (es : List (Option Value)) (r : Row) (rs : List Row) → given es ≡ Some (r ∷ rs) → find (lacks_value vals) task.ins ≡ None
+  by_first [] r rs e = let long : 0 ≡ suc (length rs) = ap length (some_same [] (r ∷ rs) e) in absurd (omega arith)
+  by_first (x ∷ es) r rs e =
+      let first = then_some (λ (y : Row). option_map (λ (ys : List Row). y ∷ ys) (given es)) (given_values task vals x) (r ∷ rs) e in
+      none_lacks vals x task.ins first.0 first.1
 
-  module _ (count : ℕ) (counts : item_count task vals ≡ Some count) where
-    listed : is_none (elements_for task.many vals) ≡ false
-    listed = let es = map_some (λ (xs : List (Option Value)). length xs) (elements_for task.many vals) count counts in ap is_none es.1
+  of_rows : (rows : List Row) → entry_values task vals ≡ Some rows → (es : List (Option Value)) × (elements_for task.many vals ≡ Some es) × (given es ≡ Some rows)
+  of_rows rows e = then_some given (elements_for task.many vals) rows e
 
-    fault_is : entry_fault task vals next ≡ option_or (option_map (placed rules.Mapping) (undefined_param task vals)) (option_map placeless (count_rule task next (length (entry_rows task vals))))
-    fault_is = ap (λ b. option_or (option_map (placed rules.Mapping) (if b then Some (codes "each") else undefined_param task vals)) (option_map placeless (count_rule task next (length (entry_rows task vals))))) listed
+  -- where there are rows
+  pub none_lacking : (rows : List Row) → entry_values task vals ≡ Some rows → (length rows ≡ 0 → ⊥) → find (lacks_value vals) task.ins ≡ None
+  none_lacking [] e some = absurd (some refl)
+  none_lacking (r ∷ rs) e some = let es = of_rows (r ∷ rs) e in by_first es.0 r rs es.2
 
-    pub at_param : (p : Param) → find (lacks_value vals) task.ins ≡ Some p → Some (placed rules.Mapping p.name) ≡ entry_fault task vals next
-    at_param p e =
-        sym (fault_is ∙ ap (λ (o : Option Param). option_or (option_map (placed rules.Mapping) (option_map (λ (q : Param). q.name) o)) (option_map placeless (count_rule task next (length (entry_rows task vals))))) e)
-
-    pub by_count : IsFed task → find (lacks_value vals) task.ins ≡ None → option_map placeless (count_rule task next count) ≡ entry_fault task vals next
-    by_count fed e =
-        let none : undefined_param task vals ≡ None = ap (option_map (λ (q : Param). q.name)) e in
-        sym (fault_is ∙ ap (λ o. option_or (option_map (placed rules.Mapping) o) (option_map placeless (count_rule task next (length (entry_rows task vals))))) none
-        ∙ ap (λ k. option_map placeless (count_rule task next k)) (rows_are task vals fed none count counts))
-
--- ---- where nothing is found
-
-module _ (task : Task) (vals : Row) (next : ℕ) (fed : IsFed task) where
-  abbrev count : ℕ
-  count = length (entry_rows task vals)
-
-  abbrev later : Option Refusal
-  later = option_map placeless (count_rule task next count)
-
-  by_rows : undefined_entry task vals ≡ None → within_bounds task.many count ≡ true → nat_lt number_end (next + count) ≡ false → ItemsFit task vals next
-  by_rows defined bounds fits = by_option (elements_for task.many vals)
-      (λ none. nowhere (sym defined ∙ ap (λ (o : Option (List (Option Value))). if is_none o then Some (codes "each") else undefined_param task vals) none))
+  -- a parameter lacks a value where the list is defined and what items are given isn't
+  pub one_lacks : IsFed task → entry_values task vals ≡ None → is_none (elements_for task.many vals) ≡ false → find (lacks_value vals) task.ins ≡ None → ⊥
+  one_lacks fed undefined listed e = by_option (elements_for task.many vals)
+      (λ none. never (sym listed ∙ ap (λ (o : Option (List (Option Value))). is_none o) none))
       (λ es some.
-      let params : undefined_param task vals ≡ None =
-      sym (ap (λ (o : Option (List (Option Value))). if is_none o then Some (codes "each") else undefined_param task vals) some) ∙ defined in
-      let all = by_list task vals fed params task.many refl es some in
-      let are : entry_values task vals ≡ Some all.rows =
-      ap (option_and_then (λ (xs : List (Option Value)). all_of (map (given_values task vals) xs))) some ∙ all.are in
-      let many : count ≡ length all.rows = ap (λ (o : Option (List Row)). length (unwrap_or o [])) are in
-      record {
-        rows = all.rows;
-        are = are;
-        bounds = ap (within_bounds task.many) (sym many) ∙ bounds;
-        room = ap (λ k. nat_le (next + k) number_end) (sym many) ∙ le-leb (next + count) number_end (ltb-false number_end (next + count) fits);
-      })
+      let there = by_list task vals fed (ap (option_map (λ (q : Param). q.name)) e) task.many refl es some in
+      nowhere (sym undefined ∙ ap (option_and_then given) some ∙ there.1))
 
-  by_rule : undefined_entry task vals ≡ None → count_rule task next count ≡ None → ItemsFit task vals next
-  by_rule defined none = by_test (within_bounds task.many count)
-      (λ bounds.
-      let room : (if nat_lt number_end (next + count) then Some rules.Numbers else None) ≡ None =
-      sym (ap (λ b. if not b then Some rules.Count else (if nat_lt number_end (next + count) then Some rules.Numbers else None)) bounds) ∙ none in
-      by_test (nat_lt number_end (next + count))
-      (λ over. nowhere (sym room ∙ ap (λ b. if b then Some rules.Numbers else None) over))
-      (λ fits. by_rows defined bounds fits))
-      (λ out. nowhere (sym none ∙ ap (λ b. if not b then Some rules.Count else (if nat_lt number_end (next + count) then Some rules.Numbers else None)) out))
+  module _ (next : ℕ) where
+    abbrev later : ℕ → Option Refusal
+    later count = option_map placeless (count_rule task next count)
 
-  pub items_fit : None ≡ entry_fault task vals next → ItemsFit task vals next
-  items_fit e = by_option (undefined_entry task vals)
-      (λ defined. by_option (count_rule task next count)
-      (λ none. by_rule defined none)
-      (λ r some. nowhere (e ∙ ap (λ o. option_or (option_map (placed rules.Mapping) o) later) defined ∙ ap (λ (o : Option Rule). option_map placeless o) some)))
-      (λ at some. nowhere (e ∙ ap (λ o. option_or (option_map (placed rules.Mapping) o) later) some))
+    abbrev count : ℕ
+    count = length (entry_rows task vals)
+
+    pub at_each : is_none (elements_for task.many vals) ≡ true → Some (placed rules.Mapping (codes "each")) ≡ entry_fault task vals next
+    at_each e =
+        sym (ap (λ b. option_or (option_map (placed rules.Mapping) (if b then Some (codes "each") else undefined_param task vals)) (later count)) e)
+
+    pub at_param : is_none (elements_for task.many vals) ≡ false → (p : Param) → find (lacks_value vals) task.ins ≡ Some p
+        → Some (placed rules.Mapping p.name) ≡ entry_fault task vals next
+    at_param listed p e =
+        sym (ap (λ b. option_or (option_map (placed rules.Mapping) (if b then Some (codes "each") else undefined_param task vals)) (later count)) listed
+        ∙ ap (λ (o : Option Param). option_or (option_map (placed rules.Mapping) (option_map (λ (q : Param). q.name) o)) (later count)) e)
+
+    module _ (rows : List Row) (are : entry_values task vals ≡ Some rows) where
+      pub listed : is_none (elements_for task.many vals) ≡ false
+      listed = let es = of_rows rows are in ap (λ (o : Option (List (Option Value))). is_none o) es.1
+
+      pub by_count : find (lacks_value vals) task.ins ≡ None → later (length rows) ≡ entry_fault task vals next
+      by_count e =
+          sym (ap (λ b. option_or (option_map (placed rules.Mapping) (if b then Some (codes "each") else undefined_param task vals)) (later count)) listed
+          ∙ ap (λ (o : Option Param). option_or (option_map (placed rules.Mapping) (option_map (λ (q : Param). q.name) o)) (later count)) e
+          ∙ ap (λ (o : Option (List Row)). later (length (unwrap_or o []))) are)
+
+      fit_by : count_rule task next (length rows) ≡ None → ItemsFit task vals next
+      fit_by none = by_test (within_bounds task.many (length rows))
+          (λ bounds.
+          let room : (if nat_lt number_end (next + length rows) then Some rules.Numbers else None) ≡ None =
+          sym (ap (λ b. if not b then Some rules.Count else (if nat_lt number_end (next + length rows) then Some rules.Numbers else None)) bounds) ∙ none in
+          by_test (nat_lt number_end (next + length rows))
+          (λ over. nowhere (sym room ∙ ap (λ b. if b then Some rules.Numbers else None) over))
+          (λ fits. record {
+            rows = rows;
+            are = are;
+            bounds = bounds;
+            room = le-leb (next + length rows) number_end (ltb-false number_end (next + length rows) fits);
+          }))
+          (λ out. nowhere (sym none ∙ ap (λ b. if not b then Some rules.Count else (if nat_lt number_end (next + length rows) then Some rules.Numbers else None)) out))
+
+      -- nothing is
+      pub are_given : find (lacks_value vals) task.ins ≡ None → count_rule task next (length rows) ≡ None → AreGiven task vals next rows
+      are_given e none = record {
+        unbroken = sym (ap (λ (o : Option Rule). option_map placeless o) none) ∙ by_count e;
+        fit = fit_by none;
+        gives = sym (ap (λ (o : Option (List Row)). unwrap_or o []) are);
+      }

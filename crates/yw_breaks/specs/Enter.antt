@@ -1,6 +1,7 @@
 -- What an entry breaks first behind the check that the case is quiet, where the net has the task.
-use Rattle.std.specs.Prelude.{◌+◌, ◌≡◌, ℕ, List, None, Option, Some, Result, Ok, Err, drop, false, is_some, length, nat_le, option_map, slice_get, true}
+use Rattle.std.specs.Prelude.{◌+◌, ◌≡◌, ℕ, List, None, Option, Some, Result, Ok, Err, Vec, drop, false, is_some, length, nat_le, slice_get, true}
 use Rattle.std.specs.List.{All}
+use Rattle.std.specs.declared.alloc.Global.{Global}
 use Rattle.yw_base.specs.Identity.{number_end}
 use Rattle.yw_breaks.specs.Finds.{FindsNext}
 use Rattle.yw_breaks.specs.Nets.{IsTaskNamed}
@@ -18,22 +19,19 @@ use Rattle.yw_spec.specs.declared.task.Param.{Param}
 use Rattle.yw_spec.specs.declared.task.Task.{Task}
 use Rattle.yw_state.specs.Broken.{First, enter_checks}
 use Rattle.yw_state.specs.Identity.{Ident}
-use Rattle.yw_state.specs.Passing.{elements_for, entry_values, within_bounds}
+use Rattle.yw_state.specs.Passing.{entry_values, within_bounds}
 use Rattle.yw_state.specs.State.{State}
 use Rattle.yw_state.specs.Values.{Row}
 use Rattle.yw_state.specs.declared.rule.Refusal.{Refusal}
 use Rattle.yw_state.specs.declared.rule.Rule.{Rule}
 use Rattle.yw_task.specs.Asked.{AsksEnter, OrWaitsAs, is_active}
+use Rattle.yw_task.specs.Giving.{entry_fault, entry_rows}
 use Rattle.yw_tree.specs.declared.Forest.{Forest}
 use Rattle.yw_tree.specs.declared.NetState.{out-NetState}
 
 -- a parameter without an expression is given an element, so there is a list
 abbrev pub IsFed : Task → Type 0
 IsFed task = All (λ (p : Param). p.value ≡ None → is_some task.many ≡ true) task.ins
-
--- how many items an entry makes; nothing where the list is undefined
-abbrev pub item_count : Task → Row → Option ℕ
-item_count task vals = option_map (λ es. length es) (elements_for task.many vals)
 
 -- wherever the net stands, whoever with these roles enters its task with this number, where this number is drawn next
 abbrev pub EnterBreaks : List (List ℕ) → NetHere → ℕ → ℕ → Option Refusal → Type 0
@@ -64,16 +62,28 @@ pub record ItemsFit (task : Task) (vals : Row) (next : ℕ) : Type 0 where
   pub bounds : within_bounds task.many (length rows) ≡ true
   pub room : nat_le (next + length rows) number_end ≡ true
 
--- The task with this number may be entered, and its join takes by this choice.
-pub record IsEnterable (h : NetHere) (t next : ℕ) (taken : Taken) : Type 0 where
+-- These rows are what items are given, and nothing keeps so many from coming, numbered from this on.
+pub record AreGiven (task : Task) (vals : Row) (next : ℕ) (rows : List Row) : Type 0 where
+  pub unbroken : None ≡ entry_fault task vals next
+  pub fit : ItemsFit task vals next
+  pub gives : rows ≡ entry_rows task vals
+
+-- so it is; or this keeps items from coming
+abbrev pub FindsRows : Task → Row → ℕ → Result (Vec Row Global) Refusal → Type 0
+FindsRows task vals next (Ok rows) = AreGiven task vals next rows.items
+FindsRows task vals next (Err refusal) = Some refusal ≡ entry_fault task vals next
+
+-- The task with this number may be entered, its join takes by this choice, and its items are given these rows.
+pub record IsEnterable (h : NetHere) (t next : ℕ) (taken : Taken) (rows : List Row) : Type 0 where
   pub chosen : IsChosen h t taken
   pub task : Task
   pub at : slice_get h.net.now.tasks t ≡ Some task
   pub fit : ItemsFit task (out-NetState h.state.now).vals next
+  pub gives : rows ≡ entry_rows task (out-NetState h.state.now).vals
 
 -- so it is, and no rule is broken wherever the net stands; or this is the first that is
-abbrev pub EntersBy : List (List ℕ) → NetHere → ℕ → ℕ → Result Taken Refusal → Type 0
-EntersBy roles h t next (Ok taken) = EnterBreaks roles h t next None × IsEnterable h t next taken
+abbrev pub EntersBy : List (List ℕ) → NetHere → ℕ → ℕ → Result (Taken × Vec Row Global) Refusal → Type 0
+EntersBy roles h t next (Ok p) = EnterBreaks roles h t next None × IsEnterable h t next p.0 p.1.items
 EntersBy roles h t next (Err refusal) = EnterBreaks roles h t next (Some refusal)
 
 -- this is the first of the checks behind that is broken, wherever the net stands, whoever with these roles enters its task of this name
@@ -86,7 +96,7 @@ EnterFinds roles h next name found =
 pub record IsEntryAsked (roles : List (List ℕ)) (h : NetHere) (next : ℕ) (name : List ℕ) (x : EntryAsked) : Type 0 where
   pub unbroken : EnterFinds roles h next name None
   pub named : IsTaskNamed h.net.now name x.task
-  pub enterable : IsEnterable h x.task next x.taken
+  pub enterable : IsEnterable h x.task next x.taken x.rows.items
 
 -- so it is, or this is the first that is
 abbrev pub EnterMakes : List (List ℕ) → NetHere → ℕ → List ℕ → Result EntryAsked Refusal → Type 0

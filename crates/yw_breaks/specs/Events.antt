@@ -2,8 +2,10 @@
 use Rattle.std.specs.Prelude.{◌≡◌, ℕ, List, None, Option, Some, Result, Ok, Err}
 use Rattle.yw_base.specs.declared.value.Value.{Value}
 use Rattle.yw_breaks.specs.Finds.{FindsNext}
+use Rattle.yw_breaks.specs.Nets.{IsTaskNamed}
 use Rattle.yw_breaks.specs.Persons.{HasRoles}
 use Rattle.yw_breaks.specs.Tables.{add_rest}
+use Rattle.yw_breaks.specs.declared.asked.AddAsked.{AddAsked}
 use Rattle.yw_known.specs.Here.{SaysNet}
 use Rattle.yw_known.specs.declared.here.NetHere.{NetHere}
 use Rattle.yw_library.specs.Held.{IsHeld}
@@ -46,6 +48,11 @@ FindsAdd known f next who i t value (Err refusal) = FindsNext known f next (λ s
 abbrev pub AddMakes : List (List ℕ) → NetHere → ℕ → Ident → List ℕ → Option Value → Result Event Refusal → Type 0
 AddMakes roles h next i t value made =
     (known : Holdings) (f : Forest) (who : List ℕ) → HasRoles known who roles → SaysNet known f i h → FindsAdd known f next who i t value made
+
+-- so it is of the event that is found, and the net's task of this name has this number; or it is refused
+abbrev pub AddFinds : List (List ℕ) → NetHere → ℕ → Ident → List ℕ → Option Value → Result AddAsked Refusal → Type 0
+AddFinds roles h next i t value (Ok x) = AddMakes roles h next i t value (Ok x.event) × IsTaskNamed h.net.now t x.task
+AddFinds roles h next i t value (Err refusal) = AddMakes roles h next i t value (Err refusal)
 
 -- in each state that is held the completion asks for the event with these values
 abbrev pub CompleteMakes : Holdings → Forest → Ident → List Given → Row → Type 0

@@ -1,16 +1,14 @@
 -- What is found, whatever the state is that is held.
-use Rattle.std.specs.Borrow.{Bor}
 use Rattle.std.specs.Prelude.{◌≡◌, ℕ, List, None, Option, Some, Result, Ok, Err}
-use Rattle.yw_breaks.specs.Launch.{SaysSpec}
 use Rattle.yw_breaks.specs.Persons.{HasRoles}
 use Rattle.yw_breaks.specs.declared.asked.ItemAsked.{ItemAsked}
 use Rattle.yw_breaks.specs.declared.asked.NetAsked.{NetAsked}
+use Rattle.yw_breaks.specs.declared.asked.SpecAsked.{SpecAsked}
 use Rattle.yw_library.specs.Held.{IsHeld}
 use Rattle.yw_known.specs.Here.{SaysItem, SaysNet}
-use Rattle.yw_library.specs.Holdings.{Holdings}
+use Rattle.yw_library.specs.Holdings.{Holdings, IsKept}
 use Rattle.yw_texts.specs.Texts.{reader}
 use Rattle.yw_plain.specs.Plain.{IsPlain}
-use Rattle.yw_spec.specs.declared.spec.Spec.{Spec}
 use Rattle.yw_state.specs.Broken.{Breaks, Check, First, placeless}
 use Rattle.yw_state.specs.Identity.{Ident}
 use Rattle.yw_state.specs.State.{State}
@@ -61,7 +59,7 @@ FindsNext known f next table found = (s : State) → IsHeld known f s → IsPlai
 abbrev pub BreaksNext : Holdings → ℕ → Command → Option Refusal → Type 0
 BreaksNext known next c found = (f : Forest) (s : State) → IsHeld known f s → s.next ≡ next → Breaks reader s c found
 
--- this is the specification of the name; or this rule is the first that a launch of the name breaks, whatever values are given
-abbrev pub FindsSpec : Holdings → List ℕ → Result (Bor Spec) Rule → Type 0
-FindsSpec known name (Ok spec) = SaysSpec known name spec.now
+-- this is the specification of the name, with its number; or this rule is the first that a launch of the name breaks, whatever values are given
+abbrev pub FindsSpec : Holdings → List ℕ → Result SpecAsked Rule → Type 0
+FindsSpec known name (Ok x) = IsKept known name x.spec.now x.number
 FindsSpec known name (Err rule) = (next : ℕ) (gs : List Given) → BreaksNext known next (commands.Launch name gs) (Some (placeless rule))

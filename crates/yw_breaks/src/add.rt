@@ -1,12 +1,13 @@
 // A person adds an item to a task.
 ghost use Rattle.std.specs.Prelude.{◌≡◌, IfOk, codes};
 ghost use Rattle.yw_breaks.specs.Add.{add_rule, is_dynamic, rest_fault};
-ghost use Rattle.yw_breaks.specs.Events.{AddMakes};
+ghost use Rattle.yw_breaks.specs.Events.{AddFinds, AddMakes};
 ghost use Rattle.yw_breaks.specs.Nets.{IsTaskNamed};
 ghost use Rattle.yw_state.specs.Broken.{placed};
 ghost use Rattle.yw_state.specs.declared.rule.Rule.TheVariants.{BadData};
 ghost use Rattle.yw_task.specs.Adds.{is_full, room_rule};
 
+use crate::asked::AddAsked;
 use crate::nets::task_named;
 use crate::persons::lacks_role;
 use crate::refusals::{number_rule, placeless, refusal, undefined};
@@ -120,12 +121,12 @@ fn add_to(
     }
 }
 
-/// The event that an addition to this net asks for, where `next` is drawn next and none of the rules is broken that are tried behind, in a state
-/// without rules, suspensions and runs. Else the first that is: `UnknownTask` where the net has no task of this name; `NotDynamic` where no items may
-/// be added to it; `Role` where the person, who has these roles, lacks its role; `Stage` where it isn't active; `MaxReached` where it has as many
-/// items as it may have; `BadData`, at `value`, where the value isn't of the sort of an element, or past the limits of values; `Mapping` where
-/// another parameter has an undefined expression, at the name of the first such one; `Numbers` where no number is left. `Held` never comes yet. An
-/// `Err` says that no memory was left.
+/// The event that an addition to this net asks for, with the number of its task, where `next` is drawn next and none of the rules is broken that are
+/// tried behind, in a state without rules, suspensions and runs. Else the first that is: `UnknownTask` where the net has no task of this name;
+/// `NotDynamic` where no items may be added to it; `Role` where the person, who has these roles, lacks its role; `Stage` where it isn't active;
+/// `MaxReached` where it has as many items as it may have; `BadData`, at `value`, where the value isn't of the sort of an element, or past the limits of
+/// values; `Mapping` where another parameter has an undefined expression, at the name of the first such one; `Numbers` where no number is left. `Held`
+/// never comes yet. An `Err` says that no memory was left.
 pub fn add_asked(
     alloc: Global,
     roles: &NameList,
@@ -134,11 +135,14 @@ pub fn add_asked(
     at: Ident,
     task: Name,
     value: Option<Value>,
-) -> Result<Result<Event, Refusal>, AllocError>
-    ensures { IfOk result (AddMakes roles.now here.now next at task value) }
+) -> Result<Result<AddAsked, Refusal>, AllocError>
+    ensures { IfOk result (AddFinds roles.now here.now next at task value) }
 {
     match task_named(here.net, &task) {
-        Some(t) => add_to(alloc, roles, here, t, next, at, task, value),
         None => Ok(Err(placeless(alloc, Rule::UnknownTask))),
+        Some(t) => match add_to(alloc, roles, here, t, next, at, task, value)? {
+            Ok(event) => Ok(Ok(AddAsked { event, task: t })),
+            Err(refusal) => Ok(Err(refusal)),
+        },
     }
 }

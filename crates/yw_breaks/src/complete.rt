@@ -1,11 +1,12 @@
 // A person completes an item.
-ghost use Rattle.std.specs.Prelude.{◌≡◌, IfOk};
+ghost use Rattle.std.specs.Prelude.{◌≡◌, IfOk, None};
 ghost use Rattle.yw_breaks.specs.Complete.{is_by_itself, most_broken};
 ghost use Rattle.yw_breaks.specs.Finds.{FindsPlain};
 ghost use Rattle.yw_breaks.specs.Tables.{complete_most};
 ghost use Rattle.yw_known.specs.Here.{SaysItem};
 ghost use Rattle.yw_library.specs.Holdings.{Holdings};
 ghost use Rattle.yw_state.specs.Identity.{Ident};
+ghost use Rattle.yw_task.specs.Asked.{complete_fault};
 ghost use Rattle.yw_tree.specs.declared.Forest.{Forest};
 
 use crate::persons::is_atomic;
@@ -52,15 +53,17 @@ fn most_broken(
 /// suspensions and runs: `ByItself` where its task isn't atomic, or a net stands for the item; `Stage` where it isn't executing; `NotYours`
 /// where another person started it; `Output` where the values aren't those that it makes, at the name of the first parameter that lacks one
 /// of its sort, else the first name in byte order that no parameter has; `None` where it breaks none of these. `Held` and `Busy` never come
-/// yet. The last, `Mapping`, is found by the call that does the event. An `Err` says that no memory was left.
+/// yet. The last, `Mapping`, is found by yw_steps, which needn't ask again what the item itself shows (`shown`). An `Err` says that no memory was left.
 pub fn complete_most(
     alloc: Global,
     here: &ItemHere<'_>,
     who: &Name,
     given: &GivenList,
 ) -> Result<Option<Refusal>, AllocError>
-    ensures { (known : Holdings) (f : Forest) (j : Ident) → SaysItem known f j here.now
+    ensures finds { (known : Holdings) (f : Forest) (j : Ident) → SaysItem known f j here.now
         → IfOk result (FindsPlain known f (λ s. complete_most s who.now j given.now)) }
+    ensures shown { IfOk result (λ found.
+        found ≡ None → complete_fault here.now.item.now who.now ≡ None) }
 {
     most_broken(alloc, here, who, given)
 }

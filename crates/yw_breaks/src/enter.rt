@@ -1,47 +1,71 @@
 // A person enters a task.
-ghost use Rattle.std.specs.Prelude.{◌≡◌, ◌<◌, IfOk, length};
-ghost use Rattle.yw_breaks.specs.Enter.{EnterMakes, EntersBy, FindsChosen, IsFed, item_count};
+ghost use Rattle.std.specs.Option.{option_copied};
+ghost use Rattle.std.specs.Prelude.{◌≡◌, ◌<◌, IfOk, None, Some, find, length, ℕ};
+ghost use Rattle.yw_breaks.specs.Enter.{EnterMakes, EntersBy, FindsChosen, FindsRows, IsFed};
 ghost use Rattle.yw_breaks.specs.Nets.{IsWithinHere};
-ghost use Rattle.yw_task.specs.Giving.{entry_fault};
+ghost use Rattle.yw_state.specs.Passing.{entry_values};
+ghost use Rattle.yw_task.specs.Giving.{entry_fault, lacks_value};
 
 use crate::asked::EntryAsked;
 use crate::nets::task_named;
 use crate::persons::worker_rule;
-use crate::refusals::{placeless, refusal, undefined};
+use crate::refusals::{mapping, placeless};
 use std::alloc::{AllocError, Global};
 use yw_base::{Name, NameList, Row};
-use yw_expr::view;
 use yw_known::NetHere;
 use yw_mark::{Taken, join_choice};
-use yw_spec::Task;
+use yw_spec::{Param, Task};
 use yw_state::{Refusal, Rule};
-use yw_task::{count_rule, element_count, first_lacking, is_active, or_waits, task_at};
+use yw_task::{count_rule, entry_values, first_lacking, is_active, lacks_list, or_waits, task_at};
 
-/// How many items an entry makes: one, or one for each element of the list over which the task runs. `None` where the list is undefined.
-fn item_count(task: &Task, vals: &Row) -> Option<usize>
-    ensures { result ≡ item_count task.now vals.now }
+/// The refusal of an entry of which something is undefined, where a parameter without an expression is given an element: at `each`, or at the first such
+/// parameter. An `Err` says that no memory was left.
+fn undefined_entry(alloc: Global, task: &Task, vals: &Row) -> Result<Refusal, AllocError>
+    requires fed { IsFed task.now }
+    requires undefined { entry_values task.now vals.now ≡ None }
+    ensures { IfOk result
+        (λ refusal. (next : ℕ) → Some refusal ≡ entry_fault task.now vals.now next) }
 {
-    match &task.many {
-        Some(many) => Some(element_count(view(&many.each, vals)?)),
-        None => Some(1),
+    if lacks_list(task, vals) {
+        return mapping(alloc, "each");
     }
+    let Some(param) = first_lacking(task.ins.as_slice(), vals) else {
+        unreachable!();
+    };
+    mapping(alloc, param.name.as_str())
 }
 
-/// What keeps items from coming, where a parameter without an expression is given an element: `Mapping`, `Count` or `Numbers`.
-fn entry_fault(
+/// The first parameter that has an undefined expression, where these rows are given: none where there are any.
+fn lacking<'a>(task: &'a Task, vals: &Row, rows: &[Row]) -> Option<&'a Param>
+    requires { entry_values task.now vals.now ≡ Some rows.now }
+    ensures { option_copied result ≡ find (lacks_value vals.now) task.now.ins }
+{
+    if rows.is_empty() {
+        return first_lacking(task.ins.as_slice(), vals);
+    }
+    None
+}
+
+/// What each item is given that an entry makes, where a parameter without an expression is given an element. Else what keeps items from coming:
+/// `Mapping`, `Count` or `Numbers`. An `Err` says that no memory was left.
+fn rows_of(
     alloc: Global,
     task: &Task,
     vals: &Row,
     next: u64,
-) -> Result<Option<Refusal>, AllocError>
-    ensures { IfOk result (λ found. IsFed task.now → found ≡ entry_fault task.now vals.now next) }
+) -> Result<Result<Vec<Row>, Refusal>, AllocError>
+    requires { IsFed task.now }
+    ensures { IfOk result (FindsRows task.now vals.now next) }
 {
-    let Some(count) = item_count(task, vals) else {
-        return undefined(alloc, "each");
+    let Some(rows) = entry_values(alloc, task, vals)? else {
+        return Ok(Err(undefined_entry(alloc, task, vals)?));
     };
-    match first_lacking(task.ins.as_slice(), vals) {
-        Some(param) => undefined(alloc, param.name.as_str()),
-        None => Ok(refusal(alloc, count_rule(task, next, count))),
+    if let Some(param) = lacking(task, vals, rows.as_slice()) {
+        return Ok(Err(mapping(alloc, param.name.as_str())?));
+    }
+    match count_rule(task, next, rows.len()) {
+        Some(rule) => Ok(Err(placeless(alloc, rule))),
+        None => Ok(Ok(rows)),
     }
 }
 
@@ -64,14 +88,15 @@ fn choice_of(here: &NetHere<'_>, t: usize) -> Result<Taken, Rule>
     Ok(taken)
 }
 
-/// From where the join of the task with this number takes, where who has these roles may enter the task; else the first rule that this breaks.
+/// From where the join of the task with this number takes, and what its items are given, where who has these roles may enter the task; else the
+/// first rule that this breaks.
 fn enter_by(
     alloc: Global,
     roles: &NameList,
     here: &NetHere<'_>,
     t: usize,
     next: u64,
-) -> Result<Result<Taken, Refusal>, AllocError>
+) -> Result<Result<(Taken, Vec<Row>), Refusal>, AllocError>
     requires task { t < length here.now.net.now.tasks }
     requires within { IsWithinHere here.now }
     ensures { IfOk result (EntersBy roles.now here.now t next) }
@@ -82,14 +107,14 @@ fn enter_by(
     }
     match choice_of(here, t) {
         Err(rule) => Ok(Err(placeless(alloc, rule))),
-        Ok(taken) => match entry_fault(alloc, task, &here.state.vals, next)? {
-            Some(refusal) => Ok(Err(refusal)),
-            None => Ok(Ok(taken)),
+        Ok(taken) => match rows_of(alloc, task, &here.state.vals, next)? {
+            Ok(rows) => Ok(Ok((taken, rows))),
+            Err(refusal) => Ok(Err(refusal)),
         },
     }
 }
 
-/// The task that is entered at this net, with the choice of its join, where none of the rules is broken that are tried behind, in a state without
+/// The task that is entered at this net, with the choice of its join and what its items are given, where none of the rules is broken that are tried behind, in a state without
 /// rules, suspensions and runs. Else the first that is: `UnknownTask` where the net has no task of this name; `ByItself` where the task isn't
 /// atomic; `Role` where the person, who has these roles, lacks its role; `Active` where items of it stand there; `NotEnabled` where its join lacks
 /// tokens; `OrWaits` where it is an OR-join that waits; `Mapping` where the list over which it runs is undefined, at `each`, or what an item is
@@ -108,7 +133,7 @@ pub fn enter_asked(
     match task_named(here.net, name) {
         None => Ok(Err(placeless(alloc, Rule::UnknownTask))),
         Some(task) => match enter_by(alloc, roles, here, task, next)? {
-            Ok(taken) => Ok(Ok(EntryAsked { task, taken })),
+            Ok((taken, rows)) => Ok(Ok(EntryAsked { task, taken, rows })),
             Err(refusal) => Ok(Err(refusal)),
         },
     }

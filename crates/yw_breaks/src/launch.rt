@@ -6,6 +6,7 @@ ghost use Rattle.yw_library.specs.Holdings.{Holdings};
 ghost use Rattle.yw_state.specs.declared.command.Command.TheVariants as commands;
 ghost use Rattle.yw_within.specs.Within.{IsWithin};
 
+use crate::asked::SpecAsked;
 use crate::refusals::{number_rule, refusal};
 use std::alloc::{AllocError, Global};
 use yw_base::{Name, Text};
@@ -44,13 +45,13 @@ fn launch_fault(
     }
 }
 
-/// The specification that a launch names. An `Err` has the first rule that it breaks: `UnknownSpec` where none of this name is loaded. It takes no
-/// memory.
-pub fn launch_front<'a>(known: &'a Known, name: &Name) -> Result<&'a Spec, Rule>
+/// The specification that a launch names, with its number. An `Err` has the first rule that it breaks: `UnknownSpec` where none of this name is
+/// loaded. It takes no memory.
+pub fn launch_front<'a>(known: &'a Known, name: &Name) -> Result<SpecAsked<'a>, Rule>
     ensures { FindsSpec known.now name.now result }
 {
     match known.spec_named(name) {
-        Some((spec, _)) => Ok(spec),
+        Some((spec, number)) => Ok(SpecAsked { spec, number }),
         None => Err(Rule::UnknownSpec),
     }
 }

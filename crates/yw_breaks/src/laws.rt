@@ -41,8 +41,8 @@ pub fn complete_joins()
         → Joins reader s (commands.Complete who j gs) j (complete_front s who j gs) (complete_rest s who j gs) }
 {}
 
-/// Of a completion what the event's own call finds (`complete` of yw_steps) is the first that is broken behind, where `complete_most` finds
-/// nothing.
+/// Of a completion what the call finds that is asked last (`ask_mapping` of yw_steps) is the first that is broken behind, where `complete_most`
+/// finds nothing.
 pub fn complete_last()
     ensures { (s : State) (who : List ℕ) (j : Ident) (gs : List Given) (found : Option Refusal) → First (complete_most s who j gs) None
         → First (shown_rest s who j gs) found → First (complete_rest s who j gs) found }

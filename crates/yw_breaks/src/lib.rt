@@ -16,7 +16,7 @@ mod refusals;
 mod start;
 
 pub use add::add_asked;
-pub use asked::{EntryAsked, ItemAsked, NetAsked};
+pub use asked::{AddAsked, EntryAsked, ItemAsked, NetAsked, SpecAsked};
 pub use cases::{advance_breaks, cancel_breaks};
 pub use complete::complete_most;
 pub use enter::enter_asked;

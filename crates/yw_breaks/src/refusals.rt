@@ -29,14 +29,21 @@ pub fn refusal(alloc: Global, rule: Option<Rule>) -> Option<Refusal>
 }
 
 /// The refusal by an expression that is undefined, at what it is for. An `Err` says that no memory was left.
+pub fn mapping(alloc: Global, at: &str) -> Result<Refusal, AllocError>
+    ensures { IfOk result (λ refusal. refusal ≡ placed Mapping at.now) }
+{
+    let at = Text::copy_of(alloc, at)?;
+    Ok(Refusal {
+        rule: Rule::Mapping,
+        at,
+    })
+}
+
+/// The same, as what is found. An `Err` says that no memory was left.
 pub fn undefined(alloc: Global, at: &str) -> Result<Option<Refusal>, AllocError>
     ensures { IfOk result (λ found. found ≡ Some (placed Mapping at.now)) }
 {
-    let at = Text::copy_of(alloc, at)?;
-    Ok(Some(Refusal {
-        rule: Rule::Mapping,
-        at,
-    }))
+    Ok(Some(mapping(alloc, at)?))
 }
 
 /// The first number that is too large, 2^48.

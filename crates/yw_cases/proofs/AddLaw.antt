@@ -8,12 +8,9 @@ use Rattle.yw_base.specs.declared.value.Value.{Value}
 use Rattle.yw_cases.proofs.Allows.{only_clear}
 use Rattle.yw_cases.proofs.EnterLaw.{gets_items}
 use Rattle.yw_cases.proofs.TaskHere.{its, named, named_so}
-use Rattle.yw_cases.proofs.Trying.{done, fails, leads_plainly, next_is, placed_next, stands_well, words_of}
+use Rattle.yw_cases.proofs.Trying.{done, stands_well, words_of}
 use Rattle.yw_cases.specs.Adding.{has_room, may_grow, takes_element}
-use Rattle.yw_cases.specs.Here.{IsNetKnown, with_state}
-use Rattle.yw_cases.specs.State.{MayStand, state_of}
-use Rattle.yw_cases.specs.Tried.{IsDone, LeadsOn, TellsLeads}
-use Rattle.yw_cases.specs.declared.standing.Standing.{Standing}
+use Rattle.yw_cases.specs.State.{MayStand}
 use Rattle.yw_expr.specs.Meaning.{val}
 use Rattle.yw_expr.specs.Tree.{Tree}
 use Rattle.yw_known.specs.Here.{IsNetHere, as_net_at}
@@ -23,6 +20,11 @@ use Rattle.yw_known.specs.declared.known.KnownNet.{KnownNet}
 use Rattle.yw_spec.specs.declared.task.Many.{Many}
 use Rattle.yw_spec.specs.declared.task.Param.{Param}
 use Rattle.yw_spec.specs.declared.task.Task.{Task}
+use Rattle.yw_standing.proofs.Trying.{fails, leads_plainly, next_is, placed_next}
+use Rattle.yw_standing.specs.Here.{IsNetKnown, with_state}
+use Rattle.yw_standing.specs.State.{state_of}
+use Rattle.yw_standing.specs.Tried.{IsDone, LeadsOn, TellsLeads}
+use Rattle.yw_standing.specs.declared.standing.Standing.{Standing}
 use Rattle.yw_state.proofs.Tests.{by_option, map_some, nowhere, some_same, then_some, there_and}
 use Rattle.yw_state.specs.After.{with_next}
 use Rattle.yw_state.specs.Allowed.{allows, element_param, is_next, may_add}
@@ -132,7 +134,7 @@ module _ (old : Standing) (may : MayStand old) (i : Ident) (name : List ℕ) (va
     both : (is_some_and (task_at s i name) (may_add s i value) ≡ true) × (drawn ≡ true)
     both = and_parts (is_some_and (task_at s i name) (may_add s i value)) drawn (sym (add_as leads.1.said) ∙ leads.1.allowed.0)
 
-    pub added_task : (y : TaskAt) × (task_at s i name ≡ Some y) × (may_add s i value y ≡ true)
+    added_task : (y : TaskAt) × (task_at s i name ≡ Some y) × (may_add s i value y ≡ true)
     added_task = there_and (task_at s i name) (may_add s i value) both.0
 
     number_is : n ≡ s.next

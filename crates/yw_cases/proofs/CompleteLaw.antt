@@ -4,16 +4,18 @@ use Rattle.std.proofs.lemmas.Bool.{and_from}
 use Rattle.std.specs.Prelude.{Bool, IsSome, List, MatchOption, None, Option, Some, false, is_none, is_some, refl, true, ℕ, ◌&&◌, ◌||◌, ◌∷◌, ◌≡◌}
 use Rattle.yw_base.specs.Identity.{is_identity, parent}
 use Rattle.yw_cases.proofs.Allows.{free}
-use Rattle.yw_cases.proofs.HereLaw.{no_item}
-use Rattle.yw_cases.proofs.Trying.{done, fails, leads_plainly, placed, stands_well, words_of}
+use Rattle.yw_cases.proofs.Trying.{done, stands_well, words_of}
 use Rattle.yw_cases.specs.Completing.{can_make}
-use Rattle.yw_cases.specs.State.{MayStand, state_of}
-use Rattle.yw_cases.specs.Tried.{IsDone, LeadsNowhere, LeadsOn, TellsLeads}
-use Rattle.yw_cases.specs.declared.standing.Standing.{Standing}
+use Rattle.yw_cases.specs.State.{MayStand}
 use Rattle.yw_invariant.proofs.Tasks.{atomic_has_no_child}
 use Rattle.yw_known.specs.Here.{IsItemHere, as_item_at, as_net_at}
 use Rattle.yw_library.specs.Names.{names_of}
 use Rattle.yw_known.specs.declared.here.ItemHere.{ItemHere}
+use Rattle.yw_standing.proofs.HereLaw.{no_item}
+use Rattle.yw_standing.proofs.Trying.{fails, leads_plainly, placed}
+use Rattle.yw_standing.specs.State.{state_of}
+use Rattle.yw_standing.specs.Tried.{IsDone, LeadsNowhere, LeadsOn, TellsLeads}
+use Rattle.yw_standing.specs.declared.standing.Standing.{Standing}
 use Rattle.yw_texts.specs.Texts.{reader}
 use Rattle.yw_nest.proofs.FromState.{item_stands}
 use Rattle.yw_nest.specs.Does.{all_else}

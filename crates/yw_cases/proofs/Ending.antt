@@ -3,14 +3,16 @@ use Rattle.std.proofs.Common.{sym, ◌∙◌}
 use Rattle.std.specs.Prelude.{Bool, List, false, is_some, refl, true, ℕ, ◌∷◌, [], ◌≡◌}
 use Rattle.yw_base.specs.Identity.{is_identity}
 use Rattle.yw_cases.proofs.Allows.{finish_as}
-use Rattle.yw_cases.proofs.Trying.{done, fails, leads_plainly, placed_over, words_of}
+use Rattle.yw_cases.proofs.Trying.{done, words_of}
 use Rattle.yw_library.specs.Ended.{ended_of}
-use Rattle.yw_cases.specs.State.{MayStand, state_of}
-use Rattle.yw_cases.specs.Tried.{IsDone, LeadsNowhere, LeadsOn, TellsLeads}
-use Rattle.yw_cases.specs.declared.standing.Standing.{Standing}
+use Rattle.yw_cases.specs.State.{MayStand}
 use Rattle.yw_known.proofs.Items.{case_is}
 use Rattle.yw_nest.specs.Cases.{Cancels, Finishes, with_ended}
 use Rattle.yw_nest.specs.Does.{NeedsNothing}
+use Rattle.yw_standing.proofs.Trying.{fails, leads_plainly, placed_over}
+use Rattle.yw_standing.specs.State.{state_of}
+use Rattle.yw_standing.specs.Tried.{IsDone, LeadsNowhere, LeadsOn, TellsLeads}
+use Rattle.yw_standing.specs.declared.standing.Standing.{Standing}
 use Rattle.yw_state.proofs.Standing.{at_net}
 use Rattle.yw_state.proofs.Tests.{by_test, there_and}
 use Rattle.yw_state.specs.Allowed.{allows}

@@ -1,22 +1,24 @@
 -- A task is entered, and gets items.
-use Rattle.std.proofs.Common.{Fits, List, ap, arith, length, refl, subst, sym, w64, ◌+◌, ◌<◌, ◌∙◌, ◌≤◌}
+use Rattle.std.proofs.Common.{List, ap, arith, length, refl, subst, sym, ◌+◌, ◌<◌, ◌∙◌, ◌≤◌}
 use Rattle.std.proofs.lemmas.Bool.{leb-true}
 use Rattle.std.specs.Prelude.{Option, Some, [], slice_get, true, unwrap_or, ℕ, ◌≡◌}
 use Rattle.yw_accepted.proofs.Loaded.{accepted_are_sound, accepted_are_within}
 use Rattle.yw_base.specs.Identity.{most_numbers, number_end}
 use Rattle.yw_cases.proofs.EntryLaw.{Entering, enter_as, entering, its_entry}
 use Rattle.yw_cases.proofs.TaskHere.{its, named, named_so, numbered_by, task_known}
-use Rattle.yw_cases.proofs.Trying.{done, placed_next, words_of}
-use Rattle.yw_cases.specs.Here.{IsNetKnown, with_state}
-use Rattle.yw_cases.specs.State.{MayStand, state_of}
-use Rattle.yw_cases.specs.Tried.{IsDone, LeadsOn}
-use Rattle.yw_cases.specs.declared.standing.Standing.{Standing}
+use Rattle.yw_cases.proofs.Trying.{done, words_of}
+use Rattle.yw_cases.specs.State.{MayStand}
 use Rattle.yw_invariant.proofs.Levels.{net_is_short}
 use Rattle.yw_known.specs.Here.{as_net_at}
 use Rattle.yw_library.specs.Names.{names_of}
 use Rattle.yw_known.specs.declared.known.KnownNet.{KnownNet}
 use Rattle.yw_mark.specs.Taking.{taken_places}
 use Rattle.yw_mark.specs.declared.join.Taken.{Taken}
+use Rattle.yw_standing.proofs.Trying.{placed_next}
+use Rattle.yw_standing.specs.Here.{IsNetKnown, with_state}
+use Rattle.yw_standing.specs.State.{state_of}
+use Rattle.yw_standing.specs.Tried.{IsDone, LeadsOn}
+use Rattle.yw_standing.specs.declared.standing.Standing.{Standing}
 use Rattle.yw_texts.specs.Texts.{reader}
 use Rattle.yw_spec.specs.declared.spec.Place.{Place}
 use Rattle.yw_spec.specs.declared.task.Task.{Task}
@@ -44,10 +46,6 @@ use Rattle.yw_tree.specs.declared.NetState.{NetState, out-NetState}
 use Rattle.yw_walk.specs.Computed.{EntryTakes}
 use Rattle.yw_within.proofs.Finding.{well_holds_within}
 use Rattle.yw_within.specs.Within.{HoldsWithin}
-
--- numbers are well below the greatest that there is
-pub fits_below : (k : ℕ) → k ≤ number_end → Fits w64 k
-fits_below k below = omega (arith, below)
 
 -- ---- what a task that gets items needs of the state
 

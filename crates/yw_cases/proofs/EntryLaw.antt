@@ -8,11 +8,10 @@ use Rattle.yw_cases.proofs.Allows.{only_clear}
 use Rattle.yw_accepted.proofs.Loaded.{accepted_are_within}
 use Rattle.yw_cases.proofs.TaskHere.{its, named, named_so, numbered}
 use Rattle.yw_cases.proofs.Taking.{joined, taken_by}
-use Rattle.yw_cases.proofs.Trying.{fails, leads_plainly, next_is, words_of}
+use Rattle.yw_cases.proofs.Trying.{words_of}
 use Rattle.yw_cases.specs.Entering.{IsChoice, candidate, stands_for}
-use Rattle.yw_cases.specs.State.{MayStand, state_of}
-use Rattle.yw_cases.specs.Tried.{LeadsNowhere, LeadsOn, MayAct}
-use Rattle.yw_cases.specs.declared.standing.Standing.{Standing}
+use Rattle.yw_cases.specs.State.{MayStand}
+use Rattle.yw_cases.specs.Tried.{MayAct}
 use Rattle.yw_enabled.specs.Entered.{MayEnter, MayNotEnter}
 use Rattle.yw_enabled.specs.Free.{MayDraw}
 use Rattle.yw_known.specs.Here.{IsNetHere}
@@ -20,6 +19,10 @@ use Rattle.yw_library.specs.Names.{names_of}
 use Rattle.yw_known.specs.declared.here.NetHere.{NetHere}
 use Rattle.yw_mark.specs.Taking.{taken_places}
 use Rattle.yw_mark.specs.declared.join.Taken.{Taken}
+use Rattle.yw_standing.proofs.Trying.{fails, leads_plainly, next_is}
+use Rattle.yw_standing.specs.State.{state_of}
+use Rattle.yw_standing.specs.Tried.{LeadsNowhere, LeadsOn}
+use Rattle.yw_standing.specs.declared.standing.Standing.{Standing}
 use Rattle.yw_texts.specs.Texts.{reader}
 use Rattle.yw_spec.specs.declared.spec.Place.{Place}
 use Rattle.yw_spec.specs.declared.task.Task.{Task}

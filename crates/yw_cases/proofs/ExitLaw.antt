@@ -6,11 +6,9 @@ use Rattle.std.specs.List.{list_all}
 use Rattle.std.specs.Prelude.{Bool, IsSome, List, None, Some, false, fold, is_some, nat_eq, slice_get, true, ℕ, ◌&&◌, ◌≡◌}
 use Rattle.yw_cases.proofs.Allows.{only_clear}
 use Rattle.yw_cases.proofs.TaskHere.{its, named, named_so, numbered, numbered_by, task_known}
-use Rattle.yw_cases.proofs.Trying.{done, fails, leads_plainly, placed, words_of}
-use Rattle.yw_cases.specs.Here.{IsNetKnown, with_state}
-use Rattle.yw_cases.specs.State.{MayStand, state_of}
-use Rattle.yw_cases.specs.Tried.{IsDone, LeadsNowhere, LeadsOn, MayAct}
-use Rattle.yw_cases.specs.declared.standing.Standing.{Standing}
+use Rattle.yw_cases.proofs.Trying.{done, words_of}
+use Rattle.yw_cases.specs.State.{MayStand}
+use Rattle.yw_cases.specs.Tried.{MayAct}
 use Rattle.yw_enabled.proofs.LeaveLaw.{values_are}
 use Rattle.yw_enabled.specs.Free.{StandsFree}
 use Rattle.yw_enabled.specs.Left.{IsLeavingAs, LeavesWith}
@@ -19,6 +17,11 @@ use Rattle.yw_known.specs.Here.{IsNetHere, as_net_at}
 use Rattle.yw_library.specs.Names.{names_of}
 use Rattle.yw_known.specs.declared.here.NetHere.{NetHere}
 use Rattle.yw_known.specs.declared.known.KnownNet.{KnownNet}
+use Rattle.yw_standing.proofs.Trying.{fails, leads_plainly, placed}
+use Rattle.yw_standing.specs.Here.{IsNetKnown, with_state}
+use Rattle.yw_standing.specs.State.{state_of}
+use Rattle.yw_standing.specs.Tried.{IsDone, LeadsNowhere, LeadsOn}
+use Rattle.yw_standing.specs.declared.standing.Standing.{Standing}
 use Rattle.yw_texts.specs.Texts.{reader}
 use Rattle.yw_nest.specs.Does.{all_else}
 use Rattle.yw_spec.specs.declared.spec.Place.{Place}

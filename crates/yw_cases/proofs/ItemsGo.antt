@@ -2,14 +2,11 @@
 use Rattle.std.proofs.Common.{ap, subst, sym, ◌∙◌}
 use Rattle.std.specs.Prelude.{Bool, IsSome, List, MatchOption, None, Option, Some, false, refl, true, ℕ, ◌&&◌, ◌∷◌, ◌≡◌}
 use Rattle.yw_cases.proofs.Allows.{empty_as, start_as, sub_ends_as, sub_starts_as}
-use Rattle.yw_cases.proofs.Trying.{done, fails, leads_plainly, placed, stands_well, words_of}
-use Rattle.yw_cases.specs.Here.{IsNetKnown}
+use Rattle.yw_cases.proofs.Trying.{done, stands_well, words_of}
 use Rattle.yw_cases.specs.Items.{item_suits, suits as suits_it}
-use Rattle.yw_cases.specs.State.{MayStand, state_of}
-use Rattle.yw_cases.specs.Tried.{IsDone, LeadsNowhere, LeadsOn, TellsLeads}
+use Rattle.yw_cases.specs.State.{MayStand}
 use Rattle.yw_cases.specs.declared.items.ItemEvent.{ItemEvent}
 use Rattle.yw_cases.specs.declared.items.ItemEvent.TheVariants.{CompleteEmpty, CompleteSub, Start, StartSub}
-use Rattle.yw_cases.specs.declared.standing.Standing.{Standing}
 use Rattle.yw_known.specs.Here.{IsNetHere}
 use Rattle.yw_library.specs.Names.{names_of}
 use Rattle.yw_known.specs.declared.here.NetHere.{NetHere}
@@ -17,6 +14,11 @@ use Rattle.yw_known.specs.declared.known.KnownNet.{KnownNet}
 use Rattle.yw_nest.proofs.FromState.{empty_stands, inner_is, item_stands, sub_ends, sub_starts}
 use Rattle.yw_nest.specs.Does.{NeedsNothing, all_else}
 use Rattle.yw_nest.specs.Items.{CompletesEmpty, CompletesSub, EndsAs, IsNetOf, StartsSub, SubMayEnd, SubMayStart}
+use Rattle.yw_standing.proofs.Trying.{fails, leads_plainly, placed}
+use Rattle.yw_standing.specs.Here.{IsNetKnown}
+use Rattle.yw_standing.specs.State.{state_of}
+use Rattle.yw_standing.specs.Tried.{IsDone, LeadsNowhere, LeadsOn, TellsLeads}
+use Rattle.yw_standing.specs.declared.standing.Standing.{Standing}
 use Rattle.yw_state.proofs.Tests.{never, nowhere, there_and}
 use Rattle.yw_state.specs.Allowed.{Allowed}
 use Rattle.yw_state.specs.Broken.{Check, First, test}

@@ -1,13 +1,13 @@
 -- A case begins.
-use Rattle.std.proofs.Common.{ap, sym, ◌∙◌}
+use Rattle.std.proofs.Common.{ap, subst, sym, ◌∙◌}
 use Rattle.std.proofs.lemmas.Bool.{leb-true}
-use Rattle.std.specs.Prelude.{◌≤◌, Bool, List, None, Some, false, nat_le, refl, true, ℕ, ◌&&◌, ◌+◌, ◌==◌, ◌≡◌, option_and_then, option_map}
+use Rattle.std.specs.Prelude.{◌≤◌, Bool, List, None, Some, false, nat_le, refl, true, ℕ, ◌&&◌, ◌+◌, ◌==◌, ◌≡◌}
+use Rattle.std.specs.Prelude.{option_and_then, option_map, slice_get}
 use Rattle.yw_base.specs.Identity.{number_end}
-use Rattle.yw_cases.proofs.Trying.{done, fails, leads_plainly, next_is, placed_next, stands_well, words_of}
+use Rattle.yw_cases.proofs.Trying.{done, stands_well, words_of}
 use Rattle.yw_cases.specs.Rows.{may_begin}
-use Rattle.yw_cases.specs.State.{MayStand, state_of}
-use Rattle.yw_cases.specs.Tried.{IsDone, LeadsNowhere, LeadsOn, TellsLeads}
-use Rattle.yw_cases.specs.declared.standing.Standing.{Standing}
+use Rattle.yw_cases.specs.State.{MayStand}
+use Rattle.yw_cases.specs.Tried.{IsSpecNumbered}
 use Rattle.yw_known.proofs.Standing.{kept_called, kept_named, kept_within, specs_are}
 use Rattle.yw_library.specs.Names.{names_of}
 use Rattle.yw_library.specs.Holdings as library
@@ -16,7 +16,11 @@ use Rattle.yw_nest.proofs.FromState.{case_begins}
 use Rattle.yw_nest.specs.Cases.{BeginsAs, CaseMayBegin, Launches}
 use Rattle.yw_spec.specs.declared.spec.Net.{Net}
 use Rattle.yw_spec.specs.declared.spec.Spec.{Spec}
-use Rattle.yw_state.proofs.Tests.{and_left, and_right}
+use Rattle.yw_standing.proofs.Trying.{fails, leads_plainly, next_is, placed_next}
+use Rattle.yw_standing.specs.State.{state_of}
+use Rattle.yw_standing.specs.Tried.{IsDone, LeadsNowhere, LeadsOn, TellsLeads}
+use Rattle.yw_standing.specs.declared.standing.Standing.{Standing}
+use Rattle.yw_state.proofs.Tests.{and_left, and_right, nowhere, some_same}
 use Rattle.yw_state.specs.After.{with_next}
 use Rattle.yw_state.specs.Allowed.{Allowed, allows, launch_fits}
 use Rattle.yw_state.specs.Map.{get}
@@ -51,9 +55,6 @@ module _ (old : Standing) (may : MayStand old) (n : ℕ) (name : List ℕ) (vals
   pub no_spec : get (library.state_of old.known).specs name ≡ None → LeadsNowhere old (events.Launch n name vals)
   no_spec none = fails old (events.Launch n name vals) (λ said. by_none said
       (ap (λ z. option_map (λ (l : Loaded). l.spec) (get z name)) (specs_are old.known old.forest (state_of old) may.held) ∙ ap (option_map (λ (l : Loaded). l.spec)) none))
-
-  pub spec_there : {A : Type 0} → get (library.state_of old.known).specs name ≡ None → LeadsOn old (events.Launch n name vals) → A
-  spec_there none leads = absurd (no_spec none leads.0 leads.1)
 
   module _ (spec : Spec) (number : ℕ) (kept : IsKept old.known name spec number) where
     called : spec_called (state_of old) name ≡ Some spec
@@ -95,3 +96,16 @@ module _ (old : Standing) (may : MayStand old) (n : ℕ) (name : List ℕ) (vals
     pub tells_launch : (b : Bool) → may_begin spec old.next n vals ≡ b → TellsLeads old (events.Launch n name vals) b
     tells_launch true e = leads_plainly old (events.Launch n name vals) refl (allowed e)
     tells_launch false e = not_launched e
+
+-- ---- the specification with a number
+
+module _ (known : library.Holdings) (name : List ℕ) (k : ℕ) (is : IsSpecNumbered known name k) where
+  -- is there
+  pub numbered_there : {A : Type 0} → slice_get known.specs k ≡ None → A
+  numbered_there none = nowhere (sym none ∙ is.kept.stands)
+
+  -- and is the one of the name
+  pub numbered_kept : (l : Loaded) → slice_get known.specs k ≡ Some l → IsKept known name l.spec k
+  numbered_kept l at =
+      let its : Loaded = record { text = is.kept.text; spec = is.spec } in
+      subst (λ (z : Loaded). IsKept known name z.spec k) (some_same its l (sym is.kept.stands ∙ at)) is.kept

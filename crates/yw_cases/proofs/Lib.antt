@@ -5,7 +5,6 @@ pub mod Loads
 pub mod Launching
 pub mod Ending
 pub mod ItemsGo
-pub mod HereLaw
 pub mod CompleteLaw
 pub mod TaskHere
 pub mod ExitLaw
@@ -13,5 +12,6 @@ pub mod Taking
 pub mod EntryLaw
 pub mod EnterLaw
 pub mod AddLaw
+pub mod Numbered
 pub mod Opening
 pub mod PlaceLaw

@@ -1,10 +1,11 @@
 -- The parts of the opening state stand for it.
 use Rattle.std.proofs.Common.{ap, ◌∙◌, ◌≡◌, ℕ, List, []}
 use Rattle.yw_cases.proofs.Trying.{opening_stands, opens}
-use Rattle.yw_cases.specs.State.{MayStand, standing_of, state_of}
-use Rattle.yw_cases.specs.declared.standing.Standing.{Standing}
+use Rattle.yw_cases.specs.State.{MayStand, standing_of}
 use Rattle.yw_library.specs.Parts.{IsOpening}
 use Rattle.yw_library.specs.declared.parts.Parts.{Parts}
+use Rattle.yw_standing.specs.State.{state_of}
+use Rattle.yw_standing.specs.declared.standing.Standing.{Standing}
 use Rattle.yw_state.specs.State.{opening}
 use Rattle.yw_state.specs.declared.part.Way.{Way}
 

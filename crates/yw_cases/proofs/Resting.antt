@@ -1,12 +1,9 @@
 -- What is kept of where something may come of itself is so of the state after an event.
 use Rattle.std.specs.Prelude.{◌≡◌, Bool, Err, IfOk, List, MatchOption, Ok, Option, Result, false, refl, true, ℕ}
 use Rattle.std.proofs.Common.{subst, sym}
-use Rattle.yw_cases.proofs.Trying.{done_stands, next_is}
+use Rattle.yw_cases.proofs.Trying.{done_stands}
 use Rattle.yw_cases.specs.Rested.{StandsRested}
 use Rattle.yw_cases.specs.Said.{TellsLoaded}
-use Rattle.yw_cases.specs.State.{state_of}
-use Rattle.yw_cases.specs.Tried.{IsDone}
-use Rattle.yw_cases.specs.declared.standing.Standing.{Standing}
 use Rattle.yw_library.specs.Held.{IsHeld}
 use Rattle.yw_library.specs.Holdings.{Holdings}
 use Rattle.yw_loose.proofs.Counting.{followed_right}
@@ -16,6 +13,10 @@ use Rattle.yw_loose.specs.Counts.{Follows}
 use Rattle.yw_loose.specs.Loose.{IsRested, Loosens}
 use Rattle.yw_loose.specs.Next.{FindsLoose, StaysRested}
 use Rattle.yw_loose.specs.declared.loose.Loose.{Loose}
+use Rattle.yw_standing.proofs.Trying.{next_is}
+use Rattle.yw_standing.specs.State.{state_of}
+use Rattle.yw_standing.specs.Tried.{IsDone}
+use Rattle.yw_standing.specs.declared.standing.Standing.{Standing}
 use Rattle.yw_texts.specs.Texts.{reader}
 use Rattle.yw_moved.specs.Moved.{is_moved}
 use Rattle.yw_plain.specs.Plain.{IsPlain, is_plain_event}

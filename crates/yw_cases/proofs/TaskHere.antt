@@ -5,15 +5,15 @@ use Rattle.std.proofs.lemmas.Option.{get_or_from_slice_get}
 use Rattle.std.proofs.lemmas.Slice.Eq.{bytes_eq-Decides}
 use Rattle.std.specs.Prelude.{List, MatchOption, None, Option, Some, option_and_then, option_map, slice_get, true, ℕ, ◌≡◌}
 use Rattle.std.specs.Str.{bytes_eq}
-use Rattle.yw_cases.proofs.HereLaw.{no_net}
-use Rattle.yw_cases.specs.Here.{IsNetKnown, with_state}
-use Rattle.yw_cases.specs.State.{state_of}
-use Rattle.yw_cases.specs.declared.standing.Standing.{Standing}
 use Rattle.yw_known.specs.Here.{IsNetHere, as_net_at}
 use Rattle.yw_known.specs.declared.here.NetHere.{NetHere}
 use Rattle.yw_known.specs.declared.known.KnownNet.{KnownNet}
 use Rattle.yw_spec.specs.declared.spec.Net.{Net}
 use Rattle.yw_spec.specs.declared.task.Task.{Task}
+use Rattle.yw_standing.proofs.HereLaw.{no_net}
+use Rattle.yw_standing.specs.Here.{IsNetKnown, with_state}
+use Rattle.yw_standing.specs.State.{state_of}
+use Rattle.yw_standing.specs.declared.standing.Standing.{Standing}
 use Rattle.yw_state.proofs.Tests.{by_option, nowhere, some_same}
 use Rattle.yw_state.specs.Identity.{Ident}
 use Rattle.yw_state.specs.Nets.{task_number}
@@ -81,11 +81,11 @@ module _ (old : Standing) (i : Ident) (name : List ℕ) (y : TaskAt) (there : ta
       nowhere (sym (no_net_no_task (state_of old) i name none) ∙ there)
 
   module _ (w : KnownNet) (known : IsNetKnown old.known old.forest (state_of old) i w) where
-    pub name_known : {A : Type 0} → task_number w.net.now name ≡ None → A
-    name_known none = nowhere (sym (no_name_no_task old i (with_state w known.state) known.here name none) ∙ there)
-
     pub task_known : (t : ℕ) → task_number w.net.now name ≡ Some t → (task : Task) × (slice_get w.net.now.tasks t ≡ Some task)
     task_known t number =
         by_option (slice_get w.net.now.tasks t)
         (λ none. nowhere (sym (no_number_no_task old i (with_state w known.state) known.here name t number none) ∙ there))
         (λ task of_net. (task, of_net))
+
+    pub number_known : (t : ℕ) → y.number ≡ t → task_number w.net.now name ≡ Some t
+    number_known t is = numbered_by old i (with_state w known.state) known.here name y there t is

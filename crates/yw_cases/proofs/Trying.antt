@@ -1,18 +1,17 @@
--- What an event leads to, from what is done to the forest; and that one whose test fails leads nowhere.
+-- What an event leads to that is done to the forest, and what is so of the state then.
 use Rattle.std.proofs.Common.{ap, subst, sym, ◌∙◌}
-use Rattle.std.specs.Prelude.{List, [], false, refl, true, ℕ, ◌≡◌}
+use Rattle.std.specs.Prelude.{List, [], refl, true, ℕ, ◌≡◌}
 use Rattle.yw_accepted.proofs.Loaded.{accepted_are_sound}
-use Rattle.yw_library.specs.Ended.{ended_of}
-use Rattle.yw_cases.specs.State.{MayStand, state_of}
-use Rattle.yw_cases.specs.Tried.{IsDone, LeadsNowhere, LeadsOn}
-use Rattle.yw_cases.specs.declared.standing.Standing.{Standing}
+use Rattle.yw_cases.specs.State.{MayStand}
 use Rattle.yw_invariant.proofs.EventsWell.{event_keeps_well}
 use Rattle.yw_invariant.proofs.FromOpening.{opening_is_well}
 use Rattle.yw_library.specs.Names.{names_of}
 use Rattle.yw_library.specs.Holdings as library
 use Rattle.yw_library.specs.Holdings.{Holdings, with_library}
+use Rattle.yw_standing.specs.State.{state_of}
+use Rattle.yw_standing.specs.Tried.{IsDone}
+use Rattle.yw_standing.specs.declared.standing.Standing.{Standing}
 use Rattle.yw_texts.specs.Texts.{reader}
-use Rattle.yw_nest.specs.Cases.{with_ended}
 use Rattle.yw_nest.specs.Does.{Does}
 use Rattle.yw_nest.specs.Stands.{StandsWell}
 use Rattle.yw_plain.proofs.Keeping.{event_keeps}
@@ -20,25 +19,19 @@ use Rattle.yw_plain.proofs.Started.{none_stays}
 use Rattle.yw_plain.proofs.Words as plain
 use Rattle.yw_plain.specs.Plain.{IsPlain, PlainWords, is_plain_event}
 use Rattle.yw_plain.specs.Worklets.{HasNoWorklet}
-use Rattle.yw_state.proofs.Tests.{never, nowhere}
-use Rattle.yw_state.specs.After.{with_next, with_sites}
-use Rattle.yw_state.specs.Allowed.{Allowed, allows}
+use Rattle.yw_state.proofs.Tests.{nowhere}
+use Rattle.yw_state.specs.After.{with_sites}
+use Rattle.yw_state.specs.Allowed.{Allowed}
 use Rattle.yw_state.specs.Events.{after}
-use Rattle.yw_state.specs.Map.{Map, empty, insert}
+use Rattle.yw_state.specs.Map.{empty}
 use Rattle.yw_state.specs.State.{State, opening}
-use Rattle.yw_state.specs.Texts.{Said, Says, nothing}
+use Rattle.yw_state.specs.Texts.{Says, nothing}
 use Rattle.yw_state.specs.Well.{IsWell}
 use Rattle.yw_state.specs.declared.event.Event.{Event}
-use Rattle.yw_state.specs.declared.part.Way.{Way}
 use Rattle.yw_tree.specs.Forest.{IsForest, sites_of}
 use Rattle.yw_tree.specs.declared.Forest.{Forest}
-use Rattle.std.specs.Ordering.{nat_cmp}
 
 -- ---- what is so of the state
-
-pub next_is : (h : Standing) → (state_of h).next ≡ h.next
-unfolding with_library
-next_is h = refl
 
 module _ (old : Standing) (may : MayStand old) where
   pub words_of : PlainWords (state_of old)
@@ -80,33 +73,6 @@ module _ (old : Standing) (may : MayStand old) where
         };
         boxed = does.boxed;
       }
-
--- ---- the state of what is kept, once parts of it are others
-
-module _ (old : Standing) (f : Forest) where
-  pub placed : with_sites (state_of old) (sites_of (names_of old.known) f) ≡ state_of (record old { forest = f })
-  unfolding with_library
-  placed = refl
-
-  pub placed_next : (k : ℕ) → with_sites (with_next (state_of old) k) (sites_of (names_of old.known) f) ≡ state_of (record old { forest = f; next = k })
-  unfolding with_library
-  placed_next k = refl
-
-  pub placed_over : (es : List (ℕ × Way)) (n : ℕ) (way : Way) → ended_of es ≡ insert (ended_of old.ended) n way
-      → with_sites (with_ended n way (state_of old)) (sites_of (names_of old.known) f) ≡ state_of (record old { forest = f; ended = es })
-  unfolding with_library
-  placed_over es n way put =
-      ap (λ (m : Map nat_cmp Way). with_library (record opening { next = old.next; sites = sites_of (names_of old.known) f; ended = m }) old.known) (sym put)
-
--- ---- an event whose test fails
-
-pub fails : (old : Standing) (e : Event) → ((said : Said) → allows (state_of old) e said ≡ false) → LeadsNowhere old e
-fails old e test t leads = never (sym (test leads.said) ∙ leads.allowed.0)
-
--- ---- an event that is allowed
-
-pub leads_plainly : (old : Standing) (e : Event) → Says reader (state_of old) e nothing → Allowed (state_of old) e nothing → LeadsOn old e
-leads_plainly old e says allowed = (after (state_of old) e nothing, record { said = nothing; says = says; allowed = allowed; then = refl })
 
 -- ---- all that is kept
 

@@ -1,5 +1,4 @@
 pub mod Rows
-pub mod Here
 pub mod Items
 pub mod State
 pub mod Tried

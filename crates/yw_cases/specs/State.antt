@@ -1,14 +1,10 @@
--- The state that what is kept stands for, and what is so of it.
-use Rattle.yw_cases.specs.declared.standing.Standing.{Standing}
+-- What is so of the state that what is kept stands for.
 use Rattle.yw_library.specs.Held.{IsHeld}
-use Rattle.yw_library.specs.Parts as parts
 use Rattle.yw_library.specs.declared.parts.Parts.{Parts}
 use Rattle.yw_plain.specs.Plain.{IsPlain}
 use Rattle.yw_plain.specs.Worklets.{HasNoWorklet}
-use Rattle.yw_state.specs.State.{State}
-
-abbrev pub state_of : Standing → State
-state_of h = parts.state_of (record { library = h.known; forest = h.forest; next = h.next; ended = h.ended })
+use Rattle.yw_standing.specs.State.{state_of}
+use Rattle.yw_standing.specs.declared.standing.Standing.{Standing}
 
 -- what these parts hold
 abbrev pub standing_of : Parts → Standing

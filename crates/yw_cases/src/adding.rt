@@ -2,17 +2,18 @@
 ghost use Rattle.std.specs.Prelude.{◌≡◌, IfOk, OnOk};
 ghost use Rattle.yw_cases.specs.Adding.{has_room, may_grow, takes_element};
 ghost use Rattle.yw_cases.specs.State.{MayStand};
-ghost use Rattle.yw_cases.specs.Tried.{IsDone, LeadsOn, TellsLeads};
+ghost use Rattle.yw_cases.specs.Tried.{IsTaskNumbered, TellsNumbered};
+ghost use Rattle.yw_standing.specs.State.{state_of};
+ghost use Rattle.yw_standing.specs.Tried.{IsDone, LeadsOn};
 ghost use Rattle.yw_state.specs.declared.event.Event.TheVariants as events;
 
-use crate::here::{draws, known_net};
 use crate::rows::may_hold;
-use crate::standing::Standing;
 use crate::whole::NO_CHECKS;
 use std::alloc::{AllocError, Global};
 use yw_base::{Ident, Name, Value};
 use yw_known::{net_here, task_called};
 use yw_spec::Task;
+use yw_standing::{Standing, draws, known_net};
 use yw_task::{first_lacking, is_active, items_in};
 use yw_tree::NetState;
 
@@ -49,43 +50,48 @@ fn may_grow(state: &NetState, task: &Task, t: usize, element: &Value) -> bool
         && first_lacking(task.ins.as_slice(), &state.vals).is_none()
 }
 
-/// Whether an item numbered `n` may be added to a task for this element. It takes no memory.
-pub fn may_add(standing: &Standing, at: &Ident, name: &Name, value: &Value, n: u64) -> bool
+/// The number of a task in the net at an identity, by its name, where an item numbered `n` may be added to it for this element; `None` where none may.
+/// It takes no memory.
+pub fn may_add(standing: &Standing, at: &Ident, name: &Name, value: &Value, n: u64) -> Option<usize>
     requires { MayStand standing.now }
-    ensures { TellsLeads standing.now (events.Add at.now name.now value.now n) result }
+    ensures { TellsNumbered standing.now (events.Add at.now name.now value.now n) result }
 {
     if !draws(standing.next, n, 1) {
-        return false;
+        return None;
     }
     let Some(here) = net_here(&standing.known, &standing.forest, at) else {
-        return false;
+        return None;
     };
     let Some(t) = task_called(here.net, name) else {
-        return false;
+        return None;
     };
     let Some(task) = here.net.tasks.get(t) else {
-        return false;
+        return None;
     };
-    may_grow(here.state, task, t, value)
+    if !may_grow(here.state, task, t, value) {
+        return None;
+    }
+    Some(t)
 }
 
-/// An item numbered `n` is added to a task for this element, as is allowed. An `Err` says that no memory was left.
+/// An item numbered `n` is added for this element, as is allowed, to the task with the number `t`, which has this name. An `Err` says that no memory
+/// was left.
 pub fn act_add(
     alloc: Global,
     standing: &mut Standing,
     at: &Ident,
-    name: &Name,
+    _name: &Name,
     value: &Value,
     n: u64,
+    t: usize,
 ) -> Result<(), AllocError>
     requires stands { MayStand standing.old }
-    requires leads { LeadsOn standing.old (events.Add at.now name.now value.now n) }
-    ensures { OnOk result (IsDone standing.old (events.Add at.now name.now value.now n) standing.new) }
+    requires leads { LeadsOn standing.old (events.Add at.now _name.now value.now n) }
+    requires number { IsTaskNumbered (state_of standing.old) at.now _name.now t }
+    ensures { OnOk result
+        (IsDone standing.old (events.Add at.now _name.now value.now n) standing.new) }
 {
     let Some(found) = known_net(&standing.known, &standing.forest, at) else {
-        unreachable!();
-    };
-    let Some(t) = task_called(found.net, name) else {
         unreachable!();
     };
     let forest = &mut standing.forest;

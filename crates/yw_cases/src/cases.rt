@@ -1,10 +1,13 @@
 // All that is kept, so that an event leads from one state that is well to another.
-ghost use Rattle.std.specs.Prelude.{◌≡◌, IfOk, MatchOption, OnErr, OnOk, true};
+ghost use Rattle.std.specs.Prelude.{◌≡◌, IfOk, MatchOption, OnErr, OnOk, false, true};
 ghost use Rattle.yw_library.specs.Ended.{ended_of};
 ghost use Rattle.yw_cases.specs.Said.{TellsLoaded};
-ghost use Rattle.yw_cases.specs.State.{MayStand, standing_of, state_of};
-ghost use Rattle.yw_cases.specs.Tried.{IsEnteredNowhere, IsUnfit, LeadsOn, TellsComputed};
+ghost use Rattle.yw_cases.specs.State.{MayStand, standing_of};
+ghost use Rattle.yw_cases.specs.Tried.{IsNumbered, IsUnfit, TellsComputed, TellsNumbered};
+ghost use Rattle.yw_cases.specs.Tried.{is_apart, is_numbered};
 ghost use Rattle.yw_library.specs.Accepts.{IfRefused};
+ghost use Rattle.yw_standing.specs.State.{state_of};
+ghost use Rattle.yw_standing.specs.Tried.{LeadsOn};
 ghost use Rattle.yw_texts.specs.Texts.{reader};
 ghost use Rattle.yw_plain.specs.Plain.{is_plain_event};
 ghost use Rattle.yw_state.specs.Automatic.{IsQuiet};
@@ -13,18 +16,17 @@ ghost use Rattle.yw_state.specs.Map.{get};
 ghost use Rattle.yw_state.specs.State.{opening};
 ghost use Rattle.yw_state.specs.declared.event.Event.TheVariants as events;
 ghost use Rattle.yw_walk.specs.Computed.{IsComputedOf};
-ghost use Rattle.yw_walk.specs.Finds.{IsEntered, IsFound};
+ghost use Rattle.yw_walk.specs.Finds.{IsFound};
 
-use crate::entered::entry_event;
-use crate::event::{act, may};
+use crate::event::{act, act_numbered, may, may_numbered};
 use crate::library::{load, load_as};
-use crate::standing::Standing;
 use std::alloc::{AllocError, Global};
 use std::marker::Model;
-use yw_base::{Ident, Name};
+use yw_base::Name;
 use yw_known::Known;
 use yw_library::{EndedTable, FIRST_NUMBER, LibraryFault, Parts};
 use yw_loose::Loose;
+use yw_standing::Standing;
 use yw_state::{Event, Way};
 use yw_tree::Forest;
 use yw_walk::{Computed, Found};
@@ -40,7 +42,7 @@ pub struct Cases {
 
 impl Model for Cases {
     ghost use Rattle.yw_cases.specs.Rested.{StandsRested};
-    ghost use Rattle.yw_cases.specs.declared.standing.Standing.{Standing};
+    ghost use Rattle.yw_standing.specs.declared.standing.Standing.{Standing};
 
     ghost Value = { Standing };
 
@@ -114,27 +116,58 @@ impl Cases {
     }
 
     /// What is computed of an event that is allowed, so that it leads on; `None` exactly where it leads nowhere. An `Err` says that no memory was
-    /// left. Nothing changes.
+    /// left. Nothing changes. A load, a launch and an addition have calls of their own: `load_as`, `may_numbered` and `act_numbered`.
     ///
     /// What a command's rules have shown, and what comes of itself, is allowed; so only who does an event that something else tells needs to ask.
     /// That an event is done exactly where the definitions allow it is our own.
     pub fn may(&self, event: &Event) -> Result<Option<Computed>, AllocError>
-        requires { is_plain_event event.now ≡ true }
+        requires plain { is_plain_event event.now ≡ true }
+        requires apart { is_apart event.now ≡ false }
         ensures { IfOk result (TellsComputed self.now event.now) }
     {
         may(self.alloc, &self.standing, event)
+    }
+
+    /// The same of a launch and of an addition: the number of its specification among those that are loaded, or of its task in the net; `None` exactly
+    /// where the event leads nowhere. It takes no memory. Nothing changes.
+    pub fn may_numbered(&self, event: &Event) -> Option<usize>
+        requires { is_numbered event.now ≡ true }
+        ensures { TellsNumbered self.now event.now result }
+    {
+        may_numbered(&self.standing, event)
     }
 
     /// Does an event that is allowed, with what was computed of it: the state is then that after it. Nothing is tested, nor computed anew. An
     /// `Err` says that no memory was left; then nothing is kept any more.
     pub fn act(&mut self, event: &Event, computed: Computed) -> Result<(), AllocError>
         requires plain { is_plain_event event.now ≡ true }
+        requires apart { is_apart event.now ≡ false }
         requires leads { LeadsOn self.old event.now }
         requires computed { IsComputedOf (state_of self.old) event.now computed }
         ensures done { OnOk result (Leads reader (state_of self.old) event.now (state_of self.new)) }
         ensures err { OnErr result (state_of self.new ≡ opening) }
     {
         match act(self.alloc, &mut self.standing, event, computed) {
+            Ok(()) => {
+                self.loose.after(self.alloc, &self.standing.forest, event);
+                Ok(())
+            }
+            Err(AllocError) => {
+                forget(self.alloc, &mut self.standing);
+                self.loose.forget();
+                Err(AllocError)
+            }
+        }
+    }
+
+    /// The same of a launch and of an addition that is allowed, by the number of its specification or of its task: no name is looked up.
+    pub fn act_numbered(&mut self, event: &Event, number: usize) -> Result<(), AllocError>
+        requires leads { LeadsOn self.old event.now }
+        requires numbered { IsNumbered self.old event.now number }
+        ensures done { OnOk result (Leads reader (state_of self.old) event.now (state_of self.new)) }
+        ensures err { OnErr result (state_of self.new ≡ opening) }
+    {
+        match act_numbered(self.alloc, &mut self.standing, event, number) {
             Ok(()) => {
                 self.loose.after(self.alloc, &self.standing.forest, event);
                 Ok(())
@@ -167,8 +200,8 @@ impl Cases {
     }
 
     /// Loads the specification that a text says under this name, as an event tells it: `true` where that event leads on, and the state is then that
-    /// after it; `false` where it leads nowhere, since the text can't be loaded or says another name, and nothing has changed. The text is read once,
-    /// where `may` and then `act` would read it twice. An `Err` says that no memory was left; then nothing is kept any more.
+    /// after it; `false` where it leads nowhere, since the text can't be loaded or says another name, and nothing has changed. So the text is read once,
+    /// where a question and then a deed would read it twice. An `Err` says that no memory was left; then nothing is kept any more.
     pub fn load_as(&mut self, name: &Name, text: &str) -> Result<bool, AllocError>
         ensures told { IfOk result (λ leads. TellsLoaded self.old name.now text.now leads self.new) }
         ensures err { OnErr result (state_of self.new ≡ opening) }
@@ -181,15 +214,6 @@ impl Cases {
                 Err(AllocError)
             }
         }
-    }
-
-    /// The event by which a task may be entered now, whoever does it, by its name in the net at an identity: it takes from the places of one choice
-    /// of the task's join, which comes with it, and its items are numbered from `next` on. `None` comes exactly where no event enters the task. An
-    /// `Err` says that no memory was left.
-    pub fn entry_event(&self, at: &Ident, name: &Name) -> Result<Option<Found>, AllocError>
-        ensures { IfOk result (λ found. MatchOption found (IsEnteredNowhere self.now at.now name.now) (IsEntered (state_of self.now) at.now name.now)) }
-    {
-        entry_event(self.alloc, &self.standing, at, name)
     }
 
     /// The next event that comes of itself in a case, by what events have set moving, with what was computed of it: `None` exactly where the case

@@ -2,17 +2,17 @@
 ghost use Rattle.std.specs.Prelude.{◌≡◌, IfOk, OnOk};
 ghost use Rattle.yw_cases.specs.Completing.{can_make};
 ghost use Rattle.yw_cases.specs.State.{MayStand};
-ghost use Rattle.yw_cases.specs.Tried.{IsDone, LeadsOn, TellsLeads};
+ghost use Rattle.yw_standing.specs.Tried.{IsDone, LeadsOn, TellsLeads};
 ghost use Rattle.yw_state.specs.Words.{is_executing};
 ghost use Rattle.yw_state.specs.declared.event.Event.TheVariants as events;
 
 use crate::rows::{copy_row, row_fits};
-use crate::standing::Standing;
 use crate::whole::NO_CHECKS;
 use std::alloc::{AllocError, Global};
 use yw_base::{Ident, Row};
 use yw_known::item_here;
 use yw_spec::Task;
+use yw_standing::Standing;
 use yw_state::Stage;
 use yw_task::items_in;
 use yw_tree::Node;

@@ -2,15 +2,15 @@
 ghost use Rattle.std.specs.Prelude.{◌≡◌, ◌==◌, ◌&&◌, IfOk, OnOk, filter};
 ghost use Rattle.yw_cases.specs.Entering.{FindsChoice, candidate, first_number, stands_for};
 ghost use Rattle.yw_cases.specs.Places.{ArePlacesApart};
-ghost use Rattle.yw_cases.specs.State.{MayStand, state_of};
-ghost use Rattle.yw_cases.specs.Tried.{IsDone, LeadsOn, TellsComputed};
+ghost use Rattle.yw_cases.specs.State.{MayStand};
+ghost use Rattle.yw_cases.specs.Tried.{TellsComputed};
 ghost use Rattle.yw_mark.specs.Tokens.{is_marked};
+ghost use Rattle.yw_standing.specs.State.{state_of};
+ghost use Rattle.yw_standing.specs.Tried.{IsDone, LeadsOn};
 ghost use Rattle.yw_state.specs.declared.event.Event.TheVariants as events;
 ghost use Rattle.yw_walk.specs.Computed.{IsComputedOf};
 
-use crate::here::known_net;
 use crate::places::{are_numbered, place_number};
-use crate::standing::Standing;
 use crate::whole::NO_CHECKS;
 use std::alloc::{AllocError, Global};
 use yw_base::{Gate, Ident, Name};
@@ -18,8 +18,8 @@ use yw_enabled::may_be_entered;
 use yw_known::{net_here, task_called};
 use yw_mark::{Taken, is_among, is_marked};
 use yw_spec::{Net, Place, PlaceList, Task};
+use yw_standing::{Standing, known_net};
 use yw_state::Marks;
-use yw_task::entry_rows;
 use yw_walk::Computed;
 
 /// An entry that gives so many rows makes so many items, numbered from `first` on, which is drawn next.
@@ -126,10 +126,11 @@ pub fn may_enter(
     let Some(task) = here.net.tasks.get(t) else {
         return Ok(None);
     };
-    let Some(_) = may_be_entered(here.net, here.state, here.up, t, standing.next) else {
+    let (net, state, up) = (here.net, here.state, here.up);
+    let Some(entering) = may_be_entered(alloc, net, state, up, t, standing.next)? else {
         return Ok(None);
     };
-    let rows = entry_rows(alloc, task, &here.state.vals)?;
+    let rows = entering.rows;
     if !draws_items(rows.len(), standing.next, first, count) {
         return Ok(None);
     }

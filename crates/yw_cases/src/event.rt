@@ -1,8 +1,11 @@
 // An event of any kind.
 ghost use Rattle.std.specs.Prelude.{◌≡◌, IfOk, OnOk, false, true};
-ghost use Rattle.yw_cases.specs.State.{MayStand, state_of};
-ghost use Rattle.yw_cases.specs.Tried.{IsDone, LeadsOn, TellsComputed, TellsLeads};
+ghost use Rattle.yw_cases.specs.State.{MayStand};
+ghost use Rattle.yw_cases.specs.Tried.{IsNumbered, TellsComputed, TellsNumbered};
+ghost use Rattle.yw_cases.specs.Tried.{is_apart, is_numbered};
 ghost use Rattle.yw_plain.specs.Plain.{is_plain_event};
+ghost use Rattle.yw_standing.specs.State.{state_of};
+ghost use Rattle.yw_standing.specs.Tried.{IsDone, LeadsOn, TellsLeads};
 ghost use Rattle.yw_state.specs.declared.event.Event.TheVariants as events;
 ghost use Rattle.yw_walk.specs.Computed.{IsComputedOf, is_computed};
 
@@ -14,12 +17,12 @@ use crate::items::{
     act_complete_empty, act_complete_sub, act_start, act_start_sub, may_complete_empty,
     may_complete_sub, may_start, may_start_sub,
 };
-use crate::library::{act_load, act_person, may_load, may_person};
-use crate::standing::Standing;
+use crate::library::{act_person, may_person};
 use crate::whole::{
     act_cancel, act_finish, act_launch, may_advance, may_cancel, may_finish, may_launch,
 };
 use std::alloc::{AllocError, Global};
+use yw_standing::Standing;
 use yw_state::Event;
 use yw_walk::Computed;
 
@@ -27,21 +30,14 @@ use yw_walk::Computed;
 fn may_plainly(alloc: Global, standing: &Standing, event: &Event) -> Result<bool, AllocError>
     requires stands { MayStand standing.now }
     requires plain { is_plain_event event.now ≡ true }
+    requires apart { is_apart event.now ≡ false }
     requires computed { is_computed event.now ≡ false }
     ensures { IfOk result (TellsLeads standing.now event.now) }
 {
     match event {
         Event::Person { name, roles } => Ok(may_person(standing, name, roles)),
-        Event::Load { name, text } => may_load(alloc, standing, name, text.as_str()),
-        Event::Launch { case, spec, values } => Ok(may_launch(standing, *case, spec, values)),
         Event::Start { item, who } => Ok(may_start(standing, item, who)),
         Event::Complete { item, out } => may_complete(alloc, standing, item, out),
-        Event::Add {
-            net,
-            task,
-            value,
-            number,
-        } => Ok(may_add(standing, net, task, value, *number)),
         Event::Finish { case } => may_finish(alloc, standing, *case),
         Event::Cancel { case } => Ok(may_cancel(standing, *case)),
         Event::StartSub { item } => Ok(may_start_sub(standing, item)),
@@ -60,6 +56,7 @@ fn may_else(
 ) -> Result<Option<Computed>, AllocError>
     requires stands { MayStand standing.now }
     requires plain { is_plain_event event.now ≡ true }
+    requires apart { is_apart event.now ≡ false }
     requires computed { is_computed event.now ≡ false }
     ensures { IfOk result (TellsComputed standing.now event.now) }
 {
@@ -69,7 +66,8 @@ fn may_else(
     Ok(None)
 }
 
-/// What is computed of an event that is allowed, so that it leads on; `None` where it leads nowhere. An `Err` says that no memory was left.
+/// What is computed of an event that is allowed, so that it leads on; `None` where it leads nowhere. A load, a launch and an addition have calls of their
+/// own. An `Err` says that no memory was left.
 pub fn may(
     alloc: Global,
     standing: &Standing,
@@ -77,6 +75,7 @@ pub fn may(
 ) -> Result<Option<Computed>, AllocError>
     requires stands { MayStand standing.now }
     requires plain { is_plain_event event.now ≡ true }
+    requires apart { is_apart event.now ≡ false }
     ensures { IfOk result (TellsComputed standing.now event.now) }
 {
     match event {
@@ -92,27 +91,39 @@ pub fn may(
     }
 }
 
+/// The number of a launch's specification or of an addition's task, where the event is allowed, so that it leads on; `None` where it leads nowhere. It
+/// takes no memory.
+pub fn may_numbered(standing: &Standing, event: &Event) -> Option<usize>
+    requires stands { MayStand standing.now }
+    requires numbered { is_numbered event.now ≡ true }
+    ensures { TellsNumbered standing.now event.now result }
+{
+    match event {
+        Event::Launch { case, spec, values } => may_launch(standing, *case, spec, values),
+        Event::Add {
+            net,
+            task,
+            value,
+            number,
+        } => may_add(standing, net, task, value, *number),
+        _ => unreachable!(),
+    }
+}
+
 /// Does an event that is allowed and of which nothing is computed. Nothing is tested. An `Err` says that no memory was left; what is kept then is
 /// told nowhere.
 fn act_plainly(alloc: Global, standing: &mut Standing, event: &Event) -> Result<(), AllocError>
     requires stands { MayStand standing.old }
     requires plain { is_plain_event event.now ≡ true }
+    requires apart { is_apart event.now ≡ false }
     requires computed { is_computed event.now ≡ false }
     requires leads { LeadsOn standing.old event.now }
     ensures { OnOk result (IsDone standing.old event.now standing.new) }
 {
     match event {
         Event::Person { name, roles } => act_person(standing, name, roles),
-        Event::Load { name, text } => act_load(standing, name, text.as_str()),
-        Event::Launch { case, spec, values } => act_launch(alloc, standing, *case, spec, values),
         Event::Start { item, who } => act_start(standing, item, who),
         Event::Complete { item, out } => act_complete(alloc, standing, item, out),
-        Event::Add {
-            net,
-            task,
-            value,
-            number,
-        } => act_add(alloc, standing, net, task, value, *number),
         Event::Finish { case } => act_finish(standing, *case),
         Event::Cancel { case } => act_cancel(standing, *case),
         Event::StartSub { item } => act_start_sub(alloc, standing, item),
@@ -136,6 +147,7 @@ pub fn act(
 ) -> Result<(), AllocError>
     requires stands { MayStand standing.old }
     requires plain { is_plain_event event.now ≡ true }
+    requires apart { is_apart event.now ≡ false }
     requires leads { LeadsOn standing.old event.now }
     requires computed { IsComputedOf (state_of standing.old) event.now computed }
     ensures { OnOk result (IsDone standing.old event.now standing.new) }
@@ -153,5 +165,33 @@ pub fn act(
             Ok(())
         }
         _ => act_plainly(alloc, standing, event),
+    }
+}
+
+/// Begins a case or adds an item, as is allowed, by the number of the specification or of the task. Nothing is tested, nor is a name looked up. An `Err`
+/// says that no memory was left; what is kept then is told nowhere.
+pub fn act_numbered(
+    alloc: Global,
+    standing: &mut Standing,
+    event: &Event,
+    number: usize,
+) -> Result<(), AllocError>
+    requires stands { MayStand standing.old }
+    requires kind { is_numbered event.now ≡ true }
+    requires leads { LeadsOn standing.old event.now }
+    requires numbered { IsNumbered standing.old event.now number }
+    ensures { OnOk result (IsDone standing.old event.now standing.new) }
+{
+    match event {
+        Event::Launch { case, spec, values } => {
+            act_launch(alloc, standing, *case, spec, values, number)
+        }
+        Event::Add {
+            net,
+            task,
+            value,
+            number: item,
+        } => act_add(alloc, standing, net, task, value, *item, number),
+        _ => unreachable!(),
     }
 }

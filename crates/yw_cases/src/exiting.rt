@@ -1,18 +1,19 @@
 // A task exits.
 ghost use Rattle.std.specs.Prelude.{IfOk};
-ghost use Rattle.yw_cases.specs.State.{MayStand, state_of};
-ghost use Rattle.yw_cases.specs.Tried.{IsDone, LeadsOn, TellsComputed};
+ghost use Rattle.yw_cases.specs.State.{MayStand};
+ghost use Rattle.yw_cases.specs.Tried.{TellsComputed};
+ghost use Rattle.yw_standing.specs.State.{state_of};
+ghost use Rattle.yw_standing.specs.Tried.{IsDone, LeadsOn};
 ghost use Rattle.yw_state.specs.declared.event.Event.TheVariants as events;
 ghost use Rattle.yw_walk.specs.Computed.{IsComputedOf};
 
-use crate::here::known_net;
 use crate::places::are_numbered;
-use crate::standing::Standing;
 use std::alloc::{AllocError, Global};
 use yw_base::{Ident, Name};
 use yw_enabled::may_be_left;
 use yw_known::{net_here, task_called};
 use yw_spec::PlaceList;
+use yw_standing::{Standing, known_net};
 use yw_walk::Computed;
 
 /// Whether a task may exit so that a token comes to each of these places, with what its exit leaves. An `Err` says that no memory was left.
@@ -54,7 +55,8 @@ pub fn act_exit(
 )
     requires stands { MayStand standing.old }
     requires leads { LeadsOn standing.old (events.Exit at.now _name.now _places.now) }
-    requires computed { IsComputedOf (state_of standing.old) (events.Exit at.now _name.now _places.now) computed }
+    requires computed { IsComputedOf (state_of standing.old)
+        (events.Exit at.now _name.now _places.now) computed }
     ensures { IsDone standing.old (events.Exit at.now _name.now _places.now) standing.new }
 {
     let Computed::Exit { task, outcome } = computed else {

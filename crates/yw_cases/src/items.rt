@@ -1,23 +1,23 @@
 // Items that go on: one is started, a child net begins or ends at one, or one of an empty task is completed.
 ghost use Rattle.std.specs.Prelude.{◌≡◌, ◌&&◌, IfOk, None, MatchOption, OnOk};
-ghost use Rattle.yw_cases.specs.Here.{IsNetKnown};
 ghost use Rattle.yw_cases.specs.Items.{item_suits, suits};
-ghost use Rattle.yw_cases.specs.State.{MayStand, state_of};
+ghost use Rattle.yw_cases.specs.State.{MayStand};
 ghost use Rattle.yw_cases.specs.declared.items.ItemEvent.TheVariants.{CompleteSub};
-ghost use Rattle.yw_cases.specs.Tried.{IsDone, LeadsOn, TellsLeads};
 ghost use Rattle.yw_library.specs.Held.{IsHeld};
 ghost use Rattle.yw_base.specs.Identity.{parent};
+ghost use Rattle.yw_standing.specs.Here.{IsNetKnown};
+ghost use Rattle.yw_standing.specs.State.{state_of};
+ghost use Rattle.yw_standing.specs.Tried.{IsDone, LeadsOn, TellsLeads};
 ghost use Rattle.yw_state.specs.Joins.{at_output};
 ghost use Rattle.yw_state.specs.State.{State, item_at};
 ghost use Rattle.yw_state.specs.declared.event.Event.TheVariants as events;
 
-use crate::here::net_at_output;
-use crate::standing::Standing;
 use crate::whole::NO_CHECKS;
 use std::alloc::{AllocError, Global};
 use yw_base::{Ident, Name};
 use yw_known::{Known, KnownNet, item_here};
 use yw_spec::{Kind, Task};
+use yw_standing::{Standing, net_at_output};
 use yw_state::Stage;
 use yw_tree::Forest;
 

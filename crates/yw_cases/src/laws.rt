@@ -1,8 +1,9 @@
 //! What is so of the parts of the opening state. The law is the contract of a function that does nothing.
 ghost use Rattle.std.specs.Prelude.{◌≡◌};
-ghost use Rattle.yw_cases.specs.State.{MayStand, standing_of, state_of};
+ghost use Rattle.yw_cases.specs.State.{MayStand, standing_of};
 ghost use Rattle.yw_library.specs.Parts.{IsOpening};
 ghost use Rattle.yw_library.specs.declared.parts.Parts.{Parts};
+ghost use Rattle.yw_standing.specs.State.{state_of};
 ghost use Rattle.yw_state.specs.State.{opening};
 
 /// They stand for the opening state, which is well.

@@ -5,18 +5,14 @@
 mod adding;
 mod cases;
 mod completing;
-mod entered;
 mod entering;
 mod event;
 mod exiting;
-mod here;
 mod items;
 pub mod laws;
 mod library;
 mod places;
 mod rows;
-mod standing;
 mod whole;
 
 pub use cases::Cases;
-pub use standing::Standing;

@@ -1,16 +1,17 @@
 // Persons, and specifications that are loaded.
 ghost use Rattle.std.specs.Prelude.{◌≡◌, IfOk, OnOk};
-ghost use Rattle.yw_cases.specs.Said.{TellsLoaded, TellsNamed};
+ghost use Rattle.yw_cases.specs.Said.{TellsLoaded};
 ghost use Rattle.yw_cases.specs.State.{MayStand};
-ghost use Rattle.yw_cases.specs.Tried.{IsDone, IsUnfit, LeadsOn, TellsLeads};
+ghost use Rattle.yw_cases.specs.Tried.{IsUnfit};
 ghost use Rattle.yw_library.specs.Accepts.{IfRefused};
+ghost use Rattle.yw_standing.specs.Tried.{IsDone, LeadsOn, TellsLeads};
 ghost use Rattle.yw_state.specs.Allowed.{are_roles};
 ghost use Rattle.yw_state.specs.declared.event.Event.TheVariants as events;
 
-use crate::standing::Standing;
-use std::alloc::{AllocError, Global};
+use std::alloc::AllocError;
 use yw_base::{Name, NameList};
-use yw_library::{Library, LibraryFault};
+use yw_library::LibraryFault;
+use yw_standing::Standing;
 
 const MOST_ROLES: usize = 64;
 
@@ -26,48 +27,6 @@ pub fn may_person(_standing: &Standing, _name: &Name, roles: &NameList) -> bool
     ensures { TellsLeads _standing.now (events.Person _name.now roles.now) result }
 {
     are_roles(roles)
-}
-
-/// Whether a text says a specification of this name: a library that holds nothing loads it. An `Err` says that no memory was left.
-fn says_named(alloc: Global, text: &str, name: &Name) -> Result<bool, AllocError>
-    ensures { IfOk result (TellsNamed text.now name.now) }
-{
-    let mut library = Library::new(alloc);
-    match library.load(text) {
-        Ok(said) => Ok(said.as_str() == name.as_str()),
-        Err(LibraryFault::Refused(_)) => Ok(false),
-        Err(LibraryFault::Memory) => Err(AllocError),
-    }
-}
-
-/// Whether the specification that a text says may be loaded under this name: it has this name, and none of it is loaded. The text is read. An
-/// `Err` says that no memory was left.
-pub fn may_load(
-    alloc: Global,
-    standing: &Standing,
-    name: &Name,
-    text: &str,
-) -> Result<bool, AllocError>
-    requires { MayStand standing.now }
-    ensures { IfOk result (TellsLeads standing.now (events.Load name.now text.now)) }
-{
-    match standing.known.spec_named(name) {
-        Some(_) => Ok(false),
-        None => says_named(alloc, text, name),
-    }
-}
-
-/// Loads the specification that a text says under this name, as is allowed. The text is read, and that it may be loaded is seen again. An `Err`
-/// says that no memory was left.
-pub fn act_load(standing: &mut Standing, name: &Name, text: &str) -> Result<(), AllocError>
-    requires stands { MayStand standing.old }
-    requires leads { LeadsOn standing.old (events.Load name.now text.now) }
-    ensures { OnOk result (IsDone standing.old (events.Load name.now text.now) standing.new) }
-{
-    if !standing.known.load_as(name, text)? {
-        unreachable!();
-    }
-    Ok(())
 }
 
 /// Loads the specification that a text says under this name, where that is allowed: `true`, and what is kept is then that after it; else `false`, and

@@ -1,9 +1,11 @@
 // Cases that begin, and that are over.
 ghost use Rattle.std.specs.Prelude.{◌≡◌, IfOk, OnOk};
 ghost use Rattle.yw_cases.specs.Rows.{may_begin};
-ghost use Rattle.yw_cases.specs.State.{MayStand, state_of};
-ghost use Rattle.yw_cases.specs.Tried.{IsDone, LeadsOn, TellsLeads};
+ghost use Rattle.yw_cases.specs.State.{MayStand};
+ghost use Rattle.yw_cases.specs.Tried.{IsSpecNumbered, TellsNumbered};
 ghost use Rattle.yw_spec.specs.declared.spec.Net.{Net};
+ghost use Rattle.yw_standing.specs.State.{state_of};
+ghost use Rattle.yw_standing.specs.Tried.{IsDone, LeadsOn, TellsLeads};
 ghost use Rattle.yw_state.specs.Allowed.{launch_fits};
 ghost use Rattle.yw_state.specs.Identity.{case_ident};
 ghost use Rattle.yw_state.specs.Joins.{at_output};
@@ -12,12 +14,11 @@ ghost use Rattle.yw_state.specs.Options.{is_some_and};
 ghost use Rattle.yw_state.specs.State.{is_case};
 ghost use Rattle.yw_state.specs.declared.event.Event.TheVariants as events;
 
-use crate::here::{draws, net_at_output};
 use crate::rows::{copy_row, launch_fits};
-use crate::standing::Standing;
 use std::alloc::{AllocError, Global};
 use yw_base::{Ident, Name, Row};
 use yw_spec::Spec;
+use yw_standing::{Standing, draws, net_at_output};
 use yw_state::{Checks, Way};
 
 /// No check is due: no tree has a rule.
@@ -44,15 +45,19 @@ fn may_begin(spec: &Spec, next: u64, n: u64, values: &Row) -> bool
     draws(next, n, 1) && begins_with(spec, values)
 }
 
-/// Whether a case of the specification of this name may begin under this number, with these values. It takes no memory.
-pub fn may_launch(standing: &Standing, n: u64, name: &Name, values: &Row) -> bool
+/// The number of the specification of this name, where a case of it may begin under the number `n` with these values; `None` where none may. It takes
+/// no memory.
+pub fn may_launch(standing: &Standing, n: u64, name: &Name, values: &Row) -> Option<usize>
     requires { MayStand standing.now }
-    ensures { TellsLeads standing.now (events.Launch n name.now values.now) result }
+    ensures { TellsNumbered standing.now (events.Launch n name.now values.now) result }
 {
-    let Some((spec, _number)) = standing.known.spec_named(name) else {
-        return false;
+    let Some((spec, number)) = standing.known.spec_named(name) else {
+        return None;
     };
-    may_begin(spec, standing.next, n, values)
+    if !may_begin(spec, standing.next, n, values) {
+        return None;
+    }
+    Some(number)
 }
 
 /// The net of the case with this number is at its end. An `Err` says that no memory was left.
@@ -120,26 +125,28 @@ pub fn act_cancel(standing: &mut Standing, n: u64) -> Result<(), AllocError>
     Ok(())
 }
 
-/// Begins a case, as is allowed. An `Err` says that no memory was left.
+/// Begins a case, as is allowed, of the specification with this number, which has this name. An `Err` says that no memory was left.
 pub fn act_launch(
     alloc: Global,
     standing: &mut Standing,
     n: u64,
-    name: &Name,
+    _name: &Name,
     values: &Row,
+    number: usize,
 ) -> Result<(), AllocError>
     requires stands { MayStand standing.old }
-    requires leads { LeadsOn standing.old (events.Launch n name.now values.now) }
-    ensures { OnOk result (IsDone standing.old (events.Launch n name.now values.now) standing.new) }
+    requires leads { LeadsOn standing.old (events.Launch n _name.now values.now) }
+    requires number { IsSpecNumbered standing.old.known _name.now number }
+    ensures { OnOk result (IsDone standing.old (events.Launch n _name.now values.now) standing.new) }
 {
-    let Some((spec, number)) = standing.known.spec_named(name) else {
+    let Some(loaded) = standing.known.library().specs().get(number) else {
         unreachable!();
     };
     let copy = copy_row(alloc, values)?;
     yw_nest::launch(
         alloc,
         &mut standing.forest,
-        spec,
+        &loaded.spec,
         number,
         n,
         copy,

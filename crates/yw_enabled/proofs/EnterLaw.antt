@@ -1,12 +1,13 @@
 -- A task may be entered exactly where its net says so, but for an OR-join that waits.
-use Rattle.std.proofs.Common.{Bool, List, Some, [], ap, false, get_or, inl, inr, length, refl, subst, suc, sym, true, zero, ℕ, ◌+◌, ◌∙◌, ◌∷◌, ◌≡◌}
+use Rattle.std.proofs.Common.{Bool, List, None, Option, Some, [], ap, false, get_or, inl, inr, length, refl, subst, suc, sym, true, zero, ℕ, ◌+◌, ◌∙◌, ◌∷◌, ◌≡◌}
 use Rattle.std.proofs.lemmas.Bool.{and_from, and_parts}
-use Rattle.std.specs.Prelude.{IsTrue, nat_le, not, slice_get, unwrap_or, ◌&&◌}
+use Rattle.std.specs.Prelude.{Err, IfOk, IfSome, IsTrue, Ok, Result, nat_le, not, slice_get, unwrap_or, ◌&&◌}
 use Rattle.yw_base.specs.Gates.{is_or}
 use Rattle.yw_base.specs.Identity.{number_end}
 use Rattle.yw_enabled.proofs.FreeItems.{task_is}
-use Rattle.yw_enabled.specs.Entered.{EntersFrom, IsFed, MayEnter, MayNotEnter, may_be_made}
+use Rattle.yw_enabled.specs.Entered.{ComesIn, EntersFrom, EntersWith, MayEnter, MayNotEnter, StaysOut, is_chosen, is_manual, may_be_made}
 use Rattle.yw_enabled.specs.Free.{MayDraw}
+use Rattle.yw_enabled.specs.declared.entered.Entering.{Entering}
 use Rattle.yw_mark.specs.Taking.{Chooses, HasTokens, OfTask, taken_places}
 use Rattle.yw_mark.specs.declared.join.Taken.{Taken}
 use Rattle.yw_path.proofs.WaitLemmas.{fills, waits}
@@ -84,20 +85,20 @@ module _ (net : Net) (state : NetState) (t first : ℕ) where
     out_waiting answer = keeps_out net state t first (λ task at names f s i h e.
         waits_there names f s i net state first h t task (subst (λ (u : Task). OrWaitsAs net state u true) (some_same own task (sym is ∙ at)) answer))
 
-    pub out_unmade : (made : Bool) → (IsFed own → made ≡ may_be_made own (out-NetState state).vals first) → made ≡ false → MayNotEnter net state t first
-    out_unmade made by none = keeps_out net state t first (λ task at names f s i h e.
+    pub out_unmade : may_be_made own (out-NetState state).vals first ≡ false → MayNotEnter net state t first
+    out_unmade none = keeps_out net state t first (λ task at names f s i h e.
         let same : own ≡ task = some_same own task (sym is ∙ at) in
         let all = (needs names f s i net state first h t task e).2 in
-        never (sym none ∙ by (h.within.each_task t own is).element ∙ ap (λ (u : Task). may_be_made u (out-NetState state).vals first) same ∙ all))
+        never (sym none ∙ ap (λ (u : Task). may_be_made u (out-NetState state).vals first) same ∙ all))
 
     pub comes_in : (taken : Taken) → is_active state t ≡ false → OfTask net t (λ task. Chooses (out-NetState state).marks task taken) → OfTask net t (λ task. HasTokens (out-NetState state).marks task true)
-        → OrWaitsAs net state own false → (made : Bool) → (IsFed own → made ≡ may_be_made own (out-NetState state).vals first) → made ≡ true → MayEnter net state t first taken
-    comes_in taken idle chooses tokens answer made by may = λ names f s i x h at.
+        → OrWaitsAs net state own false → may_be_made own (out-NetState state).vals first ≡ true → MayEnter net state t first taken
+    comes_in taken idle chooses tokens answer may = λ names f s i x h at.
         let y = task_is names f s i net state h.free t x at in
         let same : own ≡ y.0 = some_same own y.0 (sym is ∙ y.1) in
         let marks = has_marks names f s i net state h.free.stands in
         let its_made : may_be_made y.0 (out-NetState state).vals first ≡ true =
-        ap (λ (u : Task). may_be_made u (out-NetState state).vals first) (sym same) ∙ sym (by (h.within.each_task t own is).element) ∙ may in
+        ap (λ (u : Task). may_be_made u (out-NetState state).vals first) (sym same) ∙ may in
         let enters : EntersFrom s i (record { number = t; task = y.0; within = net_with names net state }) (taken_places (out-NetState state).marks y.0.before taken) = record {
           may = entering_there names f s i net state first h t y.0
               ∙ and_from _ _ (and_from _ _ (ap not idle) (tokens y.0 y.1 s i marks)) its_made;
@@ -105,3 +106,21 @@ module _ (net : Net) (state : NetState) (t first : ℕ) where
           takes = (chooses y.0 y.1).joins s i marks;
         } in
         subst (λ (z : TaskAt). EntersFrom s i z (taken_places (out-NetState state).marks z.task.before taken)) y.2 enters
+
+-- ---- by nobody
+
+-- it is told of the task at this number
+pub manual_as : (net : Net) (t : ℕ) (own : Task) → slice_get net.tasks t ≡ Some own → (chosen : List Bool) (answer : Bool)
+    → is_manual own (is_chosen chosen t) ≡ answer → OfTask net t (λ task. is_manual task (is_chosen chosen t) ≡ answer)
+manual_as net t own is chosen answer e = λ task at. ap (λ (u : Task). is_manual u (is_chosen chosen t)) (some_same task own (sym at ∙ is)) ∙ e
+
+module _ (net : Net) (state : NetState) (first : ℕ) (chosen : List Bool) (t : ℕ) {E : Type 0} where
+  pub comes_by_itself : OfTask net t (λ task. is_manual task (is_chosen chosen t) ≡ false)
+      → (r : Result (Option Entering) E) → IfOk r (λ o. IfSome o (EntersWith net state t first)) → IfOk r (λ o. IfSome o (ComesIn net state first chosen t))
+  comes_by_itself kind (Ok None) enters = enters
+  comes_by_itself kind (Ok (Some x)) enters = record { kind = kind; entering = enters }
+  comes_by_itself kind (Err fault) enters = enters
+
+  pub stays_out : (r : Result (Option Entering) E) → IfOk r (λ o. o ≡ None → MayNotEnter net state t first) → IfOk r (λ o. o ≡ None → StaysOut net state first chosen t)
+  stays_out (Ok o) out = λ none. inr (out none)
+  stays_out (Err fault) out = out

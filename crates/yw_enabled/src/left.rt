@@ -123,7 +123,8 @@ pub fn may_be_left(
     told: Option<usize>,
 ) -> Result<Option<Outcome>, AllocError>
     requires { t < length net.now.tasks }
-    ensures { TellsRight told (shown.items_in state.now t) → IfOk result (LeavesAs net.now state.now t) }
+    ensures { TellsRight told (shown.items_in state.now t)
+        → IfOk result (LeavesAs net.now state.now t) }
 {
     let task = task_at(net, t);
     let nodes = items_in(state, t);

@@ -10,7 +10,7 @@ pub mod laws;
 mod left;
 
 pub use counts::done_counts;
-pub use entered::may_be_entered;
+pub use entered::{Entering, may_be_entered};
 pub use first::{first_entered, first_left};
 pub use items::{ItemStep, case_ends, is_at_output, item_step};
 pub use left::may_be_left;

@@ -1,17 +1,20 @@
 -- Events that are built are of neither a rule tree nor an exlet, and the other way round; and what comes of itself leads to one state.
 use Rattle.std.specs.Prelude.{MatchOption}
-use Rattle.std.proofs.Common.{◌≡◌, ◌↔◌, ◌∙◌, Bool, Err, IfOk, IsTrue, None, Ok, Option, Result, Some, ap, refl, subst, sym, true, ℕ}
+use Rattle.std.proofs.Common.{◌≡◌, ◌↔◌, ◌∙◌, Bool, Err, IfOk, IsTrue, None, Ok, Option, Result, Some, ap, false}
+use Rattle.std.proofs.Common.{refl, subst, sym, true, ℕ}
 use Rattle.yw_built.specs.Built.{is_built}
-use Rattle.yw_cases.specs.State.{MayStand, state_of}
-use Rattle.yw_cases.specs.Tried.{LeadsOn}
-use Rattle.yw_cases.specs.declared.standing.Standing.{Standing}
+use Rattle.yw_cases.specs.State.{MayStand}
+use Rattle.yw_cases.specs.Tried.{is_apart}
 use Rattle.yw_engine.specs.Decides.{IsComing, IsDone, IsNext}
 use Rattle.yw_engine.proofs.Parts.{held_by, next_of}
 use Rattle.yw_library.specs.Holdings.{Holdings}
+use Rattle.yw_standing.specs.State.{state_of}
+use Rattle.yw_standing.specs.Tried.{LeadsOn}
+use Rattle.yw_standing.specs.declared.standing.Standing.{Standing}
 use Rattle.yw_texts.specs.Texts.{reader}
 use Rattle.yw_plain.specs.Plain.{is_plain_event}
 use Rattle.yw_state.proofs.Tests.{never}
-use Rattle.yw_state.specs.Automatic.{Comes, IsQuiet}
+use Rattle.yw_state.specs.Automatic.{Comes, IsQuiet, is_automatic}
 use Rattle.yw_state.specs.Events.{Leads, after}
 use Rattle.yw_state.specs.State.{State}
 use Rattle.yw_state.specs.Texts.{EventText, TextSays, nothing}
@@ -68,6 +71,13 @@ comes_on h n e comes =
     let says = subst (λ (x : EventText). TextSays reader s x nothing) (sym (no_text_of s e comes.automatic)) refl in
     (after s e nothing, record { said = nothing; says = says; allowed = comes.allowed; then = refl })
 
+-- it is neither a load nor done by a number
+not_apart : (s : State) (e : Event) → IsTrue (is_automatic s e) → is_apart e ≡ false
+not_apart s (events.Load name text) automatic = never automatic
+not_apart s (events.Launch n spec vals) automatic = never automatic
+not_apart s (events.Add i t value n) automatic = never automatic
+not_apart s e automatic = refl
+
 -- and to no other state than the one after it
 pub comes_after : (s t : State) (n : ℕ) (e : Event) → Comes s n e → Leads reader s e t → t ≡ after s e nothing
 comes_after s t n e comes leads =
@@ -108,6 +118,10 @@ module _ (h : Standing) (may : MayStand h) (n : ℕ) where
   -- an event that is found leads on
   pub next_on : (found : Option Found) (w : Found) → found ≡ Some w → IsNext h n found → LeadsOn h w.event
   next_on found w is next = let it = subst (IsNext h n) is next in comes_on h n w.event it.comes
+
+  -- it is neither a load nor done by a number
+  pub next_apart : (found : Option Found) (w : Found) → found ≡ Some w → IsNext h n found → is_apart w.event ≡ false
+  next_apart found w is next = let it = subst (IsNext h n) is next in not_apart (state_of h) w.event it.comes.automatic
 
   -- this was computed of it
   pub next_computed : (found : Option Found) (w : Found) → found ≡ Some w → IsNext h n found → IsComputedOf (state_of h) w.event w.computed

@@ -1,5 +1,5 @@
 -- Where a command breaks no rule, the event that is made of it is the one that it asks for, and leads on.
-use Rattle.std.proofs.Common.{◌≡◌, ◌∙◌, List, Ok, Option, Some, None, ap, false, refl, subst, sym, true, ℕ}
+use Rattle.std.proofs.Common.{◌≡◌, ◌∙◌, List, Ok, Option, Some, None, ap, refl, subst, sym, true, ℕ}
 use Rattle.std.specs.Prelude.{option_and_then, option_map}
 use Rattle.yw_accepted.proofs.Loaded.{accepted_are_within}
 use Rattle.yw_asked.proofs.CasesAsked as cases
@@ -10,11 +10,13 @@ use Rattle.yw_base.specs.declared.value.Value.{Value}
 use Rattle.yw_breaks.specs.Events.{LaunchAsks}
 use Rattle.yw_breaks.specs.Finds.{BreaksNext}
 use Rattle.yw_built.specs.Built.{is_built}
-use Rattle.yw_cases.specs.State.{MayStand, state_of}
-use Rattle.yw_cases.specs.Tried.{LeadsOn}
-use Rattle.yw_cases.specs.declared.standing.Standing.{Standing}
+use Rattle.yw_cases.specs.State.{MayStand}
+use Rattle.yw_cases.specs.Tried.{IsNumbered, IsSpecNumbered, IsTaskNumbered}
 use Rattle.yw_engine.specs.Decides.{BreaksNow, Makes}
 use Rattle.yw_engine.proofs.Parts.{next_of}
+use Rattle.yw_standing.specs.State.{state_of}
+use Rattle.yw_standing.specs.Tried.{LeadsOn}
+use Rattle.yw_standing.specs.declared.standing.Standing.{Standing}
 use Rattle.yw_texts.specs.Texts.{reader}
 use Rattle.yw_spec.specs.declared.spec.Net.{Net}
 use Rattle.yw_state.proofs.Tests.{map_some, some_same}
@@ -33,7 +35,6 @@ use Rattle.yw_state.specs.declared.command.Given.{Given}
 use Rattle.yw_state.specs.declared.event.Event.{Event}
 use Rattle.yw_state.specs.declared.event.Event.TheVariants as events
 use Rattle.yw_state.specs.declared.rule.Refusal.{Refusal}
-use Rattle.yw_walk.specs.Computed.{is_computed}
 use Rattle.yw_within.proofs.Finding.{well_holds_within}
 use Rattle.yw_within.specs.Within.{HoldsWithin}
 
@@ -54,12 +55,13 @@ holds_within h may = well_holds_within reader (state_of h) accepted_are_within m
 -- ---- events that are made of something
 
 -- what is so of each of these is so of the one that is asked for
-pub of_kind : {A : Type 0} (g : A → Event) (m : Option ℕ) → ((x : A) → (is_built (g x) ≡ true) × (case_of (g x) ≡ m) × (is_computed (g x) ≡ false))
-    → (o : Option A) (e : Event) → Some e ≡ option_map g o
-    → (is_built e ≡ true) × (case_of e ≡ m) × (is_computed e ≡ false)
-of_kind g m kind o e is =
-    let x = map_some g o e (sym is) in
-    (ap is_built (sym x.2) ∙ (kind x.0).0, ap case_of (sym x.2) ∙ (kind x.0).1, ap is_computed (sym x.2) ∙ (kind x.0).2)
+pub of_kind : {A : Type 0} (g : A → Event) (P : Event → Type 0) → ((x : A) → P (g x)) → (o : Option A) (e : Event) → Some e ≡ option_map g o
+    → P e
+of_kind g P kind o e is = let x = map_some g o e (sym is) in subst P x.2 (kind x.0)
+
+-- it is built, and of this case
+abbrev pub IsBuiltOf : Option ℕ → Event → Type 0
+IsBuiltOf m e = (is_built e ≡ true) × (case_of e ≡ m)
 
 -- ---- a launch
 
@@ -78,17 +80,19 @@ module _ (h : Standing) (may : MayStand h) (name : List ℕ) (gs : List Given) w
         (as_asked h (commands.Launch name gs) e (cases.launch_has_event reader (state_of h) (holds_within h may) name gs makes.0)
         (λ d asked. some_same d e (asked ∙ sym makes.1))).1
 
-    launch_kind : (is_built e ≡ true) × (case_of e ≡ Some (state_of h).next) × (is_computed e ≡ false)
+    abbrev launch_of : Net → Event
+    launch_of net = events.Launch (state_of h).next name (launch_values net.vars gs)
+
+    launch_kind : IsBuiltOf (Some (state_of h).next) e
     unfolding IsAsked
-    launch_kind =
-        of_kind (λ (net : Net). events.Launch (state_of h).next name (launch_values net.vars gs)) (Some (state_of h).next)
-        (λ net. (refl, refl, refl)) (top_called (state_of h) name) e makes.1
+    launch_kind = of_kind launch_of (IsBuiltOf (Some (state_of h).next)) (λ net. (refl, refl)) (top_called (state_of h) name) e makes.1
 
     pub launch_built : is_built e ≡ true
     launch_built = launch_kind.0
 
-    pub launch_plain : is_computed e ≡ false
-    launch_plain = launch_kind.2
+    pub launch_numbered : (k : ℕ) → IsSpecNumbered h.known name k → IsNumbered h e k
+    unfolding IsAsked
+    launch_numbered k is = of_kind launch_of (λ (z : Event). IsNumbered h z k) (λ net. is) (top_called (state_of h) name) e makes.1
 
     pub launch_case : (next : ℕ) → next ≡ h.next → case_of e ≡ Some next
     launch_case next same_next = launch_kind.1 ∙ ap (λ n. Some n) (next_of h next same_next)
@@ -104,17 +108,22 @@ module _ (h : Standing) (may : MayStand h) (who : List ℕ) (i : Ident) (t : Lis
         (tasks.add_has_event reader (state_of h) may.held.well (holds_within h may) who i t value makes.0)
         (λ d asked. some_same d e (asked ∙ sym makes.1))).1
 
-    add_kind : (is_built e ≡ true) × (case_of e ≡ Some (case_number i)) × (is_computed e ≡ false)
+    abbrev add_of : Value → Event
+    add_of v = events.Add i t v (state_of h).next
+
+    abbrev element : Option Value
+    element = option_and_then (λ (x : TaskAt). element_value x.task value) (task_at (state_of h) i t)
+
+    add_kind : IsBuiltOf (Some (case_number i)) e
     unfolding IsAsked
-    add_kind =
-        of_kind (λ (v : Value). events.Add i t v (state_of h).next) (Some (case_number i)) (λ v. (refl, refl, refl))
-        (option_and_then (λ (x : TaskAt). element_value x.task value) (task_at (state_of h) i t)) e makes.1
+    add_kind = of_kind add_of (IsBuiltOf (Some (case_number i))) (λ v. (refl, refl)) element e makes.1
 
     pub add_built : is_built e ≡ true
     add_built = add_kind.0
 
-    pub add_plain : is_computed e ≡ false
-    add_plain = add_kind.2
+    pub add_numbered : (k : ℕ) → IsTaskNumbered (state_of h) i t k → IsNumbered h e k
+    unfolding IsAsked
+    add_numbered k is = of_kind add_of (λ (z : Event). IsNumbered h z k) (λ v. is) element e makes.1
 
     pub add_case : (n : ℕ) → n ≡ case_number i → case_of e ≡ Some n
     add_case n same = add_kind.1 ∙ ap (λ k. Some k) (sym same)

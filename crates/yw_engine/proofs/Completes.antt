@@ -8,14 +8,16 @@ use Rattle.yw_breaks.proofs.Whole as whole
 use Rattle.yw_breaks.specs.Events.{CompleteMakes}
 use Rattle.yw_breaks.specs.Tables.{complete_most, complete_rest}
 use Rattle.yw_built.specs.Built.{is_built}
-use Rattle.yw_cases.specs.State.{MayStand, state_of}
-use Rattle.yw_cases.specs.Tried.{LeadsOn}
-use Rattle.yw_cases.specs.declared.standing.Standing.{Standing}
-use Rattle.yw_engine.proofs.Commands.{as_asked, of_kind}
+use Rattle.yw_cases.specs.State.{MayStand}
+use Rattle.yw_cases.specs.Tried.{is_apart}
+use Rattle.yw_engine.proofs.Commands.{IsBuiltOf, as_asked, of_kind}
 use Rattle.yw_engine.specs.Decides.{Makes}
 use Rattle.yw_known.specs.Here.{IsItemHere, SaysItem, as_item_at, as_net_at}
 use Rattle.yw_library.specs.Names.{names_of}
 use Rattle.yw_known.specs.declared.here.ItemHere.{ItemHere}
+use Rattle.yw_standing.specs.State.{state_of}
+use Rattle.yw_standing.specs.Tried.{LeadsOn}
+use Rattle.yw_standing.specs.declared.standing.Standing.{Standing}
 use Rattle.yw_texts.specs.Texts.{reader}
 use Rattle.yw_state.proofs.Tests.{map_some, some_same}
 use Rattle.yw_state.specs.Automatic.{case_of}
@@ -111,15 +113,23 @@ module _ (h : Standing) (may : MayStand h) (who : List ℕ) (j : Ident) (gs : Li
         (as_asked h (commands.Complete who j gs) e (items.complete_has_event reader s may.held.well who j gs makes.0)
         (λ d asked. some_same d e (asked ∙ sym makes.1))).1
 
-    complete_kind : (is_built e ≡ true) × (case_of e ≡ Some (case_number j)) × (is_computed e ≡ false)
+    complete_kind : IsBuiltOf (Some (case_number j)) e
     unfolding IsAsked
-    complete_kind = of_kind (events.Complete j) (Some (case_number j)) (λ out. (refl, refl, refl)) (option_and_then made_by (item_at s j)) e makes.1
+    complete_kind =
+        of_kind (events.Complete j) (IsBuiltOf (Some (case_number j))) (λ out. (refl, refl)) (option_and_then made_by (item_at s j)) e makes.1
 
     pub complete_built : is_built e ≡ true
     complete_built = complete_kind.0
 
     pub complete_plain : is_computed e ≡ false
-    complete_plain = complete_kind.2
+    unfolding IsAsked
+    complete_plain =
+        of_kind (events.Complete j) (λ (z : Event). is_computed z ≡ false) (λ out. refl) (option_and_then made_by (item_at s j)) e makes.1
+
+    pub complete_apart : is_apart e ≡ false
+    unfolding IsAsked
+    complete_apart =
+        of_kind (events.Complete j) (λ (z : Event). is_apart z ≡ false) (λ out. refl) (option_and_then made_by (item_at s j)) e makes.1
 
     pub complete_case : (n : ℕ) → n ≡ case_number j → case_of e ≡ Some n
     complete_case n same = complete_kind.1 ∙ ap (λ k. Some k) (sym same)

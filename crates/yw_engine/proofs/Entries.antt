@@ -1,5 +1,5 @@
 -- The event by which an entry is done that breaks no rule: the command asks for it.
-use Rattle.std.proofs.Common.{◌≡◌, ◌∙◌, List, Option, Some, ap, refl, subst, sym, true, ℕ}
+use Rattle.std.proofs.Common.{◌≡◌, ◌∙◌, List, Option, Some, ap, false, refl, subst, sym, true, ℕ}
 use Rattle.std.proofs.lemmas.Bool.{and_from}
 use Rattle.std.specs.Prelude.{length, nat_le, ◌&&◌, ◌+◌}
 use Rattle.yw_asked.proofs.TasksAsked.{enter_is_asked}
@@ -8,14 +8,17 @@ use Rattle.yw_breaks.specs.Enter.{IsEnterable}
 use Rattle.yw_breaks.specs.Nets.{IsTaskNamed}
 use Rattle.yw_built.specs.Built.{is_built}
 use Rattle.yw_cases.proofs.EntryLaw.{entered_as}
-use Rattle.yw_cases.specs.State.{MayStand, state_of}
-use Rattle.yw_cases.specs.Tried.{LeadsOn}
-use Rattle.yw_cases.specs.declared.standing.Standing.{Standing}
+use Rattle.yw_cases.specs.State.{MayStand}
+use Rattle.yw_cases.specs.Tried.{is_apart}
 use Rattle.yw_enabled.proofs.EnterLaw.{comes_in}
 use Rattle.yw_enabled.specs.Entered.{MayEnter, may_be_made}
 use Rattle.yw_known.specs.Here.{IsNetHere}
 use Rattle.yw_known.specs.declared.here.NetHere.{NetHere}
 use Rattle.yw_mark.specs.declared.join.Taken.{Taken}
+use Rattle.yw_spec.specs.declared.task.Task.{Task}
+use Rattle.yw_standing.specs.State.{state_of}
+use Rattle.yw_standing.specs.Tried.{LeadsOn}
+use Rattle.yw_standing.specs.declared.standing.Standing.{Standing}
 use Rattle.yw_texts.specs.Texts.{reader}
 use Rattle.yw_state.specs.Allowed.{Allowed}
 use Rattle.yw_state.specs.Automatic.{case_of}
@@ -31,13 +34,15 @@ use Rattle.yw_state.specs.declared.event.Event.{Event}
 use Rattle.yw_state.specs.declared.event.Event.TheVariants as events
 use Rattle.yw_tree.specs.declared.NetState.{out-NetState}
 use Rattle.yw_walk.specs.Computed.{IsComputedOf}
-use Rattle.yw_walk.specs.Finds.{EntersAs, IsEntered, IsEntry}
+use Rattle.yw_task.proofs.EnterAsk.{of_task_at}
+use Rattle.yw_task.specs.Giving.{entry_rows}
+use Rattle.yw_walk.specs.Finds.{EntersAs, GivesRows, IsEntered, IsEntry}
 use Rattle.yw_walk.specs.declared.found.Found.{Found}
 
 -- ---- it enters the task
 
 module _ (h : Standing) (may : MayStand h) (i : Ident) (name : List ℕ) (w : NetHere) (here : IsNetHere h.known h.forest (state_of h) i w) (t : ℕ)
-    (is : IsTaskNamed w.net.now name t) (next : ℕ) (same : next ≡ h.next) (taken : Taken) (able : IsEnterable w t next taken) where
+    (is : IsTaskNamed w.net.now name t) (next : ℕ) (same : next ≡ h.next) (taken : Taken) (rows : List Row) (able : IsEnterable w t next taken rows) where
   may_enter_by : MayEnter w.net.now w.state.now t next taken
   may_enter_by =
       let chosen = able.chosen in
@@ -46,8 +51,10 @@ module _ (h : Standing) (may : MayStand h) (i : Ident) (name : List ℕ) (w : Ne
       let made : may_be_made able.task vals next ≡ true =
       ap (λ (o : Option (List Row)). is_some_and o (λ rows. within_bounds able.task.many (length rows) && nat_le (next + length rows) number_end)) fit.are
       ∙ and_from (within_bounds able.task.many (length fit.rows)) (nat_le (next + length fit.rows) number_end) fit.bounds fit.room in
-      comes_in w.net.now w.state.now t next able.task able.at taken chosen.idle chosen.chooses chosen.tokens (chosen.goes able.task able.at)
-      (may_be_made able.task vals next) (λ fed. refl) made
+      comes_in w.net.now w.state.now t next able.task able.at taken chosen.idle chosen.chooses chosen.tokens (chosen.goes able.task able.at) made
+
+  pub gives_rows : GivesRows w t rows
+  gives_rows = of_task_at w.net.now t (λ (u : Task). rows ≡ entry_rows u (out-NetState w.state.now).vals) able.task able.at able.gives
 
   pub entered : (found : Found) → IsEntry w i next t taken found → IsEntered (state_of h) i name found
   entered found entry =
@@ -79,6 +86,9 @@ module _ (h : Standing) (i : Ident) (t : List ℕ) (w : Found) (entered : IsEnte
 
   pub enter_built : is_built e ≡ true
   enter_built = ap is_built enters.is
+
+  pub enter_apart : is_apart e ≡ false
+  enter_apart = ap is_apart enters.is
 
   pub enter_case : (n : ℕ) → n ≡ case_number i → case_of e ≡ Some n
   enter_case n same = ap case_of enters.is ∙ ap (λ k. Some k) (sym same)

@@ -1,10 +1,10 @@
 -- A specification that is loaded.
 use Rattle.std.proofs.Common.{Bool, List, false, true, ℕ}
 use Rattle.yw_cases.specs.Said.{TellsLoaded}
-use Rattle.yw_cases.specs.State.{state_of}
-use Rattle.yw_cases.specs.declared.standing.Standing.{Standing}
 use Rattle.yw_engine.specs.Decides.{Answers, IsApplied, IsDecided, IsDone}
 use Rattle.yw_engine.specs.declared.fault.Decided.{Decided}
+use Rattle.yw_standing.specs.State.{state_of}
+use Rattle.yw_standing.specs.declared.standing.Standing.{Standing}
 use Rattle.yw_texts.proofs.Loading.{load_is_asked, load_unbroken}
 use Rattle.yw_state.specs.declared.command.Command.TheVariants as commands
 use Rattle.yw_state.specs.declared.event.Event.TheVariants as events

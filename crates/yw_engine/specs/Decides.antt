@@ -1,13 +1,18 @@
 -- What a command does to what is held. Our own.
-use Rattle.std.specs.Prelude.{◌≡◌, ℕ, Bool, List, Option, Some, None, false, true, MatchOption, Result, Ok, Err}
+use Rattle.std.specs.Prelude.{◌≡◌, ℕ, Bool, List, Option, Some, None, false, true, MatchOption, Result, Ok, Err, if◌then◌else◌}
 use Rattle.std.specs.List.{list_all}
+use Rattle.yw_base.specs.Identity.{case_number}
+use Rattle.yw_breaks.specs.Persons.{HasRoles}
 use Rattle.yw_built.specs.Built.{is_built}
-use Rattle.yw_cases.specs.State.{MayStand, state_of}
-use Rattle.yw_cases.specs.Tried.{LeadsNowhere}
-use Rattle.yw_cases.specs.declared.standing.Standing.{Standing}
+use Rattle.yw_cases.specs.State.{MayStand}
+use Rattle.yw_cases.specs.Tried.{IsNumbered}
+use Rattle.yw_engine.specs.declared.begin.Numbered.{Numbered}
 use Rattle.yw_engine.specs.declared.fault.Decided.{Decided}
 use Rattle.yw_engine.specs.declared.fault.EngineFault.{EngineFault}
 use Rattle.yw_engine.specs.declared.fault.EngineFault.TheVariants as faults
+use Rattle.yw_standing.specs.State.{state_of}
+use Rattle.yw_standing.specs.Tried.{LeadsNowhere}
+use Rattle.yw_standing.specs.declared.standing.Standing.{Standing}
 use Rattle.yw_texts.specs.Texts.{reader}
 use Rattle.yw_state.specs.Automatic.{Comes, IsQuiet}
 use Rattle.yw_state.specs.Broken.{Breaks, placeless}
@@ -72,6 +77,27 @@ Answers old e d new = (c : Command) → Breaks reader (state_of old) c None → 
 
 -- ---- a command of a case
 
+-- whether the case is quiet
+abbrev pub TellsRest : Standing → ℕ → Bool → Type 0
+TellsRest h n true = IsQuiet (state_of h) n
+TellsRest h n false = SomethingComes (state_of h) n
+
+-- so it is told, if anybody has the person's name
+abbrev pub TellsRestFor : Standing → List ℕ → ℕ → Bool → Type 0
+TellsRestFor h who n quiet = (roles : List (List ℕ)) → HasRoles h.known who roles → TellsRest h n quiet
+
+-- so it is of the case of each command that wants it to be quiet
+abbrev pub TellsRestOf : Standing → Command → Bool → Type 0
+TellsRestOf h (commands.Enter who i t) quiet = TellsRestFor h who (case_number i) quiet
+TellsRestOf h (commands.Start who j) quiet = TellsRestFor h who (case_number j) quiet
+TellsRestOf h (commands.Complete who j gs) quiet = TellsRestFor h who (case_number j) quiet
+TellsRestOf h (commands.Add who i t value) quiet = TellsRestFor h who (case_number i) quiet
+TellsRestOf h c quiet = Unit {0}
+
+-- NotQuiet, where the case isn't
+abbrev pub quiet_rule : Bool → Option Refusal
+quiet_rule quiet = if quiet then None else Some (placeless NotQuiet)
+
 -- what the check finds that the case is quiet: NotQuiet where something comes of itself there, else nothing
 abbrev pub BreaksQuiet : Standing → ℕ → Option Refusal → Type 0
 BreaksQuiet h n (Some refusal) = SomethingComes (state_of h) n × (refusal ≡ placeless NotQuiet)
@@ -94,3 +120,9 @@ Makes h c (Err faults.Spent) = ⊥
 abbrev pub MakesEntry : Standing → List ℕ → Ident → List ℕ → Result Found EngineFault → Type 0
 MakesEntry h who i name (Ok found) = BreaksNow h (commands.Enter who i name) None × IsEntered (state_of h) i name found
 MakesEntry h who i name (Err fault) = Makes h (commands.Enter who i name) (Err fault)
+
+-- In what is held a launch, an addition breaks no rule, and this is the event that it asks for, with its number; or it is refused, or no memory was
+-- left.
+abbrev pub MakesNumbered : Standing → Command → Result Numbered EngineFault → Type 0
+MakesNumbered h c (Ok x) = Makes h c (Ok x.event) × IsNumbered h x.event x.number
+MakesNumbered h c (Err fault) = Makes h c (Err fault)

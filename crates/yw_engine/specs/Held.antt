@@ -1,7 +1,7 @@
 -- What an engine holds, and the state that it stands for. Our own.
 use Rattle.std.specs.Prelude.{Bool}
-use Rattle.yw_cases.specs.State as cases
-use Rattle.yw_cases.specs.declared.standing.Standing.{Standing}
+use Rattle.yw_standing.specs.State as kept
+use Rattle.yw_standing.specs.declared.standing.Standing.{Standing}
 use Rattle.yw_state.specs.State.{State}
 
 -- Persons, specifications, the cases that stand, how cases ended, and the number that is drawn next; and whether memory ran out.
@@ -10,4 +10,4 @@ pub record Held : Type 0 where
   pub spent : Bool
 
 abbrev pub state_of : Held → State
-state_of h = cases.state_of h.standing
+state_of h = kept.state_of h.standing

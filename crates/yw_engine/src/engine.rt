@@ -2,11 +2,12 @@
 ghost use Rattle.std.specs.Prelude.{◌≡◌, true, false, IfOk, MatchOption, OnOk, Some};
 ghost use Rattle.std.specs.List.{list_all};
 ghost use Rattle.yw_engine.specs.Answers.{IfRefused, TellsSpent};
-ghost use Rattle.yw_cases.specs.State as cases;
 ghost use Rattle.yw_cases.specs.State.{MayStand, standing_of};
 ghost use Rattle.yw_engine.specs.Held.{state_of};
 ghost use Rattle.yw_library.specs.Held.{IsHeld};
 ghost use Rattle.yw_built.specs.Asked.{CanBeAsked};
+ghost use Rattle.yw_plain.specs.Plain.{IsPlain};
+ghost use Rattle.yw_standing.specs.State as kept;
 ghost use Rattle.yw_texts.specs.Texts.{reader};
 ghost use Rattle.yw_state.specs.Automatic.{Comes, IsQuiet};
 ghost use Rattle.yw_state.specs.Broken.{Breaks, placeless};
@@ -63,7 +64,7 @@ impl Engine {
     /// An engine of these parts, whose state is well, plain and without a worklet. An `Err` says that no memory was left.
     pub fn new(alloc: Global, parts: Parts) -> Result<Engine, AllocError>
         requires { MayStand (standing_of parts) }
-        ensures state { IfOk result (λ engine. state_of engine ≡ cases.state_of (standing_of parts)) }
+        ensures state { IfOk result (λ engine. state_of engine ≡ kept.state_of (standing_of parts)) }
         ensures fresh { IfOk result (λ engine. engine.spent ≡ false) }
     {
         let standing = Cases::of(alloc, parts)?;
@@ -149,6 +150,13 @@ impl Engine {
     pub fn is_held(&self)
         ensures { self.now.spent ≡ false
             → IsHeld self.now.standing.known self.now.standing.forest (state_of self.now) }
+    {
+        let _ = &self.spent;
+    }
+
+    /// Unless the engine is spent, its state is plain: no tree has a rule, and no run, no suspension and no check stands. A law: nothing is done.
+    pub fn is_plain(&self)
+        ensures { self.now.spent ≡ false → IsPlain (state_of self.now) }
     {
         let _ = &self.spent;
     }

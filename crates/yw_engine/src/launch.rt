@@ -1,43 +1,46 @@
 // A case is launched.
-ghost use Rattle.yw_breaks.specs.Launch.{SaysSpec};
 ghost use Rattle.yw_cases.specs.State.{MayStand};
-ghost use Rattle.yw_engine.specs.Decides.{Decides, Makes};
+ghost use Rattle.yw_engine.specs.Decides.{Decides, MakesNumbered};
+ghost use Rattle.yw_library.specs.Holdings.{IsKept};
 ghost use Rattle.yw_state.specs.declared.command.Command.TheVariants as commands;
 
-use crate::begin::begin;
+use crate::begin::{Numbered, begin_numbered};
 use crate::front::placeless;
 use crate::work::Work;
 use crate::{Decided, EngineFault};
 use yw_base::Name;
-use yw_breaks::{launch_event, launch_front, launch_rest};
-use yw_spec::Spec;
-use yw_state::{Event, GivenList};
+use yw_breaks::{SpecAsked, launch_event, launch_front, launch_rest};
+use yw_state::GivenList;
 
-/// The event of a launch of this specification, which has this name, where it breaks no rule; else the first that it breaks.
+/// The event of a launch of this specification, which has this name, with its number, where the launch breaks no rule; else the first that it breaks.
 fn launch_here(
     work: &Work,
-    found: &Spec,
+    asked: &SpecAsked<'_>,
     name: &Name,
     given: &GivenList,
-) -> Result<Event, EngineFault>
+) -> Result<Numbered, EngineFault>
     requires stands { MayStand work.now.standing }
-    requires says { SaysSpec work.now.standing.known name.now found.now }
-    ensures { Makes work.now.standing (commands.Launch name.now given.now) result }
+    requires kept { IsKept work.now.standing.known name.now asked.now.spec.now asked.now.number }
+    ensures { MakesNumbered work.now.standing (commands.Launch name.now given.now) result }
 {
-    let next = work.standing.next();
+    let (found, next) = (asked.spec, work.standing.next());
     if let Some(refusal) = launch_rest(work.alloc, found, next, given)? {
         return Err(EngineFault::Refused(refusal));
     }
-    Ok(launch_event(work.alloc, found, next, name, given)?)
+    let event = launch_event(work.alloc, found, next, name, given)?;
+    Ok(Numbered {
+        event,
+        number: asked.number,
+    })
 }
 
-/// The event of a launch, where it breaks no rule; else the first that it breaks.
-fn launch_made(work: &Work, spec: &Name, given: &GivenList) -> Result<Event, EngineFault>
+/// The event of a launch, with the number of its specification, where it breaks no rule; else the first that it breaks.
+fn launch_made(work: &Work, spec: &Name, given: &GivenList) -> Result<Numbered, EngineFault>
     requires { MayStand work.now.standing }
-    ensures { Makes work.now.standing (commands.Launch spec.now given.now) result }
+    ensures { MakesNumbered work.now.standing (commands.Launch spec.now given.now) result }
 {
     match launch_front(work.standing.known(), spec) {
-        Ok(found) => launch_here(work, found, spec, given),
+        Ok(asked) => launch_here(work, &asked, spec, given),
         Err(rule) => Err(EngineFault::Refused(placeless(work.alloc, rule))),
     }
 }
@@ -52,6 +55,6 @@ pub fn decide_launch(
     ensures { Decides work.old.standing (commands.Launch spec.now given.now) result work.new.standing }
 {
     let next = work.standing.next();
-    let event = launch_made(work, spec, given)?;
-    Ok(begin(work, event, Some(next))?)
+    let asked = launch_made(work, spec, given)?;
+    Ok(begin_numbered(work, asked, Some(next))?)
 }

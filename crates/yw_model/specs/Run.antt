@@ -13,13 +13,11 @@ use Rattle.yw_model.specs.Told.{IsTold}
 use Rattle.serde_json.specs.Data.{Data}
 use Rattle.yw_state.specs.Broken.{Breaks, QueryBreaks, placeless}
 use Rattle.yw_state.specs.declared.rule.Rule.{Rule}
-use Rattle.yw_state.specs.declared.rule.Rule.TheVariants.{NotBuilt}
 use Rattle.yw_state.specs.declared.rule.Refusal.{Refusal}
 use Rattle.yw_state.specs.declared.command.Asked.{Asked}
 use Rattle.yw_state.specs.declared.command.Asked.TheVariants as asked
 use Rattle.yw_state.specs.declared.command.Command.{Command}
 use Rattle.yw_state.specs.declared.command.Query.{Query}
-use Rattle.yw_state.specs.declared.command.Query.TheVariants as queries
 use Rattle.yw_state.specs.declared.event.Event.{Event}
 use Rattle.yw_lines.specs.declared.word.Word.{Word}
 use Rattle.yw_lines.specs.declared.word.Word.TheVariants as words
@@ -28,7 +26,7 @@ use Rattle.yw_lines.specs.declared.word.Word.TheVariants as words
 abbrev pub built_words : List Word
 built_words =
     words.Person ∷ words.Load ∷ words.Launch ∷ words.Enter ∷ words.Start ∷ words.Complete ∷ words.Add ∷ words.Cancel ∷ words.Advance
-    ∷ words.Show ∷ words.Ended ∷ words.Specs ∷ []
+    ∷ words.List ∷ words.Show ∷ words.Ended ∷ words.Specs ∷ []
 
 -- What one accepted command does: its events in order, and whether all is quiet after them.
 pub record Entry : Type 0 where
@@ -74,15 +72,8 @@ abbrev pub FoundTells : Option Refusal → Query → State → ℕ → Step → 
 FoundTells (Some refusal) q = Refuses refusal
 FoundTells None q = Tells q
 
-abbrev FindsAndTells : Query → State → ℕ → Step → State → Type 0
-FindsAndTells q s n step t = (found : Option Refusal) × QueryBreaks s q found × FoundTells found q s n step t
-
--- `list` isn't built
 abbrev pub QueryAnswers : Query → State → ℕ → Step → State → Type 0
-QueryAnswers (queries.List who) = Refuses (placeless NotBuilt)
-QueryAnswers (queries.Show j) = FindsAndTells (queries.Show j)
-QueryAnswers (queries.Ended j) = FindsAndTells (queries.Ended j)
-QueryAnswers queries.Specs = FindsAndTells queries.Specs
+QueryAnswers q s n step t = (found : Option Refusal) × QueryBreaks s q found × FoundTells found q s n step t
 
 abbrev pub MeaningAnswers : Result Asked Rule → State → ℕ → Step → State → Type 0
 MeaningAnswers (Err r) = Refuses (placeless r)

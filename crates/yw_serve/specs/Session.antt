@@ -105,7 +105,7 @@ Why g c Write journal work old new =
 
 -- the state that a server has
 abbrev pub server_state : Server → State
-server_state server = held.state_of server.engine
+server_state server = held.state_of server.office
 
 -- The line with number n is answered.
 pub record EndsLine {D : Type 0} (g : Ghosts D)

@@ -16,6 +16,7 @@ use std::alloc::{AllocError, Global};
 use thiserror::Error;
 use yw_engine::Engine;
 use yw_journal::{AppendFault, Journal};
+use yw_office::Office;
 use yw_outside::{Desk, Failed, File};
 
 /// Why a server isn't started.
@@ -143,7 +144,8 @@ fn resume<D: Desk>(
         limit,
         number: u64_in(&head.bytes, 13) + tail.records,
     };
-    Ok(Server::new(alloc, engine, journal))
+    let office = Office::of(alloc, engine)?;
+    Ok(Server::new(alloc, office, journal))
 }
 
 /// Makes file A, where no file is live.
@@ -164,8 +166,8 @@ fn begin<D: Desk>(alloc: Global, limit: u64, desk: &mut D) -> Result<Server, Sta
 {
     match Journal::make(desk, File::A, 1, 0, &[0; 9], limit) {
         Ok(journal) => {
-            let engine = Engine::opening(alloc);
-            Ok(Server::new(alloc, engine, journal))
+            let office = Office::opening(alloc);
+            Ok(Server::new(alloc, office, journal))
         }
         Err(AppendFault::Disk) => Err(StartFault::Disk),
         Err(AppendFault::Full(_)) => unreachable!(),
@@ -180,8 +182,8 @@ impl Server {
     /// a call failed or no memory was left; not one byte is changed then. `Disk` comes only where a call of the files failed,
     /// and `Memory` where no memory was left. Up to the syncs a crash leaves what it might have left before. After them it
     /// leaves the files as they are; or, where no file is live, none that is, or file A begun with generation 1, number 0 and
-    /// no record. The memory that it takes is that of what the files hold and of the longest entry. The entries
-    /// are read through the piece, so that one read serves as many as it has room for; what it had is lost.
+    /// no record. The memory that it takes is that of what the files hold, of the work lists and of the longest entry. The
+    /// entries are read through the piece, so that one read serves as many as it has room for; what it had is lost.
     pub fn start<D: Desk>(
         alloc: Global,
         limit: u64,

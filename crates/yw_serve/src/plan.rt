@@ -12,13 +12,14 @@ use crate::queries::plan_query;
 use std::alloc::{AllocError, Global};
 use yw_base::{Bytes, Text};
 use yw_codec::write_entry_into;
-use yw_engine::{Decided, Engine, EngineFault};
+use yw_engine::{Decided, EngineFault};
 use yw_lines::Word;
+use yw_office::Office;
 use yw_state::{Asked, Command, Refusal, Rule};
 use yw_wire::{WireFault, read_command, reply_done, reply_refused};
 
 /// The words whose commands and queries are built.
-const BUILT: [Word; 12] = [
+const BUILT: [Word; 13] = [
     Word::Person,
     Word::Load,
     Word::Launch,
@@ -28,6 +29,7 @@ const BUILT: [Word; 12] = [
     Word::Add,
     Word::Cancel,
     Word::Advance,
+    Word::List,
     Word::Show,
     Word::Ended,
     Word::Specs,
@@ -69,19 +71,19 @@ fn accept(alloc: Global, buffer: &mut Vec<u8>, n: u64, decided: Decided) -> Resu
     Ok(Plan::Accept(decided, reply))
 }
 
-/// What is to be done for a command. The engine is then that after it.
+/// What is to be done for a command. The office is then that after it.
 fn plan_command(
     alloc: Global,
-    engine: &mut Engine,
+    office: &mut Office,
     buffer: &mut Vec<u8>,
     n: u64,
     command: Command,
 ) -> Result<Plan, AllocError>
     requires { CanBeAsked command }
     ensures { IfOk result (λ plan.
-        IsPlanFor (state_of engine.old) n command plan buffer.new.items (state_of engine.new)) }
+        IsPlanFor (state_of office.old) n command plan buffer.new.items (state_of office.new)) }
 {
-    match engine.decide(command) {
+    match office.decide(command) {
         Ok(decided) => accept(alloc, buffer, n, decided),
         Err(EngineFault::Refused(refusal)) => refuse(alloc, n, &refusal),
         Err(EngineFault::Memory) => Err(AllocError),
@@ -99,23 +101,23 @@ fn plan_fault(alloc: Global, n: u64, fault: WireFault) -> Result<Plan, AllocErro
     }
 }
 
-/// What is to be done for a line. The engine is then that after it, and where an entry is to be appended, the buffer has it. A query changes
+/// What is to be done for a line. The office is then that after it, and where an entry is to be appended, the buffer has it. A query changes
 /// neither.
 /// An `Err` says that no memory was left.
 pub fn plan_line(
     alloc: Global,
-    engine: &mut Engine,
+    office: &mut Office,
     buffer: &mut Vec<u8>,
     n: u64,
     line: &[u8],
 ) -> Result<Plan, AllocError>
     ensures plan { IfOk result (λ plan.
-        IsPlan (state_of engine.old) n line.now plan buffer.new.items (state_of engine.new)) }
+        IsPlan (state_of office.old) n line.now plan buffer.new.items (state_of office.new)) }
     ensures framed { IfOk result (CanBeAppended buffer.new.items) }
 {
     match read_command(alloc, line, &BUILT) {
-        Ok(Asked::Command(command)) => plan_command(alloc, engine, buffer, n, command),
-        Ok(Asked::Query(query)) => plan_query(alloc, engine, n, &query),
+        Ok(Asked::Command(command)) => plan_command(alloc, office, buffer, n, command),
+        Ok(Asked::Query(query)) => plan_query(alloc, office, n, &query),
         Err(fault) => plan_fault(alloc, n, fault),
     }
 }

@@ -9,11 +9,12 @@ ghost use Rattle.yw_state.specs.declared.command.Query.TheVariants as queries;
 
 use crate::plan::{Plan, refuse_by};
 use std::alloc::{AllocError, Global};
-use yw_base::{Ident, Text};
+use yw_base::{Ident, Name, Text};
 use yw_engine::Engine;
 use yw_known::is_case;
+use yw_office::Office;
 use yw_state::{Query, Rule, Way};
-use yw_wire::{reply_names, reply_shown, reply_text};
+use yw_wire::{reply_names, reply_rows, reply_shown, reply_text};
 use yw_worklist::{show, spec_names};
 
 /// All that stands in a case is told; `UnknownCase` comes where no case has this identity.
@@ -75,16 +76,27 @@ fn plan_specs(alloc: Global, engine: &Engine, n: u64) -> Result<Plan, AllocError
     Ok(Plan::Say(reply_names(alloc, n, &names)?))
 }
 
+/// What a person may do is told; `UnknownPerson` comes where nobody has this name.
+fn plan_list(alloc: Global, office: &Office, n: u64, who: &Name) -> Result<Plan, AllocError>
+    ensures { IfOk result (IsPlanToTell (state_of office.now) n (queries.List who.now)) }
+{
+    match office.rows(who)? {
+        Some(rows) => Ok(Plan::Say(reply_rows(alloc, n, &rows)?)),
+        None => refuse_by(alloc, n, Rule::UnknownPerson),
+    }
+}
+
 /// What is to be said to a query: its answer, or the first rule that it breaks. Nothing changes. An `Err` says that no memory was left, now or
 /// once before.
-pub fn plan_query(alloc: Global, engine: &Engine, n: u64, query: &Query) -> Result<Plan, AllocError>
-    ensures { IfOk result (IsPlanToTell (state_of engine.now) n query.now) }
+pub fn plan_query(alloc: Global, office: &Office, n: u64, query: &Query) -> Result<Plan, AllocError>
+    ensures { IfOk result (IsPlanToTell (state_of office.now) n query.now) }
 {
-    if engine.is_spent() {
+    if office.is_spent() {
         return Err(AllocError);
     }
+    let engine = office.engine();
     match query {
-        Query::List { .. } => refuse_by(alloc, n, Rule::NotBuilt),
+        Query::List { who } => plan_list(alloc, office, n, who),
         Query::Show { case } => plan_show(alloc, engine, n, case),
         Query::Ended { case } => plan_ended(alloc, engine, n, case),
         Query::Specs => plan_specs(alloc, engine, n),

@@ -12,8 +12,8 @@ ghost use Rattle.yw_serve.specs.Session.{AreDone, CutsLine, EndsLine, OfSteps, W
 
 use crate::plan::{Plan, plan_line};
 use std::alloc::{AllocError, Global};
-use yw_engine::Engine;
 use yw_journal::{AppendFault, Journal};
+use yw_office::Office;
 use yw_outside::{Desk, Failed};
 
 /// Why lines aren't answered any further.
@@ -46,8 +46,8 @@ impl From<AllocError> for Stop {
 #[derive(Drop)]
 pub struct Server {
     pub(crate) alloc: Global,
-    /// Decides what commands do.
-    pub(crate) engine: Engine,
+    /// Decides what commands do, and tells persons' work.
+    pub(crate) office: Office,
     /// Where entries are appended.
     pub(crate) journal: Journal,
     /// The last entry as it was appended; its room serves the next.
@@ -115,13 +115,13 @@ fn carry_out<D: Desk>(
 
 impl Server {
     /// A server of these parts. It takes no memory.
-    pub(crate) fn new(alloc: Global, engine: Engine, journal: Journal) -> Server
-        ensures state { server_state result ≡ held.state_of engine }
+    pub(crate) fn new(alloc: Global, office: Office, journal: Journal) -> Server
+        ensures state { server_state result ≡ held.state_of office }
         ensures journal { result.journal ≡ journal }
     {
         Server {
             alloc,
-            engine,
+            office,
             journal,
             entry: Vec::new(alloc),
         }
@@ -146,7 +146,7 @@ impl Server {
         ensures grows { Grows result self.old.journal self.new.journal }
         ensures faults { CallFaults D.Desk result desk.old desk.new }
     {
-        let plan = plan_line(self.alloc, &mut self.engine, &mut self.entry, n, line)?;
+        let plan = plan_line(self.alloc, &mut self.office, &mut self.entry, n, line)?;
         carry_out(&mut self.journal, &plan, self.entry.as_slice(), desk)?;
         Ok(plan)
     }

@@ -3,7 +3,7 @@
 use std::alloc::{AllocError, Global};
 use std::process::Abort;
 use yw_outside::{Desk, Fill, Image, MemDesk, MemSource, NeverDesk, NeverSource, Source};
-use yw_serve::{Server, Status, serve};
+use yw_serve::{Server, Status, Summary, bench, serve};
 
 /// A run of `run`: file A at its start, how many persons that holds, the lines, their replies, how many calls the opening makes of the
 /// desk, and how many the whole run.
@@ -451,5 +451,62 @@ fn serves_what_never_fails(rt: HostRuntime) -> Result<(), AllocError> {
     let mut desk = NeverDesk::new(rt.alloc());
     assert_eq!(rt; run_on(rt.alloc(), &mut source, &mut desk)?, Status::Ok);
     assert_eq!(rt; desk.short(), 0);
+    Ok(())
+}
+
+/// What a bench of so many cases, from 1 on, comes to, and what it leaves on an empty desk; `None` where it fails.
+fn benched(alloc: Global, count: u64) -> Result<Option<(Summary, Image)>, AllocError> {
+    let mut desk = MemDesk::new(alloc, Vec::new(alloc), Vec::new(alloc), Vec::new(alloc));
+    let Ok(summary) = bench(alloc, &mut desk, 1, count.min(100)) else {
+        return Ok(None);
+    };
+    Ok(Some((summary, desk.image(desk.calls(), Fill::New)?)))
+}
+
+/// The cases have the amounts 838, 758, 113 and 515. Each line is answered, and a further run finds how the last case ended.
+#[test]
+fn a_bench_is_counted_and_held(rt: HostRuntime) -> Result<(), AllocError> {
+    let alloc = rt.alloc();
+    let Some((summary, image)) = benched(alloc, 4)? else {
+        assert!(rt; false);
+        return Ok(());
+    };
+    let wanted = Summary {
+        accepted: 18,
+        ended: 4,
+        events: 38,
+        high: 3,
+        refused: 0,
+    };
+    assert!(rt; summary == wanted);
+    let said = image.said.as_slice();
+    assert_eq!(rt; said.iter().filter(|byte| **byte == b'\n').count(), 18);
+    let asked = b"{\"cmd\":\"ended\",\"case\":\"10\"}".as_slice();
+    let mut source = source_of(alloc, asked, 10, 0)?;
+    let files = (image.a.as_slice(), image.b.as_slice());
+    let told = left_by(&rt, files, 0, &mut source, Status::Ok)?;
+    assert_eq!(rt;
+        told.said.as_slice(),
+        b"{\"answer\":\"finished\",\"n\":1,\"ok\":true}\n".as_slice()
+    );
+    Ok(())
+}
+
+/// The words of a bench make one call of the desk that is given, which says the summary.
+#[test]
+fn serves_a_bench(rt: HostRuntime) -> Result<(), AllocError> {
+    let alloc = rt.alloc();
+    let mut words = vec![in alloc; String::from_str(alloc, "bench")?]?;
+    words.push(String::from_str(alloc, "1")?)?;
+    words.push(String::from_str(alloc, "0")?)?;
+    let mut desk = desk_over(alloc, &[], &[], 0)?;
+    let mut source = source_of(alloc, NEW_LINE, 10, 0)?;
+    assert_eq!(rt; serve(alloc, &words, &mut source, &mut desk), Status::Ok);
+    assert_eq!(rt; desk.calls(), 1);
+    let image = desk.image(desk.calls(), Fill::New)?;
+    assert_eq!(rt;
+        image.said.as_slice(),
+        b"{\"accepted\":2,\"ended\":0,\"events\":2,\"high\":0,\"refused\":0}\n".as_slice()
+    );
     Ok(())
 }

@@ -33,7 +33,8 @@ pub fn come_at(
     requires come { MayComeAt forest.old net.now at.now t first }
     requires rows { AreEntryRowsAt forest.old net.now at.now t rows.items }
     requires some { 1 ≤ first }
-    ensures { OnOk result (Enters net.now at.now t taken first due forest.old forest.new (length rows.items)) }
+    ensures { OnOk result
+        (Enters net.now at.now t taken first due forest.old forest.new (length rows.items)) }
 {
     match forest.net_mut(at) {
         Some(state) => come(alloc, net, state, at, t, taken, first, rows, due),

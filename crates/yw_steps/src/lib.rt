@@ -12,7 +12,7 @@ mod starting;
 mod together;
 
 pub use adding::come_more_at;
-pub use completing::{are_defined, ask_complete, finish_at};
+pub use completing::{are_defined, ask_mapping, finish_at};
 pub use entering::come_at;
 pub use exiting::exit;
 pub use starting::begin;

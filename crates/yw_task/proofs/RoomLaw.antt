@@ -1,5 +1,6 @@
 -- A net that gets lists without items: what a map shows of it stays.
-use Rattle.std.proofs.Common.{List, Some, [], ap, arith, length, length-append, map, refl, set, subst, suc, sym, zero, ℕ, ◌++◌, ◌+◌, ◌-◌, ◌<◌, ◌∙◌, ◌∷◌, ◌≡◌, ◌≤◌}
+use Rattle.std.proofs.Common.{List, Some, [], ap, arith, length, length-append, map, refl, set, subst, suc, sym}
+use Rattle.std.proofs.Common.{zero, ℕ, ◌++◌, ◌+◌, ◌-◌, ◌<◌, ◌∙◌, ◌∷◌, ◌≡◌, ◌≤◌}
 use Rattle.std.proofs.lemmas.List.{length-map}
 use Rattle.std.specs.FinMap.Entries.{find}
 use Rattle.std.specs.Prelude.{Vec, slice_get, unwrap_or}
@@ -107,7 +108,8 @@ module _ (t : ℕ) (old new : NetState) (g : GetsList t old new) where
   pub has_list : HasTask t new
   has_list =
       let made = g.lists.made in
-      let many : length now ≡ length made = sym (length-map now (λ (v : Vec Node Global). v.items)) ∙ ap length g.lists.same ∙ length-map made (λ (v : Vec Node Global). v.items) in
+      let its : Vec Node Global → List Node = λ v. v.items in
+      let many : length now ≡ length made = sym (length-map now its) ∙ ap length g.lists.same ∙ length-map made its in
       subst (λ n. t < n) (sym many) (is_made t was made h)
 
   pub roomy_rows : (k : ℕ) → row_of new k ≡ row_of old k

@@ -50,9 +50,12 @@ abbrev pub or_else : Option Refusal → Option Rule → Option Refusal
 or_else later None = later
 or_else later (Some rule) = Some (placeless rule)
 
+-- where the item itself breaks nothing
+abbrev pub undefined_fault : Net → Task → Row → Row → Row → Option Refusal
+undefined_fault net t vals so_far out = mapping_fault net (first_undefined t.set (made_of t so_far out ++ vals))
+
 abbrev pub completion_fault : Net → Task → Row → Row → Node → List ℕ → Row → Option Refusal
-completion_fault net t vals so_far n who out =
-    or_else (mapping_fault net (first_undefined t.set (made_of t so_far out ++ vals))) (complete_fault n who)
+completion_fault net t vals so_far n who out = or_else (undefined_fault net t vals so_far out) (complete_fault n who)
 
 -- ---- that it is the first of the table
 

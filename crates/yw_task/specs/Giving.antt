@@ -1,6 +1,7 @@
 -- What items of a task are given as they come, and what is found first that keeps them from coming.
-use Rattle.std.specs.Prelude.{ℕ, ◌+◌, Bool, List, [], Option, Some, None, codes, find, is_none, length, map, nat_lt, not, option_map, unwrap_or, if◌then◌else◌}
+use Rattle.std.specs.Prelude.{ℕ, ◌+◌, ◌≡◌, Bool, List, [], Option, Some, None, Vec, codes, find, is_none, length, map, nat_lt, not, option_map, unwrap_or, if◌then◌else◌}
 use Rattle.std.specs.Option.{option_or}
+use Rattle.std.specs.declared.alloc.Global.{Global}
 use Rattle.yw_base.specs.Identity.{number_end}
 use Rattle.yw_base.specs.declared.value.Value.{Value}
 use Rattle.yw_base.specs.declared.value.Value.TheVariants as values
@@ -9,8 +10,8 @@ use Rattle.yw_expr.specs.Tree.{Tree}
 use Rattle.yw_spec.specs.declared.task.Param.{Param}
 use Rattle.yw_spec.specs.declared.task.Task.{Task}
 use Rattle.yw_state.specs.Broken.{placed, placeless}
-use Rattle.yw_state.specs.Options.{is_some_and}
-use Rattle.yw_state.specs.Passing.{elements_for, entry_values, within_bounds}
+use Rattle.yw_state.specs.Options.{all_of, is_some_and}
+use Rattle.yw_state.specs.Passing.{elements_for, entry_values, given_values, within_bounds}
 use Rattle.yw_state.specs.Values.{Row}
 use Rattle.yw_state.specs.declared.rule.Refusal.{Refusal}
 use Rattle.yw_state.specs.declared.rule.Rule.{Rule}
@@ -42,6 +43,15 @@ value_or row element (Some e) = val e row
 -- what a parameter is given for an element
 abbrev pub given_value : Row → Option Value → Param → Option Value
 given_value row element p = value_or row element p.value
+
+-- what items are given for these elements
+abbrev pub rows_for : Task → Row → List (Option Value) → Option (List Row)
+rows_for t row es = all_of (map (given_values t row) es)
+
+-- these rows are what items are given; or it is undefined
+abbrev pub AreRows : Option (List Row) → Option (Vec Row Global) → Type 0
+AreRows given None = given ≡ None
+AreRows given (Some rows) = given ≡ Some rows.items
 
 -- what each item is given that an entry makes
 abbrev pub entry_rows : Task → Row → List Row

@@ -6,7 +6,7 @@ ghost use Rattle.yw_state.specs.Broken.{placeless};
 ghost use Rattle.yw_state.specs.declared.part.Stage.TheVariants.{Completed};
 ghost use Rattle.yw_state.specs.declared.tree.TreeKind.TheVariants.{Post};
 ghost use Rattle.yw_task.specs.Completes.{AnswersFirst, CompleteBreaks, Completes, completion_fault};
-ghost use Rattle.yw_task.specs.Completes.{first_undefined, made_of, mapping_fault, name_of};
+ghost use Rattle.yw_task.specs.Completes.{first_undefined, made_of, mapping_fault, name_of, undefined_fault};
 ghost use Rattle.yw_tree.specs.declared.Node.{out-Node};
 
 use crate::ask::{complete_fault, task_at};
@@ -78,8 +78,31 @@ pub fn placeless(alloc: Global, rule: Rule) -> Refusal
     }
 }
 
+/// `Mapping` where an assignment of the task would be undefined, at the variable of the first such one: over what the task's items made together, which
+/// is `so_far` where it runs over a list and else `out`, and behind it the net's values, `vals`. An `Err` says that no memory was left.
+pub fn undefined_fault(
+    alloc: Global,
+    net: &Net,
+    task: &Task,
+    vals: &Row,
+    so_far: &Row,
+    out: &Row,
+) -> Result<Option<Refusal>, AllocError>
+    ensures { IfOk result (λ found.
+        found ≡ undefined_fault net.now task.now vals.now so_far.now out.now) }
+{
+    if task.set.is_empty() {
+        return Ok(None);
+    }
+    let row = Joined {
+        first: made_of(task, so_far, out).as_slice(),
+        then: vals.as_slice(),
+    };
+    mapping_fault(alloc, net, first_undefined(task.set.as_slice(), &row))
+}
+
 /// The first rule that a completion breaks.
-pub fn completion_fault(
+fn completion_fault(
     alloc: Global,
     net: &Net,
     task: &Task,
@@ -89,19 +112,13 @@ pub fn completion_fault(
     who: &Name,
     out: &Row,
 ) -> Result<Option<Refusal>, AllocError>
-    ensures { IfOk result (λ found. found ≡ completion_fault net.now task.now vals.now so_far.now node.now who.now out.now) }
+    ensures { IfOk result (λ found. found
+        ≡ completion_fault net.now task.now vals.now so_far.now node.now who.now out.now) }
 {
-    if let Some(rule) = complete_fault(node, who) {
-        return Ok(Some(placeless(alloc, rule)));
+    match complete_fault(node, who) {
+        Some(rule) => Ok(Some(placeless(alloc, rule))),
+        None => undefined_fault(alloc, net, task, vals, so_far, out),
     }
-    if task.set.is_empty() {
-        return Ok(None);
-    }
-    let row = Joined {
-        first: made_of(task, so_far, out).as_slice(),
-        then: vals.as_slice(),
-    };
-    mapping_fault(alloc, net, first_undefined(task.set.as_slice(), &row))
 }
 
 /// With the check after the item due too, if this says so.

@@ -78,7 +78,8 @@ pub fn come(
     requires boxed { IsBoxedNet state.old }
     requires room { length at.now < most_numbers }
     requires some { 1 ≤ first }
-    ensures { OnOk result (Enters net.now state.old at.now t taken first due state.new (length rows.items)) }
+    ensures { OnOk result
+        (Enters net.now state.old at.now t taken first due state.new (length rows.items)) }
 {
     take_tokens(net, state, t, taken);
     add_items(alloc, state, at, t, first, rows, due)?;

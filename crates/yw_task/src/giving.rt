@@ -1,12 +1,12 @@
 // What items of a task are given as they come.
-ghost use Rattle.std.specs.Prelude.{◌≡◌, ◌+◌, ◌^◌, ◌<◌, ◌≤◌, [], ◌∷◌, None, IfOk, find, is_none, is_some, length, map, option_map, slice_get, true, unwrap_or};
+ghost use Rattle.std.specs.Prelude.{◌≡◌, ◌+◌, ◌^◌, ◌<◌, ◌≤◌, [], ◌∷◌, None, Some, IfOk, find, is_none, is_some, length, map, option_map, slice_get, true};
 ghost use Rattle.std.specs.Option.{option_copied};
 ghost use Rattle.yw_base.specs.Identity.{number_end};
 ghost use Rattle.yw_base.specs.Values.{value_of};
-ghost use Rattle.yw_state.specs.Options.{all_of};
-ghost use Rattle.yw_state.specs.Passing.{elements_for, given_values, within_bounds};
+ghost use Rattle.yw_state.specs.Passing.{elements_for, entry_values, given_values, within_bounds};
 ghost use Rattle.yw_task.specs.Completes.{AnswersFirst};
-ghost use Rattle.yw_task.specs.Giving.{count_rule, elements, entry_fault, entry_rows, given_value, lacks_value, undefined_entry, undefined_param};
+ghost use Rattle.yw_task.specs.Giving.{AreRows, count_rule, elements, entry_fault, entry_rows, given_value, lacks_value, rows_for};
+ghost use Rattle.yw_task.specs.Giving.{undefined_entry, undefined_param};
 
 use crate::done::placeless;
 use crate::fault::StepFault;
@@ -43,8 +43,8 @@ pub fn undefined_param(alloc: Global, task: &Task, vals: &Row) -> Result<Option<
     }
 }
 
-/// The task runs over a list, which is undefined.
-fn lacks_list(task: &Task, vals: &Row) -> bool
+/// The task runs over a list, which is undefined. It takes no memory.
+pub fn lacks_list(task: &Task, vals: &Row) -> bool
     ensures { result ≡ is_none (elements_for task.now.many vals.now) }
 {
     match &task.many {
@@ -93,7 +93,7 @@ pub fn given_row(
 }
 
 /// How many elements a list has; none where it is no list.
-pub fn element_count(list: Val<'_>) -> usize
+fn element_count(list: Val<'_>) -> usize
     ensures { result ≡ length (elements (value_of list.entry)) }
 {
     match list {
@@ -114,41 +114,58 @@ fn element_at(list: Val<'_>, k: usize) -> Option<Val<'_>>
     }
 }
 
-/// What the item for each element of a list is given; no item where one lacks a value.
-fn rows_over(alloc: Global, task: &Task, vals: &Row, list: Val<'_>) -> Result<Vec<Row>, AllocError>
-    ensures { IfOk result (λ rows. rows.items ≡ unwrap_or (all_of (map (given_values task.now vals.now) (map Some (elements (value_of list.entry))))) []) }
+/// What the item for each element of a list is given; `None` where one lacks a value.
+fn rows_over(
+    alloc: Global,
+    task: &Task,
+    vals: &Row,
+    list: Val<'_>,
+) -> Result<Option<Vec<Row>>, AllocError>
+    ensures { IfOk result
+        (AreRows (rows_for task.now vals.now (map Some (elements (value_of list.entry))))) }
 {
     let mut rows = Vec::new(alloc);
     for k in 0..element_count(list) {
         match given_row(alloc, task, vals, element_at(list, k))? {
             Some(row) => rows.push(row)?,
-            None => return Ok(Vec::new(alloc)),
+            None => return Ok(None),
         }
     }
-    Ok(rows)
+    Ok(Some(rows))
 }
 
-/// What the one item of a task without a list is given.
-fn one_row(alloc: Global, task: &Task, vals: &Row) -> Result<Vec<Row>, AllocError>
-    ensures { IfOk result (λ rows. rows.items ≡ unwrap_or (all_of (given_values task.now vals.now None ∷ [])) []) }
+/// What the one item of a task without a list is given; `None` where it lacks a value.
+fn one_row(alloc: Global, task: &Task, vals: &Row) -> Result<Option<Vec<Row>>, AllocError>
+    ensures { IfOk result (AreRows (rows_for task.now vals.now (None ∷ []))) }
 {
+    let Some(row) = given_row(alloc, task, vals, None)? else {
+        return Ok(None);
+    };
     let mut rows = Vec::new(alloc);
-    if let Some(row) = given_row(alloc, task, vals, None)? {
-        rows.push(row)?;
-    }
-    Ok(rows)
+    rows.push(row)?;
+    Ok(Some(rows))
 }
 
-/// What each item is given that an entry makes: a row for each element of the list over which the task runs, or one where it runs over none. There
-/// are none where the list, or what a parameter is given, is undefined. An `Err` says that no memory was left.
-pub fn entry_rows(alloc: Global, task: &Task, vals: &Row) -> Result<Vec<Row>, AllocError>
-    ensures { IfOk result (λ rows. rows.items ≡ entry_rows task.now vals.now) }
+/// What each item is given that an entry makes: a row for each element of the list over which the task runs, or one where it runs over none. `None`
+/// where the list, or what an item is given, is undefined. An `Err` says that no memory was left.
+pub fn entry_values(alloc: Global, task: &Task, vals: &Row) -> Result<Option<Vec<Row>>, AllocError>
+    ensures { IfOk result (AreRows (entry_values task.now vals.now)) }
 {
     let Some(many) = &task.many else {
         return one_row(alloc, task, vals);
     };
     match view(&many.each, vals) {
         Some(list) => rows_over(alloc, task, vals, list),
+        None => Ok(None),
+    }
+}
+
+/// The same, and no row where something is undefined.
+fn entry_rows(alloc: Global, task: &Task, vals: &Row) -> Result<Vec<Row>, AllocError>
+    ensures { IfOk result (λ rows. rows.items ≡ entry_rows task.now vals.now) }
+{
+    match entry_values(alloc, task, vals)? {
+        Some(rows) => Ok(rows),
         None => Ok(Vec::new(alloc)),
     }
 }

@@ -20,11 +20,11 @@ mod waits;
 
 pub use adding::{add, come_more};
 pub use ask::{ask_complete, ask_enter, ask_start, task_at};
-pub use done::{complete, completion_fault, finish};
+pub use done::{complete, finish, undefined_fault};
 pub use entering::{come, enter};
 pub use exits::{Outcome, exit, exit_outcome};
 pub use fault::StepFault;
-pub use giving::{count_rule, element_count, entry_rows, first_lacking};
+pub use giving::{count_rule, entry_values, first_lacking, lacks_list};
 pub use item::{begin, start};
 pub use made::{int_in, is_text, items_in, made_by, text_in};
 pub use region::empty_region;

@@ -24,7 +24,7 @@ use Rattle.yw_tree.specs.Cases.{case_at}
 use Rattle.yw_tree.specs.Entries.{case_entries}
 use Rattle.yw_tree.specs.declared.Case.{Case}
 use Rattle.yw_tree.specs.declared.Forest.{Forest}
-use Rattle.yw_walk.specs.Finds.{FindsAmong, FindsAt, FindsFinish, FindsItemOrTasks, FindsNext, FindsStep, FindsTasks, IsAtEnd, IsFound, NoneEntered, NoneLeft, StandsFor}
+use Rattle.yw_walk.specs.Finds.{FindsAmong, FindsAt, FindsFinish, FindsItemOrTasks, FindsNext, FindsStep, FindsTasks, IsAtEnd, IsFound, IsFreeAt, NoneEntered, NoneLeft, StandsFor}
 use Rattle.yw_walk.specs.declared.found.Found.{Found}
 
 pub still_there : (s : State) → IsPlain s → (j : Ident) → case_ends s j ≡ false → item_goes_on s j ≡ false → NoneLeft s j → NoneEntered s j
@@ -41,20 +41,27 @@ still_there s plain j case item left entered =
       entered = entered;
     }
 
+-- in a plain state nothing holds work
+free_there : (known : Holdings) (f : Forest) (next : ℕ) (j : Ident) (s : State) → StandsFor known f next s → IsFreeAt known f next j s
+free_there known f next j s w =
+    let p = words s w.plain in
+    record { held = w.held; free = p.clear j; manual = p.manual; drawn = w.drawn }
+
 module _ (known : Holdings) (f : Forest) (j : Ident) (next : ℕ) (ends : Bool) where
   -- where the item doesn't go on, by the tasks
   pub below_there : IsAtEnd known f j ends → FindsStep known f j ends None → (o : Option Found) → FindsTasks known f j next o
       → FindsItemOrTasks known f j next o
-  below_there out step None tasks = λ s w. let t = tasks s w in (step s w.held w.plain (out s w.held), t.0, t.1)
+  below_there out step None tasks = λ s w. let t = tasks s w in (step s w.held w.free (out s w.held), t.0, t.1)
   below_there out step (Some e) tasks = λ s w. tasks s w
 
   -- and where the case isn't at its end, by what is below
   pub at_there : IsAtEnd known f j ends → FindsFinish j ends None → (o : Option Found) → FindsItemOrTasks known f j next o
       → FindsAt known f j next o
   at_there out finish None below = λ s w.
-      let b = below s w in
-      still_there s w.plain j (finish s w.plain (out s w.held)) b.0 b.1 b.2
-  at_there out finish (Some e) below = λ s w. below s w
+      let b = below s (free_there known f next j s w) in
+      let p = words s w.plain in
+      still_there s w.plain j (finish s (p.clear j) (p.busy j) (out s w.held)) b.0 b.1 b.2
+  at_there out finish (Some e) below = λ s w. below s (free_there known f next j s w)
 
 -- ---- a case
 

@@ -1,15 +1,17 @@
 -- A task that may be entered by no person is entered by the event that is made of it.
-use Rattle.std.proofs.Common.{List, None, Option, Some, [], ap, arith, false, length, map, refl, subst, suc, sym, true, ⊎_elim, ℕ, ◌+◌, ◌∙◌, ◌∷◌, ◌≡◌, ◌≤◌}
+use Rattle.std.proofs.Common.{Bool, List, None, Option, Some, [], ap, arith, false, length, map, refl, subst, suc, sym, true, ⊎_elim, ℕ, ◌+◌, ◌∙◌, ◌∷◌, ◌≡◌, ◌≤◌}
 use Rattle.std.proofs.lemmas.Bool.{and_parts, leb-true}
 use Rattle.std.proofs.lemmas.Option.{slice_get_within}
+use Rattle.std.proofs.Math.Bool.{and-true}
 use Rattle.std.specs.Prelude.{Vec, nat_le, not, option_map, slice_get, unwrap_or, ◌&&◌}
 use Rattle.std.specs.declared.alloc.Global.{Global}
 use Rattle.yw_base.specs.Identity.{number_end, case_number}
 use Rattle.yw_base.specs.declared.value.Value.{Value}
 use Rattle.yw_enabled.proofs.Coming.{enter_may}
 use Rattle.yw_enabled.proofs.FreeItems.{task_is}
-use Rattle.yw_enabled.specs.Entered.{EntersFirst, EntersFrom}
+use Rattle.yw_enabled.specs.Entered.{EntersFirst, EntersFrom, is_chosen, is_manual as is_manual_by}
 use Rattle.yw_enabled.specs.Free.{MayDraw}
+use Rattle.yw_enabled.specs.declared.entered.Entering.{Entering}
 use Rattle.yw_known.specs.declared.here.NetHere.{NetHere}
 use Rattle.yw_mark.specs.Taking.{OfTask, taken_places}
 use Rattle.yw_mark.specs.declared.join.Taken.{Taken}
@@ -40,7 +42,7 @@ use Rattle.yw_tree.specs.declared.Forest.{Forest}
 use Rattle.yw_tree.specs.declared.NetState.{NetState, out-NetState}
 use Rattle.yw_walk.proofs.Leaving.{task_there}
 use Rattle.yw_walk.proofs.Numbered.{are_numbered}
-use Rattle.yw_walk.specs.Finds.{ComesPlainly, EntersAs, FindsEntered, IsEntered, IsEntry, most_items}
+use Rattle.yw_walk.specs.Finds.{AtomicIsManual, ComesPlainly, EntersAs, FindsEntered, IsEntered, IsEntry, TellsChosen, most_items}
 use Rattle.yw_walk.specs.Places.{places_numbered}
 use Rattle.yw_walk.specs.declared.found.Computed.TheVariants as computed
 use Rattle.yw_walk.specs.declared.found.Found.{Found}
@@ -64,8 +66,8 @@ rows_long t vals rows e =
     ap (option_map (λ (os : List (Option Value)). length os)) es.1 ∙ ap (λ k. Some k) (sym (as_long (given_values t vals) es.0 rows es.2))
 
 -- no more than the task may have
-most_of : (o : Option Many) (vals : Row) (n : ℕ) → option_map (λ (es : List (Option Value)). length es) (elements_for o vals) ≡ Some n → within_bounds o n ≡ true
-    → n ≤ unwrap_or (option_map (λ (m : Many). m.max) o) 1
+most_of : (o : Option Many) (vals : Row) (n : ℕ) → option_map (λ (es : List (Option Value)). length es) (elements_for o vals) ≡ Some n
+    → within_bounds o n ≡ true → n ≤ unwrap_or (option_map (λ (m : Many). m.max) o) 1
 most_of None vals n long within =
     let one : 1 ≡ n = some_same 1 n long in
     let few : n ≤ 1 = omega (arith, one) in
@@ -156,22 +158,27 @@ comes_plainly s holds i t x is kind e enters =
       plain = λ no. ap is_plain_event enters.is;
     }
 
-pub finds_entered : (h : NetHere) (i : Ident) (next t : ℕ) (taken : Taken) (e : Found)
-    → EntersFirst h.net.now h.state.now next (Some (t, taken)) → IsEntry h i next t taken e → FindsEntered h i next (Some e)
-finds_entered h i next t taken e first entry = λ names f s draw holds manual.
-    let (task, at) = element_at h.net.now.tasks t first.below in
-    let x : TaskAt = record { number = t; task = task; within = net_with names h.net.now h.state.now } in
-    let is = task_there names f s i h.net.now h.state.now draw.free.stands t task at in
-    let it = entry names f s x draw holds is (first.comes.enters names f s i x draw is) in
-    record { comes = comes_plainly s holds i t x is (manual x ∙ first.comes.kind task at) e.event it.enters; computed = it.computed }
+-- where persons enter the atomic tasks and no others, no tree chooses worklets, and nothing need be told
+pub none_chosen : (s : State) (i : Ident) → AtomicIsManual s → TellsChosen s i []
+none_chosen s i manual k x is = manual x ∙ sym (and-true (is_atomic x.task))
 
-pub finds_none_entered : (h : NetHere) (i : Ident) (next : ℕ) → EntersFirst h.net.now h.state.now next None → FindsEntered h i next None
-finds_none_entered h i next none = λ names f s draw holds manual k x is may.
+pub finds_entered : (h : NetHere) (i : Ident) (next : ℕ) (chosen : List Bool) (t : ℕ) (x : Entering) (e : Found)
+    → EntersFirst h.net.now h.state.now next chosen (Some (t, x)) → IsEntry h i next t x.taken e → FindsEntered h i next chosen (Some e)
+finds_entered h i next chosen t x e first entry = λ names f s draw holds tells.
+    let (task, at) = element_at h.net.now.tasks t first.below in
+    let y : TaskAt = record { number = t; task = task; within = net_with names h.net.now h.state.now } in
+    let is = task_there names f s i h.net.now h.state.now draw.free.stands t task at in
+    let it = entry names f s y draw holds is (first.comes.entering.enters names f s i y draw is) in
+    record { comes = comes_plainly s holds i t y is (tells t y is ∙ first.comes.kind task at) e.event it.enters; computed = it.computed }
+
+pub finds_none_entered : (h : NetHere) (i : Ident) (next : ℕ) (chosen : List Bool) → EntersFirst h.net.now h.state.now next chosen None
+    → FindsEntered h i next chosen None
+finds_none_entered h i next chosen none = λ names f s draw holds tells k x is may.
     let y = task_is names f s i h.net.now h.state.now draw.free k x is in
     let parts = and_parts (not (is_manual s x)) (can_be_entered s i x) may in
     ⊎_elim
-    (λ (atomic : OfTask h.net.now k (λ task. is_atomic task ≡ true)).
-    let kind : is_manual s x ≡ true = manual x ∙ ap (λ (z : TaskAt). is_atomic z.task) (sym y.2) ∙ atomic y.0 y.1 in
+    (λ (persons : OfTask h.net.now k (λ task. is_manual_by task (is_chosen chosen k) ≡ true)).
+    let kind : is_manual s x ≡ true = tells k x is ∙ ap (λ (z : TaskAt). is_manual_by z.task (is_chosen chosen k)) (sym y.2) ∙ persons y.0 y.1 in
     never (ap not (sym kind) ∙ parts.0))
     (λ out. out names f s i x draw is parts.1)
     (none k (slice_get_within h.net.now.tasks k y.0 y.1))

@@ -67,20 +67,22 @@ module _ (net : Net) (state : NetState) (i : Ident) where
       (subst (λ ps. Comes s (case_number i) (events.Exit i r.of_task.task.name ps)) (sym named) r.comes) in
       let y : TaskAt = record { number = t; task = task; within = net_with names net state } in
       let its : x ≡ y = some_same x y (sym is ∙ task_there names f s i net state free.stands t task at) in
-      let values : exit_values s i y ≡ kept_values task (rows_made (items_in state t)) (out-NetState state).vals = values_are names f s i net state free t task in
+      let values : exit_values s i y ≡ kept_values task (rows_made (items_in state t)) (out-NetState state).vals =
+      values_are names f s i net state free t task in
       let event : exit_as s i x ≡ events.Exit i task.name
       (places_numbered net (split_places task (kept_values task (rows_made (items_in state t)) (out-NetState state).vals))) =
       ap (exit_as s i) its ∙ ap (λ (vals : Row). events.Exit i task.name (places_numbered net (split_places task vals))) values in
       record { comes = subst (Comes s (case_number i)) event comes; plain = λ no. refl }
 
   -- and this was computed of it
-  computed_of : (t : ℕ) (task : Task) → slice_get net.tasks t ≡ Some task → (out : Outcome) → IsOutcomeAt net t state out → (names : ℕ → List ℕ) (f : Forest) (s : State)
-      → StandsFree names f s i net state → HoldsWithin s → ExitLeaves s i task.name t out
+  computed_of : (t : ℕ) (task : Task) → slice_get net.tasks t ≡ Some task → (out : Outcome) → IsOutcomeAt net t state out
+      → (names : ℕ → List ℕ) (f : Forest) (s : State) → StandsFree names f s i net state → HoldsWithin s → ExitLeaves s i task.name t out
   computed_of t task at out is names f s free holds =
       let y : TaskAt = record { number = t; task = task; within = net_with names net state } in
       let there : task_numbered s i t ≡ Some y = task_there names f s i net state free.stands t task at in
       let its = is task at in
-      let values : exit_values s i y ≡ kept_values task (rows_made (items_in state t)) (out-NetState state).vals = values_are names f s i net state free t task in
+      let values : exit_values s i y ≡ kept_values task (rows_made (items_in state t)) (out-NetState state).vals =
+      values_are names f s i net state free t task in
       record {
         of_task = y;
         named = task_found s holds i y (numbered_of s i t y there);

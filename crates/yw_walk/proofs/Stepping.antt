@@ -1,4 +1,4 @@
--- What comes of itself of a case and of an item, in a plain state.
+-- What comes of itself of a case and of an item, where nothing holds work.
 use Rattle.std.proofs.Common.{Bool, None, Option, Some, [], ap, false, refl, subst, sym, true, ℕ, ◌∙◌, ◌∷◌, ◌≡◌}
 use Rattle.std.proofs.lemmas.Bool.{and_from, and_parts}
 use Rattle.std.proofs.Math.Bool.{and-false}
@@ -11,8 +11,7 @@ use Rattle.yw_known.specs.Here.{IsItemHere, as_item_at}
 use Rattle.yw_library.specs.Names.{names_of}
 use Rattle.yw_known.specs.declared.here.ItemHere.{ItemHere}
 use Rattle.yw_library.specs.Holdings.{Holdings}
-use Rattle.yw_plain.proofs.Words.{words}
-use Rattle.yw_plain.specs.Plain.{IsPlain, is_plain_event}
+use Rattle.yw_plain.specs.Plain.{is_plain_event}
 use Rattle.yw_spec.specs.declared.spec.Net.{Net}
 use Rattle.yw_spec.specs.declared.task.Kind.{Kind}
 use Rattle.yw_spec.specs.declared.task.Kind.TheVariants as kinds
@@ -28,7 +27,7 @@ use Rattle.yw_state.specs.State.{ItemAt, ItemPart, NetAt, NetPart, State, TaskAt
 use Rattle.yw_state.specs.Texts.{nothing}
 use Rattle.yw_state.specs.Well.{NetsStand, has_worklet, is_composite, wants_net}
 use Rattle.yw_state.specs.Options.{is_some_and}
-use Rattle.yw_state.specs.Words.{clear, is_executing}
+use Rattle.yw_state.specs.Words.{busy, clear, is_executing}
 use Rattle.yw_state.specs.declared.event.Event.TheVariants as events
 use Rattle.yw_still.specs.Still.{item_begins, item_ends, item_goes_on}
 use Rattle.yw_tree.specs.declared.Forest.{Forest}
@@ -40,18 +39,19 @@ use Rattle.yw_plain.specs.Worklets.{HasNoWorklet}
 
 -- ---- a case
 
-module _ (s : State) (plain : IsPlain s) where
-  pub finishes : (n : ℕ) → at_output s (case_ident n) ≡ true → ComesPlainly s n (events.Finish n)
+module _ (s : State) where
+  pub finishes : (n : ℕ) → clear s (case_ident n) ≡ true → busy s (case_ident n) ≡ false → at_output s (case_ident n) ≡ true
+      → ComesPlainly s n (events.Finish n)
   unfolding allows
-  finishes n ends =
-      let w = words s plain in
-      let allowed : Allowed s (events.Finish n) nothing =
-      (and_from _ _ (and_from _ _ (w.clear (case_ident n)) (ap not (w.busy (case_ident n)))) ends, tt) in
+  finishes n free idle ends =
+      let allowed : Allowed s (events.Finish n) nothing = (and_from _ _ (and_from _ _ free (ap not idle)) ends, tt) in
       record { comes = record { here = refl; automatic = refl; allowed = allowed }; plain = λ no. refl }
 
-  pub finishes_at : (j : Ident) (n : ℕ) → j ≡ n ∷ [] → at_output s j ≡ true → ComesPlainly s (case_number j) (events.Finish n)
-  finishes_at j n one ends =
-      subst (λ z. ComesPlainly s (case_number z) (events.Finish n)) (sym one) (finishes n (ap (at_output s) (sym one) ∙ ends))
+  pub finishes_at : (j : Ident) (n : ℕ) → j ≡ n ∷ [] → clear s j ≡ true → busy s j ≡ false → at_output s j ≡ true
+      → ComesPlainly s (case_number j) (events.Finish n)
+  finishes_at j n one free idle ends =
+      subst (λ z. ComesPlainly s (case_number z) (events.Finish n)) (sym one)
+      (finishes n (ap (clear s) (sym one) ∙ free) (ap (busy s) (sym one) ∙ idle) (ap (at_output s) (sym one) ∙ ends))
 
 -- ---- an item
 
@@ -121,7 +121,7 @@ pub stays_without : (s : State) (j : Ident) → is_item s j ≡ false → item_g
 stays_without s j none =
     ap (λ o. clear s j && is_some_and o (λ (x : ItemAt). item_begins s j x || item_ends s j x)) (no_item s j none) ∙ and-false (clear s j)
 
-module _ (known : Holdings) (f : Forest) (s : State) (held : IsHeld known f s) (plain : IsPlain s) (j : Ident) (here : ItemHere)
+module _ (known : Holdings) (f : Forest) (s : State) (held : IsHeld known f s) (j : Ident) (calm : clear s j ≡ true) (here : ItemHere)
     (is : IsItemHere known f s j here) (ends : Bool) (out : at_output s j ≡ ends) where
   its : (o : Option ItemStep) → StepsAs here.item.now here.task.now ends o → ItemGoes s j o
   its o steps =
@@ -130,7 +130,7 @@ module _ (known : Holdings) (f : Forest) (s : State) (held : IsHeld known f s) (
         item = as_item_at known here;
         known = ap (item_at s) is.identity ∙ is.at;
         of_task = refl;
-        free = (words s plain).clear (out-Node here.item.now).id;
+        free = ap (clear s) is.identity ∙ calm;
         at_end = ap (at_output s) is.identity ∙ out;
       } in
       subst (λ z. ItemGoes s z o) is.identity (steps (names_of known) f s free)

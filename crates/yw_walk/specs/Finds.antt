@@ -2,7 +2,7 @@
 use Rattle.std.specs.List.{All, Contains}
 use Rattle.std.specs.Prelude.{◌≡◌, ◌↔◌, ℕ, Bool, IsTrue, List, MatchOption, None, Option, Some, option_map, true, false, unwrap_or}
 use Rattle.yw_base.specs.Gates.{is_or}
-use Rattle.yw_enabled.specs.Entered.{EntersFrom}
+use Rattle.yw_enabled.specs.Entered.{EntersFrom, is_chosen, is_manual as is_manual_by}
 use Rattle.yw_enabled.specs.Free.{MayDraw, StandsFree}
 use Rattle.yw_enabled.specs.Left.{TellsNet}
 use Rattle.yw_library.specs.Held.{IsHeld}
@@ -10,7 +10,7 @@ use Rattle.yw_known.specs.Here.{IsItemHere, IsNetHere}
 use Rattle.yw_known.specs.declared.here.ItemHere.{ItemHere}
 use Rattle.yw_known.specs.declared.here.NetHere.{NetHere}
 use Rattle.yw_library.specs.Holdings.{Holdings}
-use Rattle.yw_mark.specs.Taking.{taken_places}
+use Rattle.yw_mark.specs.Taking.{OfTask, taken_places}
 use Rattle.yw_mark.specs.declared.join.Taken.{Taken}
 use Rattle.yw_path.specs.Upstream.{IsUpstreamOf}
 use Rattle.yw_plain.specs.Plain.{IsPlain, is_plain_event}
@@ -27,8 +27,11 @@ use Rattle.yw_spec.specs.declared.task.Many.{Many}
 use Rattle.yw_spec.specs.declared.task.Task.{Task}
 use Rattle.yw_state.specs.Nets.{is_atomic}
 use Rattle.yw_state.specs.State.{State, TaskAt, is_item, net_part}
+use Rattle.yw_state.specs.Values.{Row}
 use Rattle.yw_state.specs.declared.event.Event.{Event}
+use Rattle.yw_state.specs.Words.{busy, clear}
 use Rattle.yw_still.specs.Still.{CaseIsStill, IsStill, case_ends, is_entering, is_leaving, item_goes_on, task_numbered}
+use Rattle.yw_task.specs.Giving.{entry_rows}
 use Rattle.yw_task.specs.Leaving.{IsOutcomeAt}
 use Rattle.yw_task.specs.declared.exits.Outcome.{Outcome}
 use Rattle.yw_tree.specs.declared.Forest.{Forest}
@@ -68,6 +71,10 @@ NoneEntered s i = (k : ℕ) (x : TaskAt) → task_numbered s i k ≡ Some x → 
 abbrev pub AtomicIsManual : State → Type 0
 AtomicIsManual s = (x : TaskAt) → is_manual s x ≡ is_atomic x.task
 
+-- what is told of the tasks of the net at i is right: for which of them trees choose worklets
+abbrev pub TellsChosen : State → Ident → List Bool → Type 0
+TellsChosen s i chosen = (k : ℕ) (x : TaskAt) → task_numbered s i k ≡ Some x → is_manual s x ≡ is_manual_by x.task (is_chosen chosen k)
+
 -- so many items an entry of the task may make
 abbrev pub most_items : Task → ℕ
 most_items t = unwrap_or (option_map (λ (m : Many). m.max) t.many) 1
@@ -91,6 +98,10 @@ pub record IsEntered (s : State) (i : Ident) (name : List ℕ) (found : Found) :
   pub enters : EntersAs s i name found.event
   pub computed : IsComputedOf s found.event found.computed
 
+-- each item of an entry of the task with this number is given one of these rows
+abbrev pub GivesRows : NetHere → ℕ → List Row → Type 0
+GivesRows h t rows = OfTask h.net.now t (λ task. rows ≡ entry_rows task (out-NetState h.state.now).vals)
+
 -- where the number is drawn next too, and the task may be entered by this choice of its join, this event enters it
 abbrev pub IsEntry : NetHere → Ident → ℕ → ℕ → Taken → Found → Type 0
 IsEntry h i next t taken found =
@@ -104,10 +115,10 @@ FindsLeft h i found =
     (names : ℕ → List ℕ) (f : Forest) (s : State) → StandsFree names f s i h.net.now h.state.now → HoldsWithin s
     → MatchOption found (NoneLeft s i) (IsFound s (case_number i))
 
--- where the number is drawn next too, a task is entered by this event, or none may be
-abbrev pub FindsEntered : NetHere → Ident → ℕ → Option Found → Type 0
-FindsEntered h i next found =
-    (names : ℕ → List ℕ) (f : Forest) (s : State) → MayDraw names f s i h.net.now h.state.now next → HoldsWithin s → AtomicIsManual s
+-- where the number is drawn next too, and what is told of the tasks is right, a task is entered by this event, or none may be
+abbrev pub FindsEntered : NetHere → Ident → ℕ → List Bool → Option Found → Type 0
+FindsEntered h i next chosen found =
+    (names : ℕ → List ℕ) (f : Forest) (s : State) → MayDraw names f s i h.net.now h.state.now next → HoldsWithin s → TellsChosen s i chosen
     → MatchOption found (NoneEntered s i) (IsFound s (case_number i))
 
 -- what is told of the net at i in the forest is right: how many items of each task are done
@@ -122,6 +133,13 @@ pub record StandsFor (known : Holdings) (f : Forest) (next : ℕ) (s : State) : 
   pub plain : IsPlain s
   pub drawn : s.next ≡ next
 
+-- They stand for this state, in which nothing holds work at j and persons enter the atomic tasks and no others.
+pub record IsFreeAt (known : Holdings) (f : Forest) (next : ℕ) (j : Ident) (s : State) : Type 0 where
+  pub held : IsHeld known f s
+  pub free : clear s j ≡ true
+  pub manual : AtomicIsManual s
+  pub drawn : s.next ≡ next
+
 -- the net at an identity is this one, or none stands there
 abbrev pub StandsAt : Holdings → Forest → Ident → Option NetHere → Type 0
 StandsAt known f j found = (s : State) → IsHeld known f s → MatchOption found (net_part s j ≡ None) (IsNetHere known f s j)
@@ -134,26 +152,27 @@ IsItemAt known f j found = (s : State) → IsHeld known f s → MatchOption foun
 abbrev pub IsAtEnd : Holdings → Forest → Ident → Bool → Type 0
 IsAtEnd known f j ends = (s : State) → IsHeld known f s → at_output s j ≡ ends
 
--- the case is finished by this event, or isn't at its end
+-- where nothing holds work and no run hangs there, the case is finished by this event, or isn't at its end
 abbrev pub FindsFinish : Ident → Bool → Option Found → Type 0
 FindsFinish j ends found =
-    (s : State) → IsPlain s → at_output s j ≡ ends → MatchOption found (case_ends s j ≡ false) (IsFound s (case_number j))
+    (s : State) → clear s j ≡ true → busy s j ≡ false → at_output s j ≡ ends
+    → MatchOption found (case_ends s j ≡ false) (IsFound s (case_number j))
 
--- the item goes on by this event, or it doesn't
+-- where nothing holds work, the item goes on by this event, or it doesn't
 abbrev pub FindsStep : Holdings → Forest → Ident → Bool → Option Found → Type 0
 FindsStep known f j ends found =
-    (s : State) → IsHeld known f s → IsPlain s → at_output s j ≡ ends
+    (s : State) → IsHeld known f s → clear s j ≡ true → at_output s j ≡ ends
     → MatchOption found (item_goes_on s j ≡ false) (IsFound s (case_number j))
 
 -- a task of the net there is left or entered by this event, or none may be
 abbrev pub FindsTasks : Holdings → Forest → Ident → ℕ → Option Found → Type 0
 FindsTasks known f j next found =
-    (s : State) → StandsFor known f next s → MatchOption found (NoneLeft s j × NoneEntered s j) (IsFound s (case_number j))
+    (s : State) → IsFreeAt known f next j s → MatchOption found (NoneLeft s j × NoneEntered s j) (IsFound s (case_number j))
 
 -- the item goes on by this event, or a task of the net there is left or entered by it; or nothing of this is so
 abbrev pub FindsItemOrTasks : Holdings → Forest → Ident → ℕ → Option Found → Type 0
 FindsItemOrTasks known f j next found =
-    (s : State) → StandsFor known f next s
+    (s : State) → IsFreeAt known f next j s
     → MatchOption found ((item_goes_on s j ≡ false) × NoneLeft s j × NoneEntered s j) (IsFound s (case_number j))
 
 -- this event comes of itself there, or nothing does

@@ -1,9 +1,11 @@
 // What comes of itself at one identity.
 ghost use Rattle.std.specs.Prelude.{IfOk, IfSome};
+ghost use Rattle.yw_state.specs.Identity as ids;
+ghost use Rattle.yw_state.specs.State.{State};
 ghost use Rattle.std.specs.Option.{option_copied};
 ghost use Rattle.yw_library.specs.Holdings.{Holdings};
 ghost use Rattle.yw_tree.specs.declared.Forest as forests;
-ghost use Rattle.yw_walk.specs.Finds.{FindsAt, FindsItemOrTasks, FindsTasks, IsItemAt, IsKnownHere, StandsAt, TellsAt};
+ghost use Rattle.yw_walk.specs.Finds.{AtomicIsManual, FindsAt, FindsItemOrTasks, FindsTasks, IsItemAt, IsKnownHere, StandsAt, TellsAt, TellsChosen};
 
 use crate::Found;
 use crate::items::{finish_of, step_of};
@@ -13,6 +15,13 @@ use std::alloc::{AllocError, Global};
 use yw_base::Ident;
 use yw_known::{ItemHere, Known, NetHere, item_here};
 use yw_tree::Forest;
+
+/// For which tasks of a net trees choose worklets. Trees are no part of what is known, so here for none; once they are, they are asked here.
+fn chosen_in<'a>(_here: &NetHere<'a>) -> &'a [bool]
+    ensures { (s : State) (i : ids.Ident) → AtomicIsManual s → TellsChosen s i result.now }
+{
+    &[]
+}
 
 /// What comes of itself of the tasks of the net at an identity: one is left, or else one is entered.
 fn tasks_at(
@@ -31,7 +40,7 @@ fn tasks_at(
     };
     match exit_at(alloc, here, at, told)? {
         Some(found) => Ok(Some(found)),
-        None => entry_at(alloc, here, at, next),
+        None => entry_at(alloc, here, at, next, chosen_in(here)),
     }
 }
 

@@ -2,18 +2,18 @@
 ghost use Rattle.std.specs.Prelude.{◌≡◌, ◌<◌, ◌≤◌, IfOk, length};
 ghost use Rattle.std.specs.Option.{option_copied};
 ghost use Rattle.yw_enabled.specs.Left.{TellsNet};
-ghost use Rattle.yw_walk.specs.Finds.{FindsEntered, FindsLeft, IsEntry, IsExit, IsKnownHere, most_items};
+ghost use Rattle.yw_walk.specs.Finds.{FindsEntered, FindsLeft, GivesRows, IsEntry, IsExit, IsKnownHere, most_items};
 
 use crate::places::{places_of, taken_from};
 use crate::{Computed, Found};
 use std::alloc::{AllocError, Global};
-use yw_base::Ident;
-use yw_enabled::{first_entered, first_left};
+use yw_base::{Ident, Row};
+use yw_enabled::{Entering, first_entered, first_left};
 use yw_known::NetHere;
 use yw_mark::Taken;
 use yw_spec::Task;
 use yw_state::Event;
-use yw_task::{Outcome, entry_rows, task_at};
+use yw_task::{Outcome, task_at};
 
 /// The exit of a task of the net at an identity, which leaves this: a token comes to each place of its split.
 fn exit_of(
@@ -64,8 +64,8 @@ fn entry_count(task: &Task, rows: usize) -> u32
     }
 }
 
-/// The event that enters a task of the net at an identity, by a choice of its join: its items are numbered from `next` on. An `Err` says that
-/// no memory was left. That an event names the places from which its join takes is our own.
+/// The event that enters a task of the net at an identity, by a choice of its join, and gives these rows to its items, which are numbered from
+/// `next` on. An `Err` says that no memory was left. That an event names the places from which its join takes is our own.
 pub fn entry_of(
     alloc: Global,
     here: &NetHere<'_>,
@@ -73,13 +73,14 @@ pub fn entry_of(
     next: u64,
     t: usize,
     taken: Taken,
+    rows: Vec<Row>,
 ) -> Result<Found, AllocError>
-    requires { t < length here.now.net.now.tasks }
+    requires task { t < length here.now.net.now.tasks }
+    requires gives { GivesRows here.now t rows.items }
     ensures { IfOk result (IsEntry here.now at.now next t taken) }
 {
     let task = task_at(here.net, t);
     let numbers = taken_from(alloc, task, &here.state.marks, taken)?;
-    let rows = entry_rows(alloc, task, &here.state.vals)?;
     let event = Event::Enter {
         net: at.copy(alloc)?,
         task: task.name.copy()?,
@@ -98,18 +99,23 @@ pub fn entry_of(
 }
 
 /// The entry of the first task of the net at an identity that may be entered by no person; `None` where none may. Its items are numbered
-/// from `next` on, the number that is drawn next. An `Err` says that no memory was left.
+/// from `next` on, the number that is drawn next. For which tasks of the net trees choose worklets is told by `chosen`. An `Err` says that no memory
+/// was left.
 pub fn entry_at(
     alloc: Global,
     here: &NetHere<'_>,
     at: &Ident,
     next: u64,
+    chosen: &[bool],
 ) -> Result<Option<Found>, AllocError>
     requires { IsKnownHere here.now }
-    ensures { IfOk result (FindsEntered here.now at.now next) }
+    ensures { IfOk result (FindsEntered here.now at.now next chosen.now) }
 {
-    match first_entered(here.net, here.state, here.up, next) {
-        Some((t, taken)) => Ok(Some(entry_of(alloc, here, at, next, t, taken)?)),
+    match first_entered(alloc, here.net, here.state, here.up, next, chosen)? {
+        Some((t, entering)) => {
+            let Entering { taken, rows } = entering;
+            Ok(Some(entry_of(alloc, here, at, next, t, taken, rows)?))
+        }
         None => Ok(None),
     }
 }

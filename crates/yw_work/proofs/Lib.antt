@@ -4,7 +4,7 @@ mod Exits
 mod Follows
 mod Gone
 mod Holding
-mod Lacking
+pub mod Lacking
 mod Order
 mod Rules
 mod Same

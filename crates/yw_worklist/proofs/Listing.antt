@@ -7,7 +7,7 @@ use Rattle.std.proofs.lemmas.List.Elements.{filter-append}
 use Rattle.std.proofs.lemmas.Slice.Eq.{bytes_eq-Decides}
 use Rattle.std.specs.List.{flat_map, list_all, list_any}
 use Rattle.std.specs.Ordering.{is_lt, ordering_then}
-use Rattle.std.specs.Prelude.{◌≡◌, ◌↔◌, ◌+◌, ◌<◌, ◌++◌, [], ◌∷◌, ℕ, Bool, false, filter, if◌then◌else◌, is_some, length, List, map, None, Some, true, unwrap_or}
+use Rattle.std.specs.Prelude.{◌≡◌, ◌↔◌, ◌+◌, ◌<◌, ◌++◌, [], ◌∷◌, ℕ, Bool, false, filter, if◌then◌else◌, is_some, length, List, map, Some, true, unwrap_or}
 use Rattle.std.specs.declared.cmp.Ordering.{Ordering}
 use Rattle.std.specs.declared.cmp.Ordering.TheVariants.{Equal, Greater, Less}
 use Rattle.yw_open.specs.Opens.{name_before}
@@ -177,15 +177,6 @@ module _ (laws : WorkLaws) (s : State) (l : Lists) (who : List ℕ) (listed : Is
   same_held : (j : Ident) → is_held l j ≡ held s j
   same_held j =
       held_alike (is_marked l) (is_run l) (is_suspended s) (has_run s) false j (λ i. (listed.at i).mark) (λ i. (listed.at i).run) ∙ sym (laws.held s j)
-
-  pub no_rows : None ≡ get s.persons who → IsWorkList s who []
-  no_rows none = record {
-    ordered = refl;
-    exact = λ row. (
-      λ has. absurd (found_in [] row has),
-      λ is. never (ap is_some none ∙ ((laws.work s who row).0 is).person),
-    );
-  }
 
   module _ (roles : List (List ℕ)) (js : List Ident) (known : Some roles ≡ get s.persons who) (up : ascends js ≡ true)
       (has : HasAdmitted l.offers roles who js) where

@@ -16,7 +16,7 @@ use Rattle.yw_state.specs.Answers.{rises}
 use Rattle.yw_state.specs.Identity.{Ident}
 use Rattle.yw_state.specs.Map.{get}
 use Rattle.yw_state.specs.Options.{is_some_and}
-use Rattle.yw_state.specs.State.{Site, State, is_suspended}
+use Rattle.yw_state.specs.State.{Site, State, is_suspended, opening}
 use Rattle.yw_state.specs.Well.{Stands}
 use Rattle.yw_tree.specs.declared.Forest.{Forest}
 use Rattle.yw_work.specs.Holds.{has_run}
@@ -164,6 +164,13 @@ module _ (blank : Lists) (is : IsBlank blank) where
     mark = is.marks j ∙ sym (none_suspended s j none);
     run = is.runs j ∙ sym (no_run s j none);
     kept = λ some. none_kept (is_marked blank j) (is_run blank j) (is.marks j) (is.runs j) some;
+  }
+
+  pub listed_at_first : IsListed opening blank
+  listed_at_first = record {
+    at = λ j. blank_right opening j refl;
+    pooled = λ by j. is.offers by j ∙ sym (ap (has_by by) (no_works j));
+    people = is.people;
   }
 
   pub made_new : (known : Holdings) (f : Forest) (cases : List ℕ) (l : Lists) (people : People) → Looks known f blank l (StandsIn cases)

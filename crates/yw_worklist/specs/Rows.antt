@@ -1,6 +1,9 @@
 -- The rows of a person at an identity. Our own.
-use Rattle.std.specs.Prelude.{ℕ, [], Bool, false, filter, List, map, if◌then◌else◌}
+use Rattle.std.specs.Prelude.{◌≡◌, ℕ, [], Bool, false, filter, List, map, MatchOption, Option, true, if◌then◌else◌}
+use Rattle.yw_state.specs.Answers.{IsWorkList}
 use Rattle.yw_state.specs.Identity.{Ident}
+use Rattle.yw_state.specs.Map.{has_key}
+use Rattle.yw_state.specs.State.{State}
 use Rattle.yw_state.specs.declared.answer.WorkRow.{WorkRow}
 use Rattle.yw_work.specs.Holds.{held_on}
 use Rattle.yw_work.specs.Open.{admits}
@@ -20,3 +23,7 @@ is_held l j = held_on (is_marked l) (is_run l) false j
 
 abbrev pub rows_at : Lists → List (List ℕ) → List ℕ → Ident → List WorkRow
 rows_at l roles who j = if is_held l j then [] else admitted roles who j (works_at l j)
+
+-- the person is known, and these are what the person may do, in order; or nobody has this name
+abbrev pub IsToldWork : State → List ℕ → Option (List WorkRow) → Type 0
+IsToldWork s who found = MatchOption found (has_key s.persons who ≡ false) (λ rows. (has_key s.persons who ≡ true) × IsWorkList s who rows)

@@ -2,7 +2,7 @@
 ghost use Rattle.std.specs.Prelude.{◌≡◌, ◌∷◌, [], ℕ, List, IfOk, OnOk};
 ghost use Rattle.yw_open.specs.Opens.{IsHeldUnchosen};
 ghost use Rattle.yw_state.proofs.Entries.{IsIn};
-ghost use Rattle.yw_state.specs.State.{State, is_suspended};
+ghost use Rattle.yw_state.specs.State.{State, is_suspended, opening};
 ghost use Rattle.yw_idents.specs.Idents.{lent};
 ghost use Rattle.yw_tree.specs.Forest.{IsForest, sites_of};
 ghost use Rattle.yw_work.specs.Holds.{has_run};
@@ -121,6 +121,13 @@ impl Lists {
             self.look_case(alloc, known, forest, *n)?;
         }
         Ok(())
+    }
+
+    /// The lists of the opening state, in which nobody is known and nothing stands. It takes no memory.
+    pub fn opening(alloc: Global) -> Lists
+        ensures { IsListed opening result }
+    {
+        Lists::blank(alloc)
     }
 
     /// The lists of the state that what is known and a forest stand for, where no other case stands than those with these numbers. A number of

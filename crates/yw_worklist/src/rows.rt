@@ -2,13 +2,12 @@
 ghost use Rattle.std.specs.Prelude.{◌≡◌, ◌++◌, [], ◌∷◌, IfOk, OnOk, false};
 ghost use Rattle.std.specs.List.{list_any};
 ghost use Rattle.std.specs.Str.{bytes_eq};
-ghost use Rattle.yw_state.specs.Answers.{IsWorkList};
 ghost use Rattle.yw_state.specs.State.{State};
 ghost use Rattle.yw_work.specs.Holds.{goes_on};
 ghost use Rattle.yw_work.specs.Open.{admits};
 ghost use Rattle.yw_worklist.specs.Fronts.{has_front};
 ghost use Rattle.yw_worklist.specs.Lists.{IsListed};
-ghost use Rattle.yw_worklist.specs.Rows.{admitted, is_held, row_of, rows_at};
+ghost use Rattle.yw_worklist.specs.Rows.{IsToldWork, admitted, is_held, row_of, rows_at};
 
 use crate::Lists;
 use crate::found::ids_for;
@@ -121,24 +120,24 @@ impl Lists {
         }
     }
 
-    /// What the person may do, in order of identity, then of the task's name: which tasks may be entered, which items started or completed. A
-    /// person who isn't known may do nothing. Its cost grows with what is open for the person, held or not, and not with what stands. An `Err`
+    /// What the person may do, in order of identity, then of the task's name: which tasks may be entered, which items started or completed;
+    /// `None` where nobody has this name. Its cost grows with what is open for the person, held or not, and not with what stands. An `Err`
     /// says that no memory was left.
-    pub fn rows(&self, alloc: Global, who: &Name) -> Result<WorkList, AllocError>
-        ensures { IfOk result (λ rows. (s : State) → IsListed s self.now
-            → IsWorkList s who.now rows) }
+    pub fn rows(&self, alloc: Global, who: &Name) -> Result<Option<WorkList>, AllocError>
+        ensures { IfOk result (λ found. (s : State) → IsListed s self.now
+            → IsToldWork s who.now found) }
     {
         // No work is done here: these say what work is, when it is held, and how rows stand in order.
         work_is_open();
         held_is();
         rows_are_ordered();
-        let mut rows = Items::new(alloc);
         let Some(roles) = self.people.roles(who) else {
-            return Ok(rows);
+            return Ok(None);
         };
+        let mut rows = Items::new(alloc);
         for at in ids_for(alloc, &self.offers, who, roles)? {
             self.push_rows(alloc, who, roles, at, &mut rows)?;
         }
-        Ok(rows)
+        Ok(Some(rows))
     }
 }

@@ -1,8 +1,7 @@
 use Rattle.std.proofs.Common.{Option, Some, subst, sym, ◌∙◌}
-use Rattle.yw_breaks.proofs.Counts.{items_fit}
 use Rattle.yw_breaks.proofs.Enters.{net_breaks, values_break, worker_breaks}
 use Rattle.yw_breaks.proofs.enter.enter_by.Goals as goal
-use Rattle.yw_breaks.specs.Enter.{EnterBreaks}
+use Rattle.yw_breaks.specs.Enter.{EnterBreaks, FindsRows}
 use Rattle.yw_state.specs.declared.rule.Refusal.{Refusal}
 use Rattle.yw_tree.specs.declared.NetState.{out-NetState}
 
@@ -22,31 +21,30 @@ returns-in-Err c =
     subst (λ (x : Refusal). EnterBreaks roles here c.args.t c.args.next (Some x)) (sym c.placeless-in-Err.ensures)
     (net_breaks roles here c.args.t c.args.next u c.task_at-task.ensures (sym c.worker_rule.ensures ∙ c.in_default.is) c.in-Err.rule c.in-Err.ensures)
 
-pub returns-in-Some-2 : goal.returns-in-Some-2
-returns-in-Some-2 c =
-    let roles = c.args.roles.now in
-    let here = c.args.here.now in
-    let t = c.args.t in
-    let next = c.args.next in
-    let u = c.task_at-task.result.now in
-    let fed = (c.requires.within.within.each_task t u c.task_at-task.ensures).element in
-    subst (λ (o : Option Refusal). EnterBreaks roles here t next o) (sym (c.in_ok-refusal-in-Ok.ensures fed) ∙ c.in-Some-2.is)
-    (values_break roles here t next u c.task_at-task.ensures (sym c.worker_rule.ensures ∙ c.in_default.is) c.in-Ok.ensures.asks)
+pub rows_of-requires : goal.rows_of-requires
+rows_of-requires c = (c.requires.within.within.each_task c.args.t c.task_at-task.result.now c.task_at-task.ensures).element
 
-pub returns-in-None : goal.returns-in-None
-returns-in-None c =
+pub returns-in-Ok-2 : goal.returns-in-Ok-2
+returns-in-Ok-2 c =
     let roles = c.args.roles.now in
     let here = c.args.here.now in
     let t = c.args.t in
     let next = c.args.next in
     let u = c.task_at-task.result.now in
-    let fed = (c.requires.within.within.each_task t u c.task_at-task.ensures).element in (
-      subst (λ (o : Option Refusal). EnterBreaks roles here t next o) (sym (c.in_ok-refusal-in-Ok.ensures fed) ∙ c.in-None.is)
+    let vals = (out-NetState here.state.now).vals in
+    let given = subst (FindsRows u vals next) c.in-Ok-2.is c.in_ok-rows-in-Ok.ensures in (
+      subst (λ (o : Option Refusal). EnterBreaks roles here t next o) (sym given.unbroken)
           (values_break roles here t next u c.task_at-task.ensures (sym c.worker_rule.ensures ∙ c.in_default.is) c.in-Ok.ensures.asks),
-      record {
-        chosen = c.in-Ok.ensures;
-        task = u;
-        at = c.task_at-task.ensures;
-        fit = items_fit u (out-NetState here.state.now).vals next fed (sym c.in-None.is ∙ c.in_ok-refusal-in-Ok.ensures fed);
-      },
+      record { chosen = c.in-Ok.ensures; task = u; at = c.task_at-task.ensures; fit = given.fit; gives = given.gives },
     )
+
+pub returns-in-Err-2 : goal.returns-in-Err-2
+returns-in-Err-2 c =
+    let roles = c.args.roles.now in
+    let here = c.args.here.now in
+    let t = c.args.t in
+    let next = c.args.next in
+    let u = c.task_at-task.result.now in
+    let found = subst (FindsRows u (out-NetState here.state.now).vals next) c.in-Err-2.is c.in_ok-rows-in-Ok.ensures in
+    subst (λ (o : Option Refusal). EnterBreaks roles here t next o) (sym found)
+    (values_break roles here t next u c.task_at-task.ensures (sym c.worker_rule.ensures ∙ c.in_default.is) c.in-Ok.ensures.asks)

@@ -2,8 +2,5 @@ use Rattle.yw_breaks.proofs.Launches.{launches_unknown}
 use Rattle.yw_breaks.proofs.launch.launch_front.Goals as goal
 use Rattle.yw_texts.specs.Texts.{reader}
 
-pub returns-in-Some : goal.returns-in-Some
-returns-in-Some c = record { number = c.in-Some.field-0-1; kept = c.in-Some.ensures }
-
 pub returns-in-None : goal.returns-in-None
 returns-in-None c = λ next gs f s h drawn. launches_unknown reader c.args.known.now f s h c.args.name.now gs c.in-None.ensures

@@ -1,8 +1,8 @@
 use Rattle.std.proofs.Common.{ap, ◌∙◌}
 use Rattle.yw_cases.proofs.Trying.{opening_stands, opens}
 use Rattle.yw_cases.proofs.cases.nothing.Goals as goal
-use Rattle.yw_cases.specs.State.{state_of}
-use Rattle.yw_cases.specs.declared.standing.Standing.{Standing}
+use Rattle.yw_standing.specs.State.{state_of}
+use Rattle.yw_standing.specs.declared.standing.Standing.{Standing}
 
 pub returns-clause-state : goal.returns-clause-state
 returns-clause-state c =

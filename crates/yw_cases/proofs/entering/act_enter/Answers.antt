@@ -1,8 +1,9 @@
 use Rattle.std.proofs.Common.{length, subst, ◌+◌}
-use Rattle.yw_cases.proofs.EnterLaw.{entered, entered_task, entry_number, entry_task, first_some, fits_below, may_come, room_there, rows_there, task_grows}
+use Rattle.yw_cases.proofs.EnterLaw.{entered, entered_task, entry_number, entry_task, first_some, may_come, room_there, rows_there, task_grows}
 use Rattle.yw_cases.proofs.TaskHere.{net_known}
 use Rattle.yw_cases.proofs.entering.act_enter.Goals as goal
-use Rattle.yw_cases.specs.State.{state_of}
+use Rattle.yw_standing.proofs.Trying.{fits_below}
+use Rattle.yw_standing.specs.State.{state_of}
 use Rattle.yw_walk.specs.Computed.{IsComputedOfEntry}
 
 pub unreachable-requires-in_default-known_net : goal.unreachable-requires-in_default-known_net

@@ -1,7 +1,7 @@
 use Rattle.std.proofs.Common.{subst}
 use Rattle.yw_cases.proofs.event.act.Goals as goal
-use Rattle.yw_cases.specs.State.{state_of}
-use Rattle.yw_cases.specs.Tried.{LeadsOn}
+use Rattle.yw_standing.specs.State.{state_of}
+use Rattle.yw_standing.specs.Tried.{LeadsOn}
 use Rattle.yw_state.specs.declared.event.Event.{Event}
 use Rattle.yw_walk.specs.Computed.{IsComputedOf}
 

@@ -1,22 +1,10 @@
-use Rattle.std.proofs.Common.{List, subst, sym, ℕ}
+use Rattle.std.proofs.Common.{subst, sym}
 use Rattle.yw_cases.proofs.Ending.{advances_so}
 use Rattle.yw_cases.proofs.event.act_plainly.Goals as goal
-use Rattle.yw_cases.specs.Tried.{IsDone, LeadsOn}
-use Rattle.yw_state.specs.declared.event.Event.TheVariants as events
+use Rattle.yw_standing.specs.Tried.{IsDone, LeadsOn}
 
 pub act_person-requires-clause-leads : goal.act_person-requires-clause-leads
 act_person-requires-clause-leads c = subst (LeadsOn c.args.standing.now) c.in-Person.is c.requires.leads
-
-pub act_load-requires-clause-leads : goal.act_load-requires-clause-leads
-act_load-requires-clause-leads c =
-    subst (λ (text : List ℕ). LeadsOn c.args.standing.now (events.Load c.in-Load.name text)) (sym c.as_str.ensures)
-    (subst (LeadsOn c.args.standing.now) c.in-Load.is c.requires.leads)
-
-pub act_launch-requires-clause-leads : goal.act_launch-requires-clause-leads
-act_launch-requires-clause-leads c = subst (LeadsOn c.args.standing.now) c.in-Launch.is c.requires.leads
-
-pub act_add-requires-clause-leads : goal.act_add-requires-clause-leads
-act_add-requires-clause-leads c = subst (LeadsOn c.args.standing.now) c.in-Add.is c.requires.leads
 
 pub act_start-requires-clause-leads : goal.act_start-requires-clause-leads
 act_start-requires-clause-leads c = subst (LeadsOn c.args.standing.now) c.in-Start.is c.requires.leads

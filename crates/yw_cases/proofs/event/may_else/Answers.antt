@@ -1,7 +1,7 @@
 use Rattle.std.proofs.Common.{subst}
 use Rattle.yw_cases.proofs.event.may_else.Goals as goal
-use Rattle.yw_cases.specs.State.{state_of}
-use Rattle.yw_cases.specs.Tried.{TellsLeads}
+use Rattle.yw_standing.specs.State.{state_of}
+use Rattle.yw_standing.specs.Tried.{TellsLeads}
 use Rattle.yw_walk.proofs.Plainly.{nothing_of}
 
 pub returns-then-branch : goal.returns-then-branch

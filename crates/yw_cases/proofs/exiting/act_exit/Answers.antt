@@ -2,7 +2,7 @@ use Rattle.std.proofs.Common.{subst}
 use Rattle.yw_cases.proofs.ExitLaw.{exit_task, exited, has_task, net_stands, outcome_there}
 use Rattle.yw_cases.proofs.TaskHere.{net_known}
 use Rattle.yw_cases.proofs.exiting.act_exit.Goals as goal
-use Rattle.yw_cases.specs.State.{state_of}
+use Rattle.yw_standing.specs.State.{state_of}
 use Rattle.yw_walk.specs.Computed.{IsComputedOfExit}
 
 pub unreachable-requires-in_default-known_net : goal.unreachable-requires-in_default-known_net

@@ -4,8 +4,8 @@ use Rattle.std.specs.Prelude.{nat_eq}
 use Rattle.yw_cases.proofs.ExitLaw.{exits_by, no_task, not_leaving, not_split}
 use Rattle.yw_cases.proofs.TaskHere.{no_name_no_task, no_net_no_task, no_number_no_task}
 use Rattle.yw_cases.proofs.exiting.may_exit.Goals as goal
-use Rattle.yw_cases.specs.State.{state_of}
 use Rattle.yw_enabled.specs.Left.{LeavesAs}
+use Rattle.yw_standing.specs.State.{state_of}
 use Rattle.yw_state.specs.Allowed.{place_numbers}
 use Rattle.yw_state.specs.Options.{is_some_and}
 use Rattle.yw_tree.proofs.Removed.{within}

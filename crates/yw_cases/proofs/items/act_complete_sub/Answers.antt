@@ -1,10 +1,10 @@
 use Rattle.yw_cases.proofs.ItemsGo.{ended, ends_so, outer_found, outer_none, sub_may_end}
 use Rattle.yw_cases.proofs.items.act_complete_sub.Goals as goal
-use Rattle.yw_cases.specs.Here.{with_state}
-use Rattle.yw_cases.specs.Tried.{IsDone}
 use Rattle.yw_cases.specs.declared.items.ItemEvent.TheVariants.{CompleteSub}
 use Rattle.yw_nest.proofs.Results.{if_ok}
 use Rattle.yw_nest.specs.Items.{CompletesSub}
+use Rattle.yw_standing.specs.Here.{with_state}
+use Rattle.yw_standing.specs.Tried.{IsDone}
 use Rattle.yw_state.proofs.Tests.{and_left}
 use Rattle.yw_state.specs.State.{no_checks}
 use Rattle.yw_state.specs.declared.event.Event.TheVariants as events

@@ -1,10 +1,10 @@
 use Rattle.yw_cases.proofs.ItemsGo.{begins_so, begun, outer_found, outer_none, sub_may_start}
 use Rattle.yw_cases.proofs.items.act_start_sub.Goals as goal
-use Rattle.yw_cases.specs.Here.{with_state}
-use Rattle.yw_cases.specs.Tried.{IsDone}
 use Rattle.yw_cases.specs.declared.items.ItemEvent.TheVariants.{StartSub}
 use Rattle.yw_nest.proofs.Results.{if_ok}
 use Rattle.yw_nest.specs.Items.{StartsSub}
+use Rattle.yw_standing.specs.Here.{with_state}
+use Rattle.yw_standing.specs.Tried.{IsDone}
 use Rattle.yw_state.specs.declared.event.Event.TheVariants as events
 
 pub start_sub-requires-clause-may : goal.start_sub-requires-clause-may

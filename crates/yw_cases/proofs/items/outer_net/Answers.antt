@@ -1,6 +1,6 @@
 use Rattle.std.proofs.Common.{refl}
 use Rattle.yw_base.specs.Identity.{parent}
-use Rattle.yw_cases.proofs.HereLaw.{known_above, known_there, no_item}
+use Rattle.yw_standing.proofs.HereLaw.{known_above, known_there, no_item}
 use Rattle.yw_cases.proofs.items.outer_net.Goals as goal
 use Rattle.yw_known.proofs.Items.{above_identity, no_item_here}
 

@@ -1,11 +1,15 @@
-use Rattle.std.proofs.Common.{None, Some, subst}
+use Rattle.std.proofs.Common.{None, Ok, Some, refl, subst}
 use Rattle.yw_breaks.proofs.Whole.{add_joins}
-use Rattle.yw_breaks.specs.Events.{FindsAdd}
+use Rattle.yw_breaks.specs.Events.{AddFinds}
 use Rattle.yw_breaks.specs.Tables.{add_front, add_rest}
-use Rattle.yw_cases.specs.State.{state_of}
+use Rattle.yw_cases.proofs.TaskHere.{its, named}
+use Rattle.yw_cases.specs.Tried.{IsTaskNumbered}
+use Rattle.yw_engine.proofs.Commands.{add_numbered}
 use Rattle.yw_engine.proofs.Fronts.{behind, moving}
 use Rattle.yw_engine.proofs.Parts.{next_of}
 use Rattle.yw_engine.proofs.add.add_here.Goals as goal
+use Rattle.yw_engine.specs.Decides.{Makes}
+use Rattle.yw_standing.specs.State.{state_of}
 use Rattle.yw_texts.specs.Texts.{reader}
 use Rattle.yw_state.specs.declared.command.Command.TheVariants as commands
 
@@ -18,7 +22,7 @@ returns-in-Some c =
     let t = c.args.task in
     let value = c.args.value in
     moving h (commands.Add who i t value) i (add_front s who i) (add_rest s who i t value) (add_joins reader s who i t value) c.requires.front
-    c.case_number.result c.case_number.ensures c.in_ok-refusal.field-0 c.in_ok-refusal.ensures c.in-Some.refusal c.in-Some.is
+    c.args.quiet c.requires.rest c.breaks_quiet.result c.breaks_quiet.ensures c.in-Some.refusal c.in-Some.is
 
 pub returns-in-Ok : goal.returns-in-Ok
 returns-in-Ok c =
@@ -29,14 +33,24 @@ returns-in-Ok c =
     let i = c.args.net in
     let t = c.args.task in
     let value = c.args.value in
+    let w = c.args.asked.now.here in
     let next = c.next-next.result in
     let drawn = next_of h next c.next-next.ensures in
-    let made = subst (FindsAdd h.known h.forest next who i t value) c.in-Ok.is (c.in_ok-event.ensures h.known h.forest who c.requires.roles c.requires.says) in (
-      behind h (commands.Add who i t value) i (add_front s who i) (add_rest s who i t value) (add_joins reader s who i t value) c.requires.front
-          c.case_number.result c.case_number.ensures c.in_ok-refusal.field-0 c.in_ok-refusal.ensures c.in_default.is
-          None (made.0 s may.held may.plain drawn),
-      made.1 s may.held drawn,
-    )
+    let found = subst (AddFinds c.args.asked.now.roles.now w next i t value) c.in-Ok.is c.in_ok-found.ensures in
+    let made = found.0 h.known h.forest who c.requires.roles c.requires.says in
+    let unbroken =
+    behind h (commands.Add who i t value) i (add_front s who i) (add_rest s who i t value) (add_joins reader s who i t value) c.requires.front
+    c.args.quiet c.requires.rest c.breaks_quiet.result c.breaks_quiet.ensures c.in_default.is None (made.0 s may.held may.plain drawn) in
+    let makes : Makes h (commands.Add who i t value) (Ok c.in-Ok.found.event) = (unbroken, made.1 s may.held drawn) in
+    let here = c.requires.says s may.held in
+    let is = found.1 in
+    let k = c.in-Ok.found.task in
+    let numbered : IsTaskNumbered s i t k = record {
+      of_task = its h i w here t k is.number is.task is.at;
+      named = named h i w here t k is.number is.task is.at;
+      number = refl;
+    } in
+    (makes, add_numbered h may who i t value c.in-Ok.found.event makes k numbered)
 
 pub returns-in-Err : goal.returns-in-Err
 returns-in-Err c =
@@ -48,7 +62,8 @@ returns-in-Err c =
     let t = c.args.task in
     let value = c.args.value in
     let next = c.next-next.result in
-    let made = subst (FindsAdd h.known h.forest next who i t value) c.in-Err.is (c.in_ok-event.ensures h.known h.forest who c.requires.roles c.requires.says) in
+    let found = subst (AddFinds c.args.asked.now.roles.now c.args.asked.now.here next i t value) c.in-Err.is c.in_ok-found.ensures in
+    let made = found h.known h.forest who c.requires.roles c.requires.says in
     behind h (commands.Add who i t value) i (add_front s who i) (add_rest s who i t value) (add_joins reader s who i t value) c.requires.front
-    c.case_number.result c.case_number.ensures c.in_ok-refusal.field-0 c.in_ok-refusal.ensures c.in_default.is
+    c.args.quiet c.requires.rest c.breaks_quiet.result c.breaks_quiet.ensures c.in_default.is
     (Some c.in-Err.refusal) (made s may.held may.plain (next_of h next c.next-next.ensures))

@@ -1,4 +1,4 @@
-use Rattle.yw_engine.proofs.Entries.{enter_asked, enter_built, enter_case, enter_computed, enter_leads}
+use Rattle.yw_engine.proofs.Entries.{enter_apart, enter_asked, enter_built, enter_case, enter_computed, enter_leads}
 use Rattle.yw_engine.proofs.Fronts.{refuses}
 use Rattle.yw_engine.proofs.enter.decide_enter.Goals as goal
 use Rattle.yw_state.specs.declared.command.Command.TheVariants as commands
@@ -10,6 +10,10 @@ begin_found-requires-clause-built c =
 pub begin_found-requires-clause-case : goal.begin_found-requires-clause-case
 begin_found-requires-clause-case c =
     enter_case c.args.work.now.standing c.args.net.now c.args.task.now c.in_ok-found.found c.in_ok-found.ensures.1 c.case_number.result c.case_number.ensures
+
+pub begin_found-requires-clause-apart : goal.begin_found-requires-clause-apart
+begin_found-requires-clause-apart c =
+    enter_apart c.args.work.now.standing c.args.net.now c.args.task.now c.in_ok-found.found c.in_ok-found.ensures.1
 
 pub begin_found-requires-clause-leads : goal.begin_found-requires-clause-leads
 begin_found-requires-clause-leads c =

@@ -2,11 +2,11 @@ use Rattle.std.proofs.Common.{None, Some, subst}
 use Rattle.yw_breaks.proofs.Whole.{enter_joins}
 use Rattle.yw_breaks.specs.Enter.{EnterMakes}
 use Rattle.yw_breaks.specs.Tables.{enter_front, enter_rest}
-use Rattle.yw_cases.specs.State.{state_of}
-use Rattle.yw_engine.proofs.Entries.{entered}
+use Rattle.yw_engine.proofs.Entries.{entered, gives_rows}
 use Rattle.yw_engine.proofs.Fronts.{behind, moving}
 use Rattle.yw_engine.proofs.Parts.{next_of}
 use Rattle.yw_engine.proofs.enter.enter_here.Goals as goal
+use Rattle.yw_standing.specs.State.{state_of}
 use Rattle.yw_texts.specs.Texts.{reader}
 use Rattle.yw_state.specs.declared.command.Command.TheVariants as commands
 
@@ -18,12 +18,23 @@ returns-in-Some c =
     let i = c.args.at.now in
     let t = c.args.task.now in
     moving h (commands.Enter who i t) i (enter_front s who i t) (enter_rest s who i t) (enter_joins reader s who i t) c.requires.front
-    c.case_number.result c.case_number.ensures c.in_ok-refusal.field-0 c.in_ok-refusal.ensures c.in-Some.refusal c.in-Some.is
+    c.args.quiet c.requires.rest c.breaks_quiet.result c.breaks_quiet.ensures c.in-Some.refusal c.in-Some.is
 
-pub entry_of-requires : goal.entry_of-requires
-entry_of-requires c =
+pub entry_of-requires-clause-task : goal.entry_of-requires-clause-task
+entry_of-requires-clause-task c =
     let made = subst (EnterMakes c.args.asked.now.roles.now c.args.asked.now.here c.next-next.result c.args.task.now) c.in-Ok.is c.in_ok-entry.ensures in
     made.named.below
+
+pub entry_of-requires-clause-gives : goal.entry_of-requires-clause-gives
+entry_of-requires-clause-gives c =
+    let h = c.args.work.now.standing in
+    let may = c.requires.stands in
+    let w = c.args.asked.now.here in
+    let next = c.next-next.result in
+    let entry = c.in-Ok.entry in
+    let made = subst (EnterMakes c.args.asked.now.roles.now w next c.args.task.now) c.in-Ok.is c.in_ok-entry.ensures in
+    gives_rows h may c.args.at.now c.args.task.now w (c.requires.says (state_of h) may.held) entry.task made.named next c.next-next.ensures
+    entry.taken entry.rows.items made.enterable
 
 pub returns-in_ok-entry_of-in-Ok : goal.returns-in_ok-entry_of-in-Ok
 returns-in_ok-entry_of-in-Ok c =
@@ -37,9 +48,9 @@ returns-in_ok-entry_of-in-Ok c =
     let next = c.next-next.result in
     let made = subst (EnterMakes c.args.asked.now.roles.now w next t) c.in-Ok.is c.in_ok-entry.ensures in (
       behind h (commands.Enter who i t) i (enter_front s who i t) (enter_rest s who i t) (enter_joins reader s who i t) c.requires.front
-          c.case_number.result c.case_number.ensures c.in_ok-refusal.field-0 c.in_ok-refusal.ensures c.in_default.is
+          c.args.quiet c.requires.rest c.breaks_quiet.result c.breaks_quiet.ensures c.in_default.is
           None (made.unbroken h.known h.forest who i c.requires.roles c.requires.says s may.held may.plain (next_of h next c.next-next.ensures)),
-      entered h may i t w (c.requires.says s may.held) c.in-Ok.entry.task made.named next c.next-next.ensures c.in-Ok.entry.taken made.enterable
+      entered h may i t w (c.requires.says s may.held) c.in-Ok.entry.task made.named next c.next-next.ensures c.in-Ok.entry.taken c.in-Ok.entry.rows.items made.enterable
           c.in_ok-entry_of-in-Ok.field-0 c.in_ok-entry_of-in-Ok.ensures,
     )
 
@@ -54,5 +65,5 @@ returns-in-Err c =
     let next = c.next-next.result in
     let finds = subst (EnterMakes c.args.asked.now.roles.now c.args.asked.now.here next t) c.in-Err.is c.in_ok-entry.ensures in
     behind h (commands.Enter who i t) i (enter_front s who i t) (enter_rest s who i t) (enter_joins reader s who i t) c.requires.front
-    c.case_number.result c.case_number.ensures c.in_ok-refusal.field-0 c.in_ok-refusal.ensures c.in_default.is
+    c.args.quiet c.requires.rest c.breaks_quiet.result c.breaks_quiet.ensures c.in_default.is
     (Some c.in-Err.refusal) (finds h.known h.forest who i c.requires.roles c.requires.says s may.held may.plain (next_of h next c.next-next.ensures))

@@ -2,12 +2,12 @@ use Rattle.std.proofs.Common.{Some, subst, sym}
 use Rattle.yw_breaks.proofs.Whole.{enter_joins}
 use Rattle.yw_breaks.specs.Persons.{HasRoles}
 use Rattle.yw_breaks.specs.Tables.{enter_front, enter_rest}
-use Rattle.yw_cases.specs.State.{state_of}
 use Rattle.yw_engine.proofs.Fronts.{in_front}
 use Rattle.yw_engine.proofs.Parts.{held_by, says_net}
 use Rattle.yw_engine.proofs.enter.enter_made.Goals as goal
 use Rattle.yw_engine.specs.Decides.{BreaksNow}
 use Rattle.yw_library.specs.Holdings.{Holdings}
+use Rattle.yw_standing.specs.State.{state_of}
 use Rattle.yw_texts.specs.Texts.{reader}
 use Rattle.yw_state.specs.declared.command.Command.TheVariants as commands
 use Rattle.yw_state.specs.declared.rule.Refusal.{Refusal}
@@ -21,10 +21,15 @@ enter_here-requires-clause-says c =
     says_net c.args.work.now.standing c.known.result.now c.forest.result.now c.known.ensures c.forest.ensures c.args.at.now c.in-Ok.asked.here
     c.in-Ok.ensures.finds.says
 
+pub enter_here-requires-clause-rest : goal.enter_here-requires-clause-rest
+enter_here-requires-clause-rest c =
+    c.requires.rest c.in-Ok.asked.roles.now
+    (subst (λ (k : Holdings). HasRoles k c.args.who.now c.in-Ok.asked.roles.now) c.known.ensures c.in-Ok.ensures.finds.roles)
+
 pub enter_here-requires-clause-front : goal.enter_here-requires-clause-front
 enter_here-requires-clause-front c =
     let h = c.args.work.now.standing in
-    c.in-Ok.ensures.finds.unbroken (state_of h) (held_by h c.known.result.now c.forest.result.now c.known.ensures c.forest.ensures c.requires)
+    c.in-Ok.ensures.finds.unbroken (state_of h) (held_by h c.known.result.now c.forest.result.now c.known.ensures c.forest.ensures c.requires.stands)
 
 pub returns-in-Err : goal.returns-in-Err
 returns-in-Err c =
@@ -33,7 +38,7 @@ returns-in-Err c =
     let who = c.args.who.now in
     let i = c.args.at.now in
     let t = c.args.task.now in
-    let held = held_by h c.known.result.now c.forest.result.now c.known.ensures c.forest.ensures c.requires in
+    let held = held_by h c.known.result.now c.forest.result.now c.known.ensures c.forest.ensures c.requires.stands in
     subst (λ (x : Refusal). BreaksNow h (commands.Enter who i t) (Some x)) (sym c.placeless.ensures)
     (in_front h (commands.Enter who i t) i (enter_front s who i t) (enter_rest s who i t) (enter_joins reader s who i t) c.in-Err.rule
     (c.in-Err.ensures.finds s held))

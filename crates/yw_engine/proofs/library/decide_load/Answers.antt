@@ -1,8 +1,8 @@
 use Rattle.std.proofs.Common.{List, subst, ℕ}
-use Rattle.yw_cases.specs.State.{state_of}
 use Rattle.yw_engine.proofs.Loads.{load_decided}
 use Rattle.yw_engine.proofs.library.decide_load.Goals as goal
 use Rattle.yw_engine.specs.Decides.{IsDone}
+use Rattle.yw_standing.specs.State.{state_of}
 use Rattle.yw_texts.specs.Texts.{reader}
 use Rattle.yw_state.specs.Events.{Leads}
 use Rattle.yw_state.specs.declared.event.Event.TheVariants as events

@@ -1,11 +1,13 @@
 use Rattle.std.proofs.Common.{Some, subst, sym}
 use Rattle.yw_breaks.proofs.Whole.{start_joins}
+use Rattle.yw_breaks.specs.Persons.{HasRoles}
 use Rattle.yw_breaks.specs.Tables.{start_front, start_rest}
-use Rattle.yw_cases.specs.State.{state_of}
 use Rattle.yw_engine.proofs.Fronts.{behind, in_front, moving}
 use Rattle.yw_engine.proofs.Parts.{held_by}
 use Rattle.yw_engine.proofs.start.start_breaks.Goals as goal
 use Rattle.yw_engine.specs.Decides.{BreaksNow}
+use Rattle.yw_library.specs.Holdings.{Holdings}
+use Rattle.yw_standing.specs.State.{state_of}
 use Rattle.yw_texts.specs.Texts.{reader}
 use Rattle.yw_state.specs.declared.command.Command.TheVariants as commands
 use Rattle.yw_state.specs.declared.rule.Refusal.{Refusal}
@@ -16,7 +18,7 @@ returns-in-Err c =
     let s = state_of h in
     let who = c.args.who.now in
     let j = c.args.item.now in
-    let held = held_by h c.known.result.now c.forest.result.now c.known.ensures c.forest.ensures c.requires in
+    let held = held_by h c.known.result.now c.forest.result.now c.known.ensures c.forest.ensures c.requires.stands in
     subst (λ (x : Refusal). BreaksNow h (commands.Start who j) (Some x)) (sym c.placeless.ensures)
     (in_front h (commands.Start who j) j (start_front s who j) (start_rest s who j) (start_joins reader s who j) c.in-Err.rule (c.in-Err.ensures s held))
 
@@ -26,9 +28,10 @@ returns-in-Some c =
     let s = state_of h in
     let who = c.args.who.now in
     let j = c.args.item.now in
-    let held = held_by h c.known.result.now c.forest.result.now c.known.ensures c.forest.ensures c.requires in
+    let held = held_by h c.known.result.now c.forest.result.now c.known.ensures c.forest.ensures c.requires.stands in
+    let roles = subst (λ (k : Holdings). HasRoles k who c.in-Ok.asked.roles.now) c.known.ensures c.in-Ok.ensures.roles in
     moving h (commands.Start who j) j (start_front s who j) (start_rest s who j) (start_joins reader s who j) (c.in-Ok.ensures.unbroken s held)
-    c.case_number.result c.case_number.ensures c.in_ok-refusal-in-Ok.field-0 c.in_ok-refusal-in-Ok.ensures c.in-Some.refusal c.in-Some.is
+    c.args.quiet (c.requires.rest c.in-Ok.asked.roles.now roles) c.breaks_quiet.result c.breaks_quiet.ensures c.in-Some.refusal c.in-Some.is
 
 pub returns-in-None : goal.returns-in-None
 returns-in-None c =
@@ -37,7 +40,8 @@ returns-in-None c =
     let who = c.args.who.now in
     let j = c.args.item.now in
     let f = c.forest.result.now in
-    let held = held_by h c.known.result.now f c.known.ensures c.forest.ensures c.requires in
+    let held = held_by h c.known.result.now f c.known.ensures c.forest.ensures c.requires.stands in
+    let roles = subst (λ (k : Holdings). HasRoles k who c.in-Ok.asked.roles.now) c.known.ensures c.in-Ok.ensures.roles in
     behind h (commands.Start who j) j (start_front s who j) (start_rest s who j) (start_joins reader s who j) (c.in-Ok.ensures.unbroken s held)
-    c.case_number.result c.case_number.ensures c.in_ok-refusal-in-Ok.field-0 c.in_ok-refusal-in-Ok.ensures c.in-None.is
-    c.start_rest.result (c.start_rest.ensures c.known.result.now f who j c.in-Ok.ensures.roles c.in-Ok.ensures.says s held c.requires.plain)
+    c.args.quiet (c.requires.rest c.in-Ok.asked.roles.now roles) c.breaks_quiet.result c.breaks_quiet.ensures c.in-None.is
+    c.start_rest.result (c.start_rest.ensures c.known.result.now f who j c.in-Ok.ensures.roles c.in-Ok.ensures.says s held c.requires.stands.plain)

@@ -1,10 +1,10 @@
 use Rattle.std.proofs.Common.{Option, refl, subst}
 use Rattle.std.specs.Prelude.{option_map}
-use Rattle.yw_cases.specs.State.{state_of}
 use Rattle.yw_engine.proofs.Commands.{cancel_asks}
 use Rattle.yw_engine.proofs.Parts.{held_by}
 use Rattle.yw_engine.proofs.whole.decide_cancel.Goals as goal
 use Rattle.yw_engine.specs.Decides.{BreaksNow}
+use Rattle.yw_standing.specs.State.{state_of}
 use Rattle.yw_state.specs.Broken.{placeless}
 use Rattle.yw_state.specs.declared.command.Command.TheVariants as commands
 use Rattle.yw_state.specs.declared.rule.Rule.{Rule}

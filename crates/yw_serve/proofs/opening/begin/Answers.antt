@@ -26,7 +26,7 @@ returns-in-Ok-clause-opened g c = λ tells.
     let made = c.new.ensures in
     let a : c.in-Ok.journal.file ≡ A = search rules in
     let holds : files.Holds A begun c.in-Ok.journal.end j = subst (λ (f : File). files.Holds f begun c.in-Ok.journal.end j) a current.holds in
-    let nobody : server_state c.new.result ≡ opening = made.state ∙ c.opening-engine.ensures.state in
+    let nobody : server_state c.new.result ≡ opening = made.state ∙ c.opening-office.ensures.state in
     record {
       before = files.opening;
       held = subst (λ (s : State). HoldNow files.opening s i) (sym nobody) (held_nothing i chosen);

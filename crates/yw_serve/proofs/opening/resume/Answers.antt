@@ -10,7 +10,9 @@ use Rattle.yw_state.specs.State.{State, opening}
 use Rattle.yw_serve.specs.Damage.{HoldNow, IsDamagedNow}
 use Rattle.yw_serve.specs.Desks.{Stands}
 use Rattle.yw_serve.specs.Opening.{HasFaultCause, HasOpenCause, IsDamagedAt, IsReached, IsOpened}
+use Rattle.yw_serve.specs.Session.{server_state}
 use Rattle.yw_serve.specs.declared.opening.StartFault.{StartFault}
+use Rattle.yw_serve.specs.declared.opening.StartFault.TheVariants.{Memory}
 use Rattle.yw_serve.specs.declared.server.Server.{Server}
 use Rattle.yw_serve.proofs.OpenHeld.{chosen_start, content_of, current_records, damaged_within, held_records}
 use Rattle.yw_serve.proofs.OpenLooked.{fault_further, still_settled}
@@ -36,6 +38,15 @@ returns-in_err-tail-clause-cause g c =
     refl in
     subst (λ (r : Result Server StartFault). HasOpenCause D r whole old new) (sym is) cause
 
+pub returns-in_err-office-clause-cause : goal.returns-in_err-office-clause-cause
+returns-in_err-office-clause-cause g c =
+    let D = g.D.Desk in
+    let old = c.args.desk.now in
+    let new = c.read_entries.new.desk in
+    let whole = λ (f : File) (place : ℕ). IsTrue (D.tells old) → IsDamagedNow (D.state old) f place in
+    let is : c.from_residual-in_err-office.result ≡ Err Memory = search rules in
+    subst (λ (r : Result Server StartFault). HasOpenCause D r whole old new) (sym is) c.in_ok-tail.ensures.cause
+
 pub returns-clause-opened : goal.returns-clause-opened
 returns-clause-opened g c = λ tells.
     let i = g.D.Desk.state c.args.desk.now in
@@ -50,7 +61,8 @@ returns-clause-opened g c = λ tells.
     let records = read.1.0 in
     let journal : Journal = record { file = A; generation = c.u64_in.result; end = tail.gate + 1; limit = c.args.limit; number = c.u64_in-2.result + tail.records } in
     let server = c.new.result in
-    let held = subst (λ (t : State). HoldNow (content_of i.a records) t i) (sym c.new.ensures.state) (held_records i head chosen tail.gate records s read.1.1 read.0) in
+    let same : server_state server ≡ s = c.new.ensures.state ∙ c.in_ok-office.ensures.state in
+    let held = subst (λ (t : State). HoldNow (content_of i.a records) t i) (sym same) (held_records i head chosen tail.gate records s read.1.1 read.0) in
     let current = subst (λ (x : Journal). IsCurrent x (content_of i.a records) i) (sym c.new.ensures.journal) (current_records i head chosen journal tail.gate records s read.1.1 read.0 refl refl c.u64_in.ensures
     (ap (λ (n : ℕ). n + tail.records) c.u64_in-2.ensures ∙ ap (λ (n : ℕ). count_of head.bytes + n) (sym read.1.2))) in
     let here : IsOpened server i i = record { before = content_of i.a records; held = held; now = content_of i.a records; holds = held; current = current; content = inl (refl, refl); other = refl; said = refl } in

@@ -1,5 +1,5 @@
-use Rattle.std.proofs.Common.{List, Option, Some, [], ap, arith, length, map, subst, suc, sym, take, ◌+◌, ◌<◌, ◌∙◌, ◌≡◌}
-use Rattle.std.specs.Prelude.{slice_get, unwrap_or}
+use Rattle.std.proofs.Common.{List, Option, Some, ap, arith, length, map, subst, suc, sym, take, ◌+◌, ◌<◌, ◌∙◌, ◌≡◌}
+use Rattle.std.specs.Prelude.{slice_get}
 use Rattle.yw_base.specs.Values.{value_of}
 use Rattle.yw_base.specs.declared.value.Value.{Value}
 use Rattle.yw_state.specs.Options.{all_of}
@@ -16,7 +16,7 @@ returns-in-None c =
     let k = c.loop-k.k in
     let below : k < length es = subst (λ n. k < n) c.element_count-k-end.ensures c.loop-k-test.true in
     let none = ap h (sym c.element_at.ensures) ∙ sym c.in_ok-row.ensures ∙ c.in-None.is in
-    c.new.ensures.items ∙ sym (ap (λ (o : Option (List Row)). unwrap_or o []) (all_stops h (map (λ (x : Value). Some x) es) k (slice_get es k) (read_some es k below) none))
+    all_stops h (map (λ (x : Value). Some x) es) k (slice_get es k) (read_some es k below) none
 
 pub loop-k-preserved : goal.loop-k-preserved
 loop-k-preserved c =

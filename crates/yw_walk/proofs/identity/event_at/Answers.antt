@@ -1,4 +1,5 @@
 use Rattle.yw_enabled.proofs.Results.{ok_then}
+use Rattle.yw_plain.proofs.Words.{words}
 use Rattle.yw_walk.proofs.AllStill.{at_there}
 use Rattle.yw_walk.proofs.identity.event_at.Goals as goal
 
@@ -7,7 +8,8 @@ returns-in-Some c = λ tells s w.
     let known = c.args.known.now in
     let f = c.args.forest.now in
     let j = c.args.id.now in
-    c.in-Some.ensures s w.plain (c.is_at_end.ensures known f j (c.net_at-here.ensures.here c.item_here-item.ensures) s w.held)
+    let p = words s w.plain in
+    c.in-Some.ensures s (p.clear j) (p.busy j) (c.is_at_end.ensures known f j (c.net_at-here.ensures.here c.item_here-item.ensures) s w.held)
 
 pub returns-in-None : goal.returns-in-None
 returns-in-None c = λ tells.

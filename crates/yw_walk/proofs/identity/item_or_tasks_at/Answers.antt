@@ -8,7 +8,7 @@ pub returns-in-Some : goal.returns-in-Some
 returns-in-Some c = λ known f is stands tells s w.
     let j = c.args.id.now in
     let ends = c.is_at_end.result in
-    subst (FindsStep known f j ends) c.in-Some.is (c.in_ok-found.ensures known f is) s w.held w.plain (c.is_at_end.ensures known f j stands s w.held)
+    subst (FindsStep known f j ends) c.in-Some.is (c.in_ok-found.ensures known f is) s w.held w.free (c.is_at_end.ensures known f j stands s w.held)
 
 pub returns-in-None : goal.returns-in-None
 returns-in-None c = λ known f is stands tells.

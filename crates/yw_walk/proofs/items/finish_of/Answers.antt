@@ -6,11 +6,11 @@ use Rattle.yw_walk.proofs.items.finish_of.Goals as goal
 use Rattle.yw_walk.specs.Finds.{IsFound}
 
 pub returns-in-len1 : goal.returns-in-len1
-returns-in-len1 c = λ s plain out.
+returns-in-len1 c = λ s free idle out.
     let id = c.numbers.result.now in
     subst (IsFound s (case_number c.args.id.now)) (sym c.plainly.ensures)
     (record {
-      comes = finishes_at s plain c.args.id.now (get_or id 0 0)
-          (sym c.numbers.ensures.numbers ∙ one_number id c.in-len1.len_at_least c.in-len1.len_below) (out ∙ c.if-ends.true);
+      comes = finishes_at s c.args.id.now (get_or id 0 0)
+          (sym c.numbers.ensures.numbers ∙ one_number id c.in-len1.len_at_least c.in-len1.len_below) free idle (out ∙ c.if-ends.true);
       computed = refl;
     })

@@ -1,9 +1,9 @@
 use Rattle.std.proofs.Common.{subst, sym}
 use Rattle.yw_cases.proofs.Resting.{rested_done}
 use Rattle.yw_cases.proofs.cases.Cases.act.Goals as goal
-use Rattle.yw_cases.specs.State.{state_of}
-use Rattle.yw_cases.specs.Tried.{LeadsOn}
-use Rattle.yw_cases.specs.declared.standing.Standing.{Standing}
+use Rattle.yw_standing.specs.State.{state_of}
+use Rattle.yw_standing.specs.Tried.{LeadsOn}
+use Rattle.yw_standing.specs.declared.standing.Standing.{Standing}
 use Rattle.yw_walk.specs.Computed.{IsComputedOf}
 
 pub act-requires-clause-leads : goal.act-requires-clause-leads

@@ -1,7 +1,7 @@
 use Rattle.std.proofs.Common.{subst}
 use Rattle.yw_cases.proofs.cases.Cases.is_at_rest.Goals as goal
-use Rattle.yw_cases.specs.State.{state_of}
-use Rattle.yw_cases.specs.declared.standing.Standing.{Standing}
+use Rattle.yw_standing.specs.State.{state_of}
+use Rattle.yw_standing.specs.declared.standing.Standing.{Standing}
 use Rattle.yw_state.specs.Automatic.{IsQuiet}
 
 pub returns : goal.returns

@@ -2,8 +2,8 @@ use Rattle.std.proofs.Common.{IfOk, subst}
 use Rattle.std.specs.Prelude.{MatchOption}
 use Rattle.yw_cases.proofs.Resting.{found_so, rested_looked}
 use Rattle.yw_cases.proofs.cases.Cases.next_event.Goals as goal
-use Rattle.yw_cases.specs.State.{state_of}
-use Rattle.yw_cases.specs.declared.standing.Standing.{Standing}
+use Rattle.yw_standing.specs.State.{state_of}
+use Rattle.yw_standing.specs.declared.standing.Standing.{Standing}
 use Rattle.yw_state.specs.Automatic.{IsQuiet}
 use Rattle.yw_walk.specs.Finds.{IsFound}
 

@@ -1,8 +1,9 @@
 use Rattle.std.proofs.Common.{subst, sym}
 use Rattle.yw_cases.proofs.cases.Cases.of.Goals as goal
-use Rattle.yw_cases.specs.State.{MayStand, standing_of, state_of}
-use Rattle.yw_cases.specs.declared.standing.Standing.{Standing}
+use Rattle.yw_cases.specs.State.{MayStand, standing_of}
 use Rattle.yw_library.specs.Holdings.{Holdings}
+use Rattle.yw_standing.specs.State.{state_of}
+use Rattle.yw_standing.specs.declared.standing.Standing.{Standing}
 
 pub invariant_of-result : goal.invariant_of-result
 invariant_of-result c =

@@ -1,8 +1,8 @@
 use Rattle.std.proofs.Common.{◌∙◌, Bool, ap, subst, sym}
-use Rattle.yw_cases.specs.declared.standing.Standing.{Standing}
 use Rattle.yw_engine.proofs.engine.Engine.apply.Goals as goal
 use Rattle.yw_engine.specs.Decides.{IsApplied}
 use Rattle.yw_engine.specs.Held.{Held, state_of}
+use Rattle.yw_standing.specs.declared.standing.Standing.{Standing}
 use Rattle.yw_texts.specs.Texts.{reader}
 use Rattle.yw_state.specs.Events.{Leads}
 

@@ -3,8 +3,8 @@ use Rattle.yw_cases.specs.Tried.{MayAct, TellsComputed}
 use Rattle.yw_engine.proofs.Coming.{built_is_plain}
 use Rattle.yw_engine.proofs.work.Work.apply.Goals as goal
 
-pub may-requires : goal.may-requires
-may-requires c = built_is_plain c.args.event.now c.requires
+pub may-requires-clause-plain : goal.may-requires-clause-plain
+may-requires-clause-plain c = built_is_plain c.args.event.now c.requires.built
 
 pub returns-in_default-clause-applied : goal.returns-in_default-clause-applied
 returns-in_default-clause-applied c = (subst (TellsComputed c.args.self.now.standing c.args.event.now) c.in_default.is c.in_ok-computed.ensures, refl)

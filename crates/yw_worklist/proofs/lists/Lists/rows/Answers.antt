@@ -1,11 +1,12 @@
 use Rattle.std.proofs.Common.{◌++◌, ap, append_assoc, subst, sym, ◌∙◌}
 use Rattle.std.proofs.lemmas.Map.Iter.{rest_all, rest_more}
 use Rattle.std.specs.List.{flat_map}
+use Rattle.std.specs.Prelude.{is_some}
 use Rattle.yw_idents.specs.Idents.{lent}
 use Rattle.yw_sites.proofs.Each.{nil_right}
 use Rattle.yw_state.specs.Answers.{IsWorkList}
 use Rattle.yw_worklist.proofs.Keys.{ascending}
-use Rattle.yw_worklist.proofs.Listing.{WorkLaws, all_rows, no_rows}
+use Rattle.yw_worklist.proofs.Listing.{WorkLaws, all_rows}
 use Rattle.yw_worklist.proofs.lists.Lists.rows.Goals as goal
 use Rattle.yw_worklist.specs.Rows.{rows_at}
 
@@ -26,12 +27,11 @@ returns c = λ s listed.
     let ids = c.in_ok-at-items.at-items.keys in
     let are = sym (nil_right c.loop-at.rows) ∙ ap (λ z. c.loop-at.rows ++ flat_map f (lent z)) (sym none) ∙ c.loop-at.invariant
     ∙ ap (λ z. z ++ flat_map f (lent c.into_iter-at-iterator.result)) c.new-rows.ensures ∙ ap (λ z. flat_map f (lent z)) gives.0 in
-    subst (IsWorkList s c.args.who.now) (sym are)
-    (all_rows laws s c.args.self.now c.args.who.now listed c.in-Some.roles.now (lent ids) (c.in-Some.ensures ∙ listed.people c.args.who.now)
-    (ascending ids gives.4) c.in_ok-at-items.ensures)
+    let known = c.in-Some.ensures ∙ listed.people c.args.who.now in (
+      ap is_some (sym known),
+      subst (IsWorkList s c.args.who.now) (sym are)
+          (all_rows laws s c.args.self.now c.args.who.now listed c.in-Some.roles.now (lent ids) known (ascending ids gives.4) c.in_ok-at-items.ensures),
+    )
 
 pub returns-in_default : goal.returns-in_default
-returns-in_default c = λ s listed.
-    let laws : WorkLaws = record { work = c.work_is_open.ensures; held = c.held_is.ensures; ordered = c.rows_are_ordered.ensures } in
-    subst (IsWorkList s c.args.who.now) (sym c.new-rows.ensures)
-    (no_rows laws s c.args.self.now c.args.who.now listed (c.in_default.ensures ∙ listed.people c.args.who.now))
+returns-in_default c = λ s listed. ap is_some (sym (c.in_default.ensures ∙ listed.people c.args.who.now))

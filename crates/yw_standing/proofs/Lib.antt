@@ -1,0 +1,2 @@
+pub mod HereLaw
+pub mod Trying

@@ -1,0 +1,4 @@
+pub mod State
+pub mod Tried
+pub mod Here
+pub mod Held

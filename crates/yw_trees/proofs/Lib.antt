@@ -1,0 +1,9 @@
+pub mod OwnersLemmas
+pub mod PlaceLemmas
+pub mod HasOwner
+pub mod Same
+pub mod SlotLemmas
+pub mod Numbers
+pub mod Texts
+pub mod Right
+pub mod Rules

@@ -1,0 +1,4 @@
+pub mod Owners
+pub mod Placed
+pub mod Slots
+pub mod Grown
