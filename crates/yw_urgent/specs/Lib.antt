@@ -1,0 +1,4 @@
+pub mod Urgent
+pub mod Here
+pub mod Events
+pub mod Trees
