@@ -1,10 +1,10 @@
 -- What a completion breaks first behind the check that the case is quiet.
-use Rattle.std.proofs.Common.{Bool, List, None, Option, Some, ap, false, refl, subst, sym, true, ℕ, ◌∙◌, ◌≡◌}
+use Rattle.std.proofs.Common.{Bool, List, None, Option, Some, ap, refl, subst, true, ℕ, ◌∙◌, ◌≡◌}
 use Rattle.std.specs.Prelude.{Box, ◌||◌, drop, is_some, not, option_and_then, option_map, if◌then◌else◌}
 use Rattle.std.specs.declared.alloc.Global.{Global}
 use Rattle.yw_base.specs.Identity.{is_identity}
 use Rattle.yw_breaks.proofs.Joining.{then_rest}
-use Rattle.yw_breaks.proofs.Rows.{idle_row, last_place, test_row}
+use Rattle.yw_breaks.proofs.Rows.{last_place, test_row}
 use Rattle.yw_breaks.specs.Complete.{is_by_itself, most_broken}
 use Rattle.yw_breaks.specs.Tables.{complete_most}
 use Rattle.yw_library.specs.Held.{IsHeld}
@@ -13,9 +13,6 @@ use Rattle.yw_library.specs.Names.{names_of}
 use Rattle.yw_known.specs.declared.here.ItemHere.{ItemHere}
 use Rattle.yw_library.specs.Holdings.{Holdings}
 use Rattle.yw_nest.proofs.Known.{site_known}
-use Rattle.yw_plain.proofs.Words.{words}
-use Rattle.yw_plain.specs.Plain.{IsPlain}
-use Rattle.yw_state.proofs.Tests.{nowhere}
 use Rattle.yw_state.specs.Broken.{First, placed, placeless}
 use Rattle.yw_state.specs.Given.{misfit}
 use Rattle.yw_state.specs.Identity.{Ident}
@@ -24,8 +21,6 @@ use Rattle.yw_state.specs.Options.{is_some_and}
 use Rattle.yw_state.specs.State.{ItemAt, Site, State, item_at, net_part}
 use Rattle.yw_state.specs.Words as word
 use Rattle.yw_state.specs.declared.command.Given.{Given}
-use Rattle.yw_state.specs.declared.rule.Refusal.{Refusal}
-use Rattle.yw_state.specs.declared.rule.Rule.{Rule}
 use Rattle.yw_state.specs.declared.rule.Rule.TheVariants as rules
 use Rattle.yw_task.proofs.AskLaw.{asks_complete}
 use Rattle.yw_task.specs.Asked.{complete_fault, complete_shown}
@@ -45,9 +40,9 @@ itself s j y = not (is_atomic y.of_task.task) || is_some (net_part s j)
 abbrev misfit_at : List Given → ItemAt → Option (List ℕ)
 misfit_at gs y = misfit y.of_task.task.outs gs
 
-pub completes_first : (known : Holdings) (f : Forest) (s : State) (who : List ℕ) (j : Ident) (gs : List Given) (x : ItemHere) → IsHeld known f s → IsPlain s → IsItemHere known f s j x
-    → First (complete_most s who j gs) (most_broken who gs x)
-completes_first known f s who j gs x h plain here =
+pub completes_first : (known : Holdings) (f : Forest) (s : State) (who : List ℕ) (j : Ident) (gs : List Given) (x : ItemHere) → IsHeld known f s → IsItemHere known f s j x
+    → First (complete_most s who j gs) (most_broken who gs x (word.held s j))
+completes_first known f s who j gs x h here =
     let n = x.item.now in
     let rule = complete_fault n who in
     let identity : is_identity j ≡ true = subst (λ i. is_identity i ≡ true) here.identity here.stands.identity in
@@ -58,23 +53,7 @@ completes_first known f s who j gs x h plain here =
     (asks_complete n who (names_of known) f s (as_item_at known x) gs here.stands (ap (item_at s) here.identity ∙ here.at)) in
     let later = option_map (placed rules.Output) (misfit x.task.now.outs gs) in
     test_row (is_some_and (item_at s j) (itself s j)) (is_by_itself x) (ap (λ o. is_some_and o (itself s j)) here.at ∙ ap (λ b. not (is_atomic x.task.now) || b) net_there) rules.ByItself
-    (drop 1 (complete_most s who j gs)) (or_else later rule)
-    (idle_row (word.held s j) ((words s plain).held j) rules.Held (drop 2 (complete_most s who j gs)) (or_else later rule)
+    (drop 1 (complete_most s who j gs)) (if word.held s j then Some (placeless rules.Held) else or_else later rule)
+    (test_row (word.held s j) (word.held s j) refl rules.Held (drop 2 (complete_most s who j gs)) (or_else later rule)
     (then_rest (complete_shown s who j gs) (drop 5 (complete_most s who j gs)) rule later shown
     (λ none. last_place (option_and_then (misfit_at gs) (item_at s j)) (misfit x.task.now.outs gs) (ap (option_and_then (misfit_at gs)) here.at) rules.Output)))
-
--- ---- where none of these is broken, the item itself breaks nothing
-
-none_first : (later : Option Refusal) (o : Option Rule) → or_else later o ≡ None → o ≡ None
-none_first later None e = refl
-none_first later (Some r) e = nowhere (sym e)
-
-none_behind : (b : Bool) (refusal : Refusal) (o : Option Refusal) → (if b then Some refusal else o) ≡ None → o ≡ None
-none_behind true refusal o e = nowhere (sym e)
-none_behind false refusal o e = e
-
-pub none_shown : (who : List ℕ) (gs : List Given) (x : ItemHere) → most_broken who gs x ≡ None → complete_fault x.item.now who ≡ None
-none_shown who gs x e =
-    let later = option_map (placed rules.Output) (misfit x.task.now.outs gs) in
-    none_first later (complete_fault x.item.now who)
-    (none_behind (is_by_itself x) (placeless rules.ByItself) (or_else later (complete_fault x.item.now who)) e)

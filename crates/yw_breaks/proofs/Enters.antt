@@ -4,18 +4,17 @@ use Rattle.std.specs.Prelude.{drop, is_none, nat_lt, not, option_and_then, optio
 use Rattle.yw_base.specs.Identity.{number_end}
 use Rattle.yw_breaks.proofs.Held.{role_is}
 use Rattle.yw_breaks.proofs.Joining.{behind, in_front}
-use Rattle.yw_breaks.proofs.Rows.{broken_row, idle_row, place_row, rule_row}
-use Rattle.yw_breaks.specs.Enter.{EnterBreaks}
+use Rattle.yw_breaks.proofs.Rows.{broken_row, idle_row, place_row, rule_row, worker_rows}
+use Rattle.yw_breaks.specs.Enter.{EnterBreaks, EnterFinds}
+use Rattle.yw_breaks.specs.Finds.{ByHeld}
 use Rattle.yw_breaks.specs.Nets.{IsTaskNamed}
-use Rattle.yw_breaks.specs.Persons.{HasRoles, lacks_role, worker_rule}
+use Rattle.yw_breaks.specs.Persons.{HasRoles, PersonsDoAtomic, worker_rule}
 use Rattle.yw_breaks.specs.Tables.{enter_rest}
 use Rattle.yw_library.specs.Held.{IsHeld}
 use Rattle.yw_known.specs.Here.{IsNetHere, as_net_at}
 use Rattle.yw_library.specs.Names.{names_of}
 use Rattle.yw_known.specs.declared.here.NetHere.{NetHere}
 use Rattle.yw_library.specs.Holdings.{Holdings}
-use Rattle.yw_plain.proofs.Words.{words}
-use Rattle.yw_plain.specs.Plain.{IsPlain}
 use Rattle.yw_spec.specs.declared.task.Task.{Task}
 use Rattle.yw_state.proofs.Tests.{some_same}
 use Rattle.yw_state.specs.Broken as table
@@ -23,7 +22,7 @@ use Rattle.yw_state.specs.Broken.{First, enter_checks, has_role, is_spent, misse
 use Rattle.yw_state.specs.Identity.{Ident}
 use Rattle.yw_state.specs.Judged.{is_manual}
 use Rattle.yw_state.specs.Map.{get}
-use Rattle.yw_state.specs.Nets.{is_atomic, task_number}
+use Rattle.yw_state.specs.Nets.{task_number}
 use Rattle.yw_state.specs.Options.{is_some_and}
 use Rattle.yw_state.specs.Passing.{within_bounds}
 use Rattle.yw_state.specs.State.{NetAt, State, TaskAt, task_at, task_in}
@@ -32,7 +31,7 @@ use Rattle.yw_state.specs.declared.rule.Refusal.{Refusal}
 use Rattle.yw_state.specs.declared.rule.Rule.{Rule}
 use Rattle.yw_state.specs.declared.rule.Rule.TheVariants as rules
 use Rattle.yw_task.proofs.EnterAsk.{net_with, task_stands}
-use Rattle.yw_task.specs.Asked.{AsksEnter, enter_shown}
+use Rattle.yw_task.specs.Asked.{AsksEnter}
 use Rattle.yw_task.specs.Giving.{count_rule, entry_fault, entry_rows, undefined_entry}
 use Rattle.yw_tree.specs.declared.Forest.{Forest}
 use Rattle.yw_tree.specs.declared.NetState.{out-NetState}
@@ -57,26 +56,24 @@ lacks s who x = not (has_role (unwrap_or (get s.persons who) []) x.task.role)
 abbrev spent : State → TaskAt → Bool
 spent s x = is_spent s (length (entry_rows x.task x.within.part.vals))
 
-module _ (known : Holdings) (f : Forest) (s : State) (who : List ℕ) (roles : List (List ℕ)) (has : HasRoles known who roles) (i : Ident) (x : NetHere) (t next : ℕ) (task : Task) (h : IsHeld known f s) (plain : IsPlain s) (drawn : s.next ≡ next) (here : IsNetHere known f s i x) (at : slice_get x.net.now.tasks t ≡ Some task) where
+module _ (known : Holdings) (f : Forest) (s : State) (who : List ℕ) (roles : List (List ℕ)) (has : HasRoles known who roles) (i : Ident) (x : NetHere) (t next : ℕ) (task : Task) (h : IsHeld known f s) (manual : PersonsDoAtomic s) (drawn : s.next ≡ next) (here : IsNetHere known f s i x) (at : slice_get x.net.now.tasks t ≡ Some task) where
   abbrev its : TaskAt
   its = record { number = t; task = task; within = net_with (names_of known) x.net.now x.state.now }
 
-  pub stands : task_at s i task.name ≡ Some (record { number = t; task = task; within = net_with (names_of known) x.net.now x.state.now })
+  stands : task_at s i task.name ≡ Some (record { number = t; task = task; within = net_with (names_of known) x.net.now x.state.now })
   stands = task_stands (names_of known) f s i x.net.now x.state.now here.stands x.spec.now here.within t task at
 
   told : (p : TaskAt → Bool) → is_some_and (task_at s i task.name) p ≡ p (record { number = t; task = task; within = net_with (names_of known) x.net.now x.state.now })
   told p = ap (λ o. is_some_and o p) stands
 
-  worker : First (take 2 (drop 4 (enter_checks s who i task.name))) (option_map placeless (worker_rule roles task))
+  worker : First (take 3 (drop 4 (enter_checks s who i task.name))) (option_map placeless (worker_rule roles task (word.held s i)))
   worker =
-      rule_row (is_some_and (task_at s i task.name) (by_itself s)) (not (is_atomic task)) (told (by_itself s) ∙ ap not ((words s plain).manual its)) rules.ByItself
-      (test (is_some_and (task_at s i task.name) (lacks s who)) rules.Role ∷ []) (if lacks_role roles task then Some rules.Role else None)
-      (rule_row (is_some_and (task_at s i task.name) (lacks s who)) (lacks_role roles task) (told (lacks s who) ∙ role_is known f s h who roles has task) rules.Role [] None refl)
+      worker_rows roles task (word.held s i) (is_some_and (task_at s i task.name) (by_itself s)) (is_some_and (task_at s i task.name) (lacks s who))
+      (told (by_itself s) ∙ ap not (manual its))
+      (told (lacks s who) ∙ role_is known f s h who roles has task)
 
-  shown : (o : Option Rule) → AsksEnter x.net.now x.state.now t o → First (take 4 (drop 6 (enter_checks s who i task.name))) (option_map placeless o)
-  shown o asks =
-      idle_row (word.held s i) ((words s plain).held i) rules.Held (enter_shown s who i task.name) (option_map placeless o)
-      (asks (names_of known) f s i who x.spec.now task here.stands here.within at)
+  shown : (o : Option Rule) → AsksEnter x.net.now x.state.now t o → First (take 3 (drop 7 (enter_checks s who i task.name))) (option_map placeless o)
+  shown o asks = asks (names_of known) f s i who x.spec.now task here.stands here.within at
 
   later : First (drop 10 (enter_checks s who i task.name)) (entry_fault task (out-NetState x.state.now).vals next)
   later =
@@ -88,48 +85,58 @@ module _ (known : Holdings) (f : Forest) (s : State) (who : List ℕ) (roles : L
       (test (is_some_and (task_at s i task.name) (spent s)) rules.Numbers ∷ []) (if nat_lt number_end (next + count) then Some rules.Numbers else None)
       (rule_row (is_some_and (task_at s i task.name) (spent s)) (nat_lt number_end (next + count)) (told (spent s) ∙ ap (λ n. nat_lt number_end (n + count)) drawn) rules.Numbers [] None refl))
 
-  by_worker : (r : Rule) → worker_rule roles task ≡ Some r → First (drop 4 (enter_checks s who i task.name)) (Some (placeless r))
+  by_worker : (r : Rule) → worker_rule roles task (word.held s i) ≡ Some r → First (drop 4 (enter_checks s who i task.name)) (Some (placeless r))
   by_worker r e =
-      in_front (take 2 (drop 4 (enter_checks s who i task.name))) (drop 6 (enter_checks s who i task.name)) (placeless r)
-      (subst (λ (o : Option Rule). First (take 2 (drop 4 (enter_checks s who i task.name))) (option_map placeless o)) e worker)
+      in_front (take 3 (drop 4 (enter_checks s who i task.name))) (drop 7 (enter_checks s who i task.name)) (placeless r)
+      (subst (λ (o : Option Rule). First (take 3 (drop 4 (enter_checks s who i task.name))) (option_map placeless o)) e worker)
 
-  past_worker : worker_rule roles task ≡ None → (found : Option Refusal) → First (drop 6 (enter_checks s who i task.name)) found → First (drop 4 (enter_checks s who i task.name)) found
+  past_worker : worker_rule roles task (word.held s i) ≡ None → (found : Option Refusal) → First (drop 7 (enter_checks s who i task.name)) found
+      → First (drop 4 (enter_checks s who i task.name)) found
   past_worker e found g =
-      behind (take 2 (drop 4 (enter_checks s who i task.name))) (drop 6 (enter_checks s who i task.name)) found
-      (subst (λ (o : Option Rule). First (take 2 (drop 4 (enter_checks s who i task.name))) (option_map placeless o)) e worker) g
+      behind (take 3 (drop 4 (enter_checks s who i task.name))) (drop 7 (enter_checks s who i task.name)) found
+      (subst (λ (o : Option Rule). First (take 3 (drop 4 (enter_checks s who i task.name))) (option_map placeless o)) e worker) g
 
-  by_net : (r : Rule) → AsksEnter x.net.now x.state.now t (Some r) → First (drop 6 (enter_checks s who i task.name)) (Some (placeless r))
-  by_net r asks = in_front (take 4 (drop 6 (enter_checks s who i task.name))) (drop 10 (enter_checks s who i task.name)) (placeless r) (shown (Some r) asks)
+  by_net : (r : Rule) → AsksEnter x.net.now x.state.now t (Some r) → First (drop 7 (enter_checks s who i task.name)) (Some (placeless r))
+  by_net r asks = in_front (take 3 (drop 7 (enter_checks s who i task.name))) (drop 10 (enter_checks s who i task.name)) (placeless r) (shown (Some r) asks)
 
-  by_values : AsksEnter x.net.now x.state.now t None → First (drop 6 (enter_checks s who i task.name)) (entry_fault task (out-NetState x.state.now).vals next)
-  by_values asks = behind (take 4 (drop 6 (enter_checks s who i task.name))) (drop 10 (enter_checks s who i task.name)) (entry_fault task (out-NetState x.state.now).vals next) (shown None asks) later
+  by_values : AsksEnter x.net.now x.state.now t None → First (drop 7 (enter_checks s who i task.name)) (entry_fault task (out-NetState x.state.now).vals next)
+  by_values asks = behind (take 3 (drop 7 (enter_checks s who i task.name))) (drop 10 (enter_checks s who i task.name)) (entry_fault task (out-NetState x.state.now).vals next) (shown None asks) later
 
   pub known_task : (found : Option Refusal) → First (drop 4 (enter_checks s who i task.name)) found → First (enter_rest s who i task.name) found
   known_task found g = idle_row (is_none (task_at s i task.name)) (ap is_none stands) rules.UnknownTask (drop 4 (enter_checks s who i task.name)) found g
 
 -- ---- whatever the state
 
-module _ (roles : List (List ℕ)) (x : NetHere) (t next : ℕ) (u : Task) (mine : slice_get x.net.now.tasks t ≡ Some u) where
-  pub worker_breaks : (r : Rule) → worker_rule roles u ≡ Some r → EnterBreaks roles x t next (Some (placeless r))
-  worker_breaks r e = λ known who has f s i task h plain drawn here at.
-      by_worker known f s who roles has i x t next task h plain drawn here at r (ap (worker_rule roles) (sym (some_same u task (sym mine ∙ at))) ∙ e)
+module _ (f : Forest) (i : Ident) (roles : List (List ℕ)) (x : NetHere) (t next : ℕ) where
+  module _ (u : Task) (mine : slice_get x.net.now.tasks t ≡ Some u) where
+    same : (task : Task) → slice_get x.net.now.tasks t ≡ Some task → task ≡ u
+    same task at = sym (some_same u task (sym mine ∙ at))
 
-  pub net_breaks : worker_rule roles u ≡ None → (r : Rule) → AsksEnter x.net.now x.state.now t (Some r) → EnterBreaks roles x t next (Some (placeless r))
-  net_breaks e r asks = λ known who has f s i task h plain drawn here at.
-      past_worker known f s who roles has i x t next task h plain drawn here at (ap (worker_rule roles) (sym (some_same u task (sym mine ∙ at))) ∙ e) (Some (placeless r))
-      (by_net known f s who roles has i x t next task h plain drawn here at r asks)
+    -- what the task asks of the person, where it stands
+    asked : (o : Option Rule) → ByHeld f i (λ held. o ≡ worker_rule roles u held) → (task : Task) → slice_get x.net.now.tasks t ≡ Some task
+        → (known : Holdings) (s : State) → IsHeld known f s → worker_rule roles task (word.held s i) ≡ o
+    asked o asks task at known s h = ap (λ (z : Task). worker_rule roles z (word.held s i)) (same task at) ∙ sym (asks known s h)
 
-  pub values_break : worker_rule roles u ≡ None → AsksEnter x.net.now x.state.now t None → EnterBreaks roles x t next (entry_fault u (out-NetState x.state.now).vals next)
-  values_break e asks = λ known who has f s i task h plain drawn here at.
-      let same : task ≡ u = sym (some_same u task (sym mine ∙ at)) in
-      subst (λ (z : Task). First (drop 4 (enter_checks s who i task.name)) (entry_fault z (out-NetState x.state.now).vals next)) same
-      (past_worker known f s who roles has i x t next task h plain drawn here at (ap (worker_rule roles) same ∙ e) (entry_fault task (out-NetState x.state.now).vals next)
-      (by_values known f s who roles has i x t next task h plain drawn here at asks))
+    pub worker_breaks : (r : Rule) → ByHeld f i (λ held. Some r ≡ worker_rule roles u held) → EnterBreaks f i roles x t next (Some (placeless r))
+    worker_breaks r asks = λ known who has s task h manual drawn here at.
+        by_worker known f s who roles has i x t next task h manual drawn here at r (asked (Some r) asks task at known s h)
+
+    module _ (free : ByHeld f i (λ held. None ≡ worker_rule roles u held)) where
+      pub net_breaks : (r : Rule) → AsksEnter x.net.now x.state.now t (Some r) → EnterBreaks f i roles x t next (Some (placeless r))
+      net_breaks r asks = λ known who has s task h manual drawn here at.
+          past_worker known f s who roles has i x t next task h manual drawn here at (asked None free task at known s h) (Some (placeless r))
+          (by_net known f s who roles has i x t next task h manual drawn here at r asks)
+
+      pub values_break : AsksEnter x.net.now x.state.now t None → EnterBreaks f i roles x t next (entry_fault u (out-NetState x.state.now).vals next)
+      values_break asks = λ known who has s task h manual drawn here at.
+          subst (λ (z : Task). First (drop 4 (enter_checks s who i task.name)) (entry_fault z (out-NetState x.state.now).vals next)) (same task at)
+          (past_worker known f s who roles has i x t next task h manual drawn here at (asked None free task at known s h) (entry_fault task (out-NetState x.state.now).vals next)
+          (by_values known f s who roles has i x t next task h manual drawn here at asks))
 
   -- by the task's name
-  pub named_breaks : (name : List ℕ) → IsTaskNamed x.net.now name t → (found : Option Refusal) → EnterBreaks roles x t next found
-      → (known : Holdings) (who : List ℕ) → HasRoles known who roles
-      → (f : Forest) (s : State) (i : Ident) → IsHeld known f s → IsPlain s → s.next ≡ next → IsNetHere known f s i x → First (enter_rest s who i name) found
-  named_breaks name is found breaks known who has f s i h plain drawn here =
+  pub named_breaks : (name : List ℕ) → IsTaskNamed x.net.now name t → (found : Option Refusal) → EnterBreaks f i roles x t next found
+      → EnterFinds f roles x next i name found
+  named_breaks name is found breaks = λ known who has says s h manual drawn.
+      let here = says s h in
       subst (λ n. First (enter_rest s who i n) found) is.named
-      (known_task known f s who roles has i x t next is.task h plain drawn here is.at found (breaks known who has f s i is.task h plain drawn here is.at))
+      (known_task known f s who roles has i x t next is.task h manual drawn here is.at found (breaks known who has s is.task h manual drawn here is.at))

@@ -9,7 +9,6 @@ use Rattle.yw_library.specs.Held.{IsHeld}
 use Rattle.yw_known.specs.Here.{IsNetHere}
 use Rattle.yw_known.specs.declared.here.NetHere.{NetHere}
 use Rattle.yw_library.specs.Holdings.{Holdings}
-use Rattle.yw_plain.specs.Plain.{IsPlain}
 use Rattle.yw_spec.specs.declared.task.Task.{Task}
 use Rattle.yw_state.specs.Broken.{First, placed, placeless}
 use Rattle.yw_state.specs.Given.{element_value}
@@ -29,10 +28,11 @@ use Rattle.yw_tree.specs.declared.NetState.{NetState}
 abbrev pub is_dynamic : Task → Bool
 is_dynamic t = is_some_and t.many (λ m. m.dynamic)
 
--- the rules without a place, of who has these roles
-abbrev pub add_rule : List (List ℕ) → NetState → Task → ℕ → Option Rule
-add_rule roles state task t =
-    if not (is_dynamic task) then Some rules.NotDynamic else (if lacks_role roles task then Some rules.Role else room_rule state task t)
+-- the rules without a place, of who has these roles, by whether work in the net is held
+abbrev pub add_rule : List (List ℕ) → NetState → Task → ℕ → Bool → Option Rule
+add_rule roles state task t held =
+    if not (is_dynamic task) then Some rules.NotDynamic else
+    (if lacks_role roles task then Some rules.Role else (if held then Some rules.Held else room_rule state task t))
 
 abbrev pub lacks_element : Task → Option Value → Bool
 lacks_element task value = is_none (element_value task value)
@@ -46,9 +46,9 @@ abbrev pub value_fault : Task → Row → Option Value → ℕ → Option Refusa
 value_fault task vals value next =
     option_or (option_map (placed rules.BadData) (if lacks_element task value then Some (codes "value") else None)) (rest_fault task vals next)
 
--- wherever the net stands, whoever with these roles adds to its task with this number, where this number is drawn next
-abbrev pub AddBreaks : List (List ℕ) → NetHere → ℕ → Option Value → ℕ → Option Refusal → Type 0
-AddBreaks roles h t value next found =
+-- where the net stands at i in this forest, whoever with these roles adds to its task with this number, where this number is drawn next
+abbrev pub AddBreaks : Forest → Ident → List (List ℕ) → NetHere → ℕ → Option Value → ℕ → Option Refusal → Type 0
+AddBreaks f i roles h t value next found =
     (known : Holdings) (who : List ℕ) → HasRoles known who roles
-    → (f : Forest) (s : State) (i : Ident) (task : Task) → IsHeld known f s → IsPlain s → s.next ≡ next → IsNetHere known f s i h
+    → (s : State) (task : Task) → IsHeld known f s → s.next ≡ next → IsNetHere known f s i h
     → slice_get h.net.now.tasks t ≡ Some task → First (drop 1 (add_rest s who i task.name value)) found

@@ -3,9 +3,9 @@ use Rattle.std.specs.Prelude.{◌+◌, ◌≡◌, ℕ, List, None, Option, Some,
 use Rattle.std.specs.List.{All}
 use Rattle.std.specs.declared.alloc.Global.{Global}
 use Rattle.yw_base.specs.Identity.{number_end}
-use Rattle.yw_breaks.specs.Finds.{FindsNext}
+use Rattle.yw_breaks.specs.Finds.{FindsManual}
 use Rattle.yw_breaks.specs.Nets.{IsTaskNamed}
-use Rattle.yw_breaks.specs.Persons.{HasRoles}
+use Rattle.yw_breaks.specs.Persons.{HasRoles, PersonsDoAtomic}
 use Rattle.yw_breaks.specs.Tables.{enter_rest}
 use Rattle.yw_breaks.specs.declared.asked.EntryAsked.{EntryAsked}
 use Rattle.yw_library.specs.Held.{IsHeld}
@@ -14,7 +14,6 @@ use Rattle.yw_known.specs.declared.here.NetHere.{NetHere}
 use Rattle.yw_library.specs.Holdings.{Holdings}
 use Rattle.yw_mark.specs.Taking.{Chooses, HasTokens, OfTask}
 use Rattle.yw_mark.specs.declared.join.Taken.{Taken}
-use Rattle.yw_plain.specs.Plain.{IsPlain}
 use Rattle.yw_spec.specs.declared.task.Param.{Param}
 use Rattle.yw_spec.specs.declared.task.Task.{Task}
 use Rattle.yw_state.specs.Broken.{First, enter_checks}
@@ -33,11 +32,11 @@ use Rattle.yw_tree.specs.declared.NetState.{out-NetState}
 abbrev pub IsFed : Task → Type 0
 IsFed task = All (λ (p : Param). p.value ≡ None → is_some task.many ≡ true) task.ins
 
--- wherever the net stands, whoever with these roles enters its task with this number, where this number is drawn next
-abbrev pub EnterBreaks : List (List ℕ) → NetHere → ℕ → ℕ → Option Refusal → Type 0
-EnterBreaks roles h t next found =
+-- where the net stands at i in this forest, whoever with these roles enters its task with this number, where this number is drawn next
+abbrev pub EnterBreaks : Forest → Ident → List (List ℕ) → NetHere → ℕ → ℕ → Option Refusal → Type 0
+EnterBreaks f i roles h t next found =
     (known : Holdings) (who : List ℕ) → HasRoles known who roles
-    → (f : Forest) (s : State) (i : Ident) (task : Task) → IsHeld known f s → IsPlain s → s.next ≡ next → IsNetHere known f s i h
+    → (s : State) (task : Task) → IsHeld known f s → PersonsDoAtomic s → s.next ≡ next → IsNetHere known f s i h
     → slice_get h.net.now.tasks t ≡ Some task → First (drop 4 (enter_checks s who i task.name)) found
 
 -- ---- a task that may be entered
@@ -81,24 +80,23 @@ pub record IsEnterable (h : NetHere) (t next : ℕ) (taken : Taken) (rows : List
   pub fit : ItemsFit task (out-NetState h.state.now).vals next
   pub gives : rows ≡ entry_rows task (out-NetState h.state.now).vals
 
--- so it is, and no rule is broken wherever the net stands; or this is the first that is
-abbrev pub EntersBy : List (List ℕ) → NetHere → ℕ → ℕ → Result (Taken × Vec Row Global) Refusal → Type 0
-EntersBy roles h t next (Ok p) = EnterBreaks roles h t next None × IsEnterable h t next p.0 p.1.items
-EntersBy roles h t next (Err refusal) = EnterBreaks roles h t next (Some refusal)
+-- so it is, and no rule is broken where the net stands at i; or this is the first that is
+abbrev pub EntersBy : Forest → Ident → List (List ℕ) → NetHere → ℕ → ℕ → Result (Taken × Vec Row Global) Refusal → Type 0
+EntersBy f i roles h t next (Ok p) = EnterBreaks f i roles h t next None × IsEnterable h t next p.0 p.1.items
+EntersBy f i roles h t next (Err refusal) = EnterBreaks f i roles h t next (Some refusal)
 
--- this is the first of the checks behind that is broken, wherever the net stands, whoever with these roles enters its task of this name
-abbrev pub EnterFinds : List (List ℕ) → NetHere → ℕ → List ℕ → Option Refusal → Type 0
-EnterFinds roles h next name found =
-    (known : Holdings) (f : Forest) (who : List ℕ) (i : Ident) → HasRoles known who roles → SaysNet known f i h
-    → FindsNext known f next (λ s. enter_rest s who i name) found
+-- this is the first of the checks behind that is broken, where the net stands at i, whoever with these roles enters its task of this name
+abbrev pub EnterFinds : Forest → List (List ℕ) → NetHere → ℕ → Ident → List ℕ → Option Refusal → Type 0
+EnterFinds f roles h next i name found =
+    (known : Holdings) (who : List ℕ) → HasRoles known who roles → SaysNet known f i h → FindsManual known f next (λ s. enter_rest s who i name) found
 
 -- None is broken. The task of this name may be entered so.
-pub record IsEntryAsked (roles : List (List ℕ)) (h : NetHere) (next : ℕ) (name : List ℕ) (x : EntryAsked) : Type 0 where
-  pub unbroken : EnterFinds roles h next name None
+pub record IsEntryAsked (f : Forest) (roles : List (List ℕ)) (h : NetHere) (next : ℕ) (i : Ident) (name : List ℕ) (x : EntryAsked) : Type 0 where
+  pub unbroken : EnterFinds f roles h next i name None
   pub named : IsTaskNamed h.net.now name x.task
   pub enterable : IsEnterable h x.task next x.taken x.rows.items
 
 -- so it is, or this is the first that is
-abbrev pub EnterMakes : List (List ℕ) → NetHere → ℕ → List ℕ → Result EntryAsked Refusal → Type 0
-EnterMakes roles h next name (Ok x) = IsEntryAsked roles h next name x
-EnterMakes roles h next name (Err refusal) = EnterFinds roles h next name (Some refusal)
+abbrev pub EnterMakes : Forest → List (List ℕ) → NetHere → ℕ → Ident → List ℕ → Result EntryAsked Refusal → Type 0
+EnterMakes f roles h next i name (Ok x) = IsEntryAsked f roles h next i name x
+EnterMakes f roles h next i name (Err refusal) = EnterFinds f roles h next i name (Some refusal)

@@ -44,15 +44,15 @@ abbrev pub FindsAdd : Holdings → Forest → ℕ → List ℕ → Ident → Lis
 FindsAdd known f next who i t value (Ok e) = FindsNext known f next (λ s. add_rest s who i t value) None × AddAsks known f next who i t value e
 FindsAdd known f next who i t value (Err refusal) = FindsNext known f next (λ s. add_rest s who i t value) (Some refusal)
 
--- so it is wherever the net stands, whoever with these roles adds to its task of this name
-abbrev pub AddMakes : List (List ℕ) → NetHere → ℕ → Ident → List ℕ → Option Value → Result Event Refusal → Type 0
-AddMakes roles h next i t value made =
-    (known : Holdings) (f : Forest) (who : List ℕ) → HasRoles known who roles → SaysNet known f i h → FindsAdd known f next who i t value made
+-- so it is where the net stands at i, whoever with these roles adds to its task of this name
+abbrev pub AddMakes : Forest → List (List ℕ) → NetHere → ℕ → Ident → List ℕ → Option Value → Result Event Refusal → Type 0
+AddMakes f roles h next i t value made =
+    (known : Holdings) (who : List ℕ) → HasRoles known who roles → SaysNet known f i h → FindsAdd known f next who i t value made
 
 -- so it is of the event that is found, and the net's task of this name has this number; or it is refused
-abbrev pub AddFinds : List (List ℕ) → NetHere → ℕ → Ident → List ℕ → Option Value → Result AddAsked Refusal → Type 0
-AddFinds roles h next i t value (Ok x) = AddMakes roles h next i t value (Ok x.event) × IsTaskNamed h.net.now t x.task
-AddFinds roles h next i t value (Err refusal) = AddMakes roles h next i t value (Err refusal)
+abbrev pub AddFinds : Forest → List (List ℕ) → NetHere → ℕ → Ident → List ℕ → Option Value → Result AddAsked Refusal → Type 0
+AddFinds f roles h next i t value (Ok x) = AddMakes f roles h next i t value (Ok x.event) × IsTaskNamed h.net.now t x.task
+AddFinds f roles h next i t value (Err refusal) = AddMakes f roles h next i t value (Err refusal)
 
 -- in each state that is held the completion asks for the event with these values
 abbrev pub CompleteMakes : Holdings → Forest → Ident → List Given → Row → Type 0

@@ -1,6 +1,6 @@
 -- What is found, whatever the state is that is held.
-use Rattle.std.specs.Prelude.{◌≡◌, ℕ, List, None, Option, Some, Result, Ok, Err}
-use Rattle.yw_breaks.specs.Persons.{HasRoles}
+use Rattle.std.specs.Prelude.{◌≡◌, ℕ, Bool, List, None, Option, Some, Result, Ok, Err}
+use Rattle.yw_breaks.specs.Persons.{HasRoles, PersonsDoAtomic}
 use Rattle.yw_breaks.specs.declared.asked.ItemAsked.{ItemAsked}
 use Rattle.yw_breaks.specs.declared.asked.NetAsked.{NetAsked}
 use Rattle.yw_breaks.specs.declared.asked.SpecAsked.{SpecAsked}
@@ -8,10 +8,10 @@ use Rattle.yw_library.specs.Held.{IsHeld}
 use Rattle.yw_known.specs.Here.{SaysItem, SaysNet}
 use Rattle.yw_library.specs.Holdings.{Holdings, IsKept}
 use Rattle.yw_texts.specs.Texts.{reader}
-use Rattle.yw_plain.specs.Plain.{IsPlain}
 use Rattle.yw_state.specs.Broken.{Breaks, Check, First, placeless}
 use Rattle.yw_state.specs.Identity.{Ident}
 use Rattle.yw_state.specs.State.{State}
+use Rattle.yw_state.specs.Words.{held}
 use Rattle.yw_state.specs.declared.command.Command.{Command}
 use Rattle.yw_state.specs.declared.command.Command.TheVariants as commands
 use Rattle.yw_state.specs.declared.command.Given.{Given}
@@ -45,13 +45,17 @@ abbrev pub FindsNet : Holdings → Forest → (State → List Check) → List �
 FindsNet known f table who i (Ok x) = AsksNet known f table who i x
 FindsNet known f table who i (Err rule) = Finds known f table (Some (placeless rule))
 
--- in each that is plain too
-abbrev pub FindsPlain : Holdings → Forest → (State → List Check) → Option Refusal → Type 0
-FindsPlain known f table found = (s : State) → IsHeld known f s → IsPlain s → First (table s) found
-
--- and in which this number is drawn next
+-- in each in which this number is drawn next
 abbrev pub FindsNext : Holdings → Forest → ℕ → (State → List Check) → Option Refusal → Type 0
-FindsNext known f next table found = (s : State) → IsHeld known f s → IsPlain s → s.next ≡ next → First (table s) found
+FindsNext known f next table found = (s : State) → IsHeld known f s → s.next ≡ next → First (table s) found
+
+-- and in which persons do each atomic task
+abbrev pub FindsManual : Holdings → Forest → ℕ → (State → List Check) → Option Refusal → Type 0
+FindsManual known f next table found = (s : State) → IsHeld known f s → PersonsDoAtomic s → s.next ≡ next → First (table s) found
+
+-- in each state that is held this is so of whether work at j is held
+abbrev pub ByHeld : Forest → Ident → (Bool → Type 0) → Type 0
+ByHeld f j P = (known : Holdings) (s : State) → IsHeld known f s → P (held s j)
 
 -- ---- a launch
 

@@ -11,12 +11,13 @@ use crate::nets::task_named;
 use crate::persons::worker_rule;
 use crate::refusals::{mapping, placeless};
 use std::alloc::{AllocError, Global};
-use yw_base::{Name, NameList, Row};
+use yw_base::{Ident, Name, NameList, Row};
 use yw_known::NetHere;
 use yw_mark::{Taken, join_choice};
 use yw_spec::{Param, Task};
 use yw_state::{Refusal, Rule};
 use yw_task::{count_rule, entry_values, first_lacking, is_active, lacks_list, or_waits, task_at};
+use yw_tree::Forest;
 
 /// The refusal of an entry of which something is undefined, where a parameter without an expression is given an element: at `each`, or at the first such
 /// parameter. An `Err` says that no memory was left.
@@ -88,21 +89,23 @@ fn choice_of(here: &NetHere<'_>, t: usize) -> Result<Taken, Rule>
     Ok(taken)
 }
 
-/// From where the join of the task with this number takes, and what its items are given, where who has these roles may enter the task; else the
-/// first rule that this breaks.
+/// From where the join of the task with this number takes, and what its items are given, where who has these roles may enter the task of this net;
+/// else the first rule that this breaks.
 fn enter_by(
     alloc: Global,
+    forest: &Forest,
     roles: &NameList,
     here: &NetHere<'_>,
     t: usize,
     next: u64,
+    at: &Ident,
 ) -> Result<Result<(Taken, Vec<Row>), Refusal>, AllocError>
     requires task { t < length here.now.net.now.tasks }
     requires within { IsWithinHere here.now }
-    ensures { IfOk result (EntersBy roles.now here.now t next) }
+    ensures { IfOk result (EntersBy forest.now at.now roles.now here.now t next) }
 {
     let task = task_at(here.net, t);
-    if let Some(rule) = worker_rule(roles, task) {
+    if let Some(rule) = worker_rule(forest, roles, task, at) {
         return Ok(Err(placeless(alloc, rule)));
     }
     match choice_of(here, t) {
@@ -114,25 +117,28 @@ fn enter_by(
     }
 }
 
-/// The task that is entered at this net, with the choice of its join and what its items are given, where none of the rules is broken that are tried behind, in a state without
-/// rules, suspensions and runs. Else the first that is: `UnknownTask` where the net has no task of this name; `ByItself` where the task isn't
-/// atomic; `Role` where the person, who has these roles, lacks its role; `Active` where items of it stand there; `NotEnabled` where its join lacks
-/// tokens; `OrWaits` where it is an OR-join that waits; `Mapping` where the list over which it runs is undefined, at `each`, or what an item is
-/// given, at the name of the first such parameter; `Count` where the items would be too few or too many; `Numbers` where so many numbers aren't
-/// left, of which `next` is drawn next. `Held` never comes yet. An `Err` says that no memory was left.
+/// The task that is entered at this net, with the choice of its join and what its items are given, where none of the rules is broken that are
+/// tried behind, in a state in which persons do each atomic task. Else the first that is: `UnknownTask` where the net has no task of this name;
+/// `ByItself` where the task isn't atomic; `Role` where the person, who has these roles, lacks its role; `Held` where work in the net is held;
+/// `Active` where items of the task stand there; `NotEnabled` where its join lacks tokens; `OrWaits` where it is an OR-join that waits; `Mapping`
+/// where the list over which it runs is undefined, at `each`, or what an item is given, at the name of the first such parameter; `Count` where the
+/// items would be too few or too many; `Numbers` where so many numbers aren't left, of which `next` is drawn next. An `Err` says that no memory was
+/// left.
 pub fn enter_asked(
     alloc: Global,
+    forest: &Forest,
     roles: &NameList,
     here: &NetHere<'_>,
     next: u64,
+    at: &Ident,
     name: &Name,
 ) -> Result<Result<EntryAsked, Refusal>, AllocError>
     requires { IsWithinHere here.now }
-    ensures { IfOk result (EnterMakes roles.now here.now next name.now) }
+    ensures { IfOk result (EnterMakes forest.now roles.now here.now next at.now name.now) }
 {
     match task_named(here.net, name) {
         None => Ok(Err(placeless(alloc, Rule::UnknownTask))),
-        Some(task) => match enter_by(alloc, roles, here, task, next)? {
+        Some(task) => match enter_by(alloc, forest, roles, here, task, next, at)? {
             Ok((taken, rows)) => Ok(Ok(EntryAsked { task, taken, rows })),
             Err(refusal) => Ok(Err(refusal)),
         },

@@ -8,6 +8,7 @@ mod complete;
 mod enter;
 mod events;
 mod front;
+mod hold;
 mod launch;
 pub mod laws;
 mod nets;

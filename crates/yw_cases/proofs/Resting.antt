@@ -6,11 +6,8 @@ use Rattle.yw_cases.specs.Rested.{StandsRested}
 use Rattle.yw_cases.specs.Said.{TellsLoaded}
 use Rattle.yw_library.specs.Held.{IsHeld}
 use Rattle.yw_library.specs.Holdings.{Holdings}
-use Rattle.yw_loose.proofs.Counting.{followed_right}
-use Rattle.yw_loose.proofs.Following.{leaves_follows}
-use Rattle.yw_loose.proofs.Moving.{fewer, nothing_more, rested_after}
-use Rattle.yw_loose.specs.Counts.{Follows}
-use Rattle.yw_loose.specs.Loose.{IsRested, Loosens}
+use Rattle.yw_loose.proofs.Behind.{load_rested}
+use Rattle.yw_loose.specs.Loose.{IsRested}
 use Rattle.yw_loose.specs.Next.{FindsLoose, StaysRested}
 use Rattle.yw_loose.specs.declared.loose.Loose.{Loose}
 use Rattle.yw_standing.proofs.Trying.{next_is}
@@ -18,41 +15,33 @@ use Rattle.yw_standing.specs.State.{state_of}
 use Rattle.yw_standing.specs.Tried.{IsDone}
 use Rattle.yw_standing.specs.declared.standing.Standing.{Standing}
 use Rattle.yw_texts.specs.Texts.{reader}
-use Rattle.yw_moved.specs.Moved.{is_moved}
-use Rattle.yw_plain.specs.Plain.{IsPlain, is_plain_event}
+use Rattle.yw_plain.specs.Plain.{is_plain_event}
 use Rattle.yw_state.specs.Automatic.{IsQuiet}
 use Rattle.yw_state.specs.Events.{Leads}
 use Rattle.yw_state.specs.State.{State}
 use Rattle.yw_state.specs.Well.{IsWell}
 use Rattle.yw_state.specs.declared.event.Event.{Event}
 use Rattle.yw_state.specs.declared.event.Event.TheVariants as events
-use Rattle.yw_walk.specs.Finds.{IsFound, StandsFor}
+use Rattle.yw_walk.proofs.Calm.{plain_is_calm}
+use Rattle.yw_walk.specs.Finds.{IsFound, StandsCalm}
 use Rattle.yw_walk.specs.declared.found.Found.{Found}
 
 module _ (old : Standing) (before : Loose) (is : StandsRested old before) where
   -- whatever says so of a state before the event and one after it
   pub rested_done : (e : Event) (new : Standing) (now : Loose) → is_plain_event e ≡ true → IsDone old e new
-      → ((known : Holdings) (s t : State) → IsWell reader s → IsHeld known new.forest t → IsPlain s → is_plain_event e ≡ true → Leads reader s e t
-      → IsRested s before → IsRested t now)
+      → ((known : Holdings) (s t : State) → IsWell reader s → IsHeld known new.forest t → Leads reader s e t → IsRested s before → IsRested t now)
       → StandsRested new now
   rested_done e new now plain done moved =
       let stands = done_stands old is.stands e new plain done in
       record {
         stands = stands;
-        rested = moved new.known (state_of old) (state_of new) is.stands.held.well stands.held is.stands.plain plain done.leads is.rested;
+        rested = moved new.known (state_of old) (state_of new) is.stands.held.well stands.held done.leads is.rested;
       }
 
   -- a load sets nothing moving, and completes nothing
   pub rested_load : (name text : List ℕ) (new : Standing) → IsDone old (events.Load name text) new → StandsRested new before
   rested_load name text new done =
-      let e : Event = events.Load name text in
-      let moves : Loosens before before (is_moved e) = fewer before before (λ j. false) (is_moved e) (nothing_more before) (λ j identity m. m) in
-      let follows : Follows new.forest e before.counts before.counts =
-      leaves_follows new.forest e before.counts before.counts refl (record { had = λ i v at. at; stays = λ i v identity at. refl }) in
-      rested_done e new before refl done
-      (λ known s t well held plain is_plain leads rested.
-      rested_after before before before.counts s t e well held.well plain is_plain leads
-      (followed_right new.forest e before.counts before.counts refl follows known s t well held plain is_plain leads rested.counted) moves rested)
+      rested_done (events.Load name text) new before refl done (λ known s t well held leads rested. load_rested known new.forest s t name text before well held leads rested)
 
   pub rested_same : (new : Standing) → new ≡ old → StandsRested new before
   rested_same new same = subst (λ (h : Standing). StandsRested h before) (sym same) is
@@ -64,13 +53,13 @@ module _ (old : Standing) (before : Loose) (is : StandsRested old before) where
 
   -- ---- a look
 
-  stands_for : StandsFor old.known old.forest old.next (state_of old)
-  stands_for = record { held = is.stands.held; plain = is.stands.plain; drawn = next_is old }
+  stands_calm : (n : ℕ) → StandsCalm old.known old.forest old.next n (state_of old)
+  stands_calm n = plain_is_calm old.known old.forest old.next n (state_of old) is.stands.held is.stands.plain (next_is old)
 
-  pub rested_looked : (now : Loose) → StaysRested old.known old.forest old.next before now → StandsRested old now
-  rested_looked now stays = record { stands = is.stands; rested = stays (state_of old) stands_for is.rested }
+  pub rested_looked : (n : ℕ) (now : Loose) → StaysRested old.known old.forest n old.next before now → StandsRested old now
+  rested_looked n now stays = record { stands = is.stands; rested = stays (state_of old) (stands_calm n) is.rested }
 
   pub found_so : {E : Type 0} (n : ℕ) (result : Result (Option Found) E) → IfOk result (FindsLoose old.known old.forest n old.next before)
       → IfOk result (λ found. MatchOption found (IsQuiet (state_of old) n) (IsFound (state_of old) n))
-  found_so n (Ok found) finds = finds (state_of old) stands_for is.rested
+  found_so n (Ok found) finds = finds (state_of old) (stands_calm n) is.rested
   found_so n (Err fault) finds = tt

@@ -23,7 +23,8 @@ use Rattle.yw_state.specs.declared.event.Event.TheVariants as events
 use Rattle.yw_tree.specs.declared.Forest.{Forest}
 use Rattle.yw_turns.proofs.Entries.{no_text_of}
 use Rattle.yw_walk.specs.Computed.{IsComputedOf}
-use Rattle.yw_walk.specs.Finds.{FindsNext, IsFound, StandsFor, TellsQuiet}
+use Rattle.yw_walk.proofs.Calm.{plain_is_calm}
+use Rattle.yw_walk.specs.Finds.{FindsNext, IsFound, StandsCalm, TellsQuiet}
 use Rattle.yw_walk.specs.declared.found.Found.{Found}
 
 -- ---- what is built
@@ -92,12 +93,12 @@ module _ (h : Standing) (may : MayStand h) (n : ℕ) where
   -- what is found by the walk over the case, by the parts that are read
   module _ (known : Holdings) (f : Forest) (next : ℕ) (same : known ≡ h.known) (same_forest : f ≡ h.forest) (same_next : next ≡ h.next)
     where
-      stands_for : StandsFor known f next (state_of h)
-      stands_for = record { held = held_by h known f same same_forest may; plain = may.plain; drawn = next_of h next same_next }
+      stands_calm : StandsCalm known f next n (state_of h)
+      stands_calm = plain_is_calm known f next n (state_of h) (held_by h known f same same_forest may) may.plain (next_of h next same_next)
 
       walked : (found : Option Found) → FindsNext known f n next found → IsNext h n found
-      walked None finds = (finds (state_of h) stands_for).1
-      walked (Some w) finds = coming w (finds (state_of h) stands_for)
+      walked None finds = (finds (state_of h) stands_calm).1
+      walked (Some w) finds = coming w (finds (state_of h) stands_calm)
 
       pub walked_by : {E : Type 0} (result : Result (Option Found) E) → IfOk result (FindsNext known f n next) → IfOk result (IsNext h n)
       walked_by (Ok found) finds = walked found finds
@@ -105,7 +106,7 @@ module _ (h : Standing) (may : MayStand h) (n : ℕ) where
 
       pub quiet_by : {E : Type 0} (result : Result Bool E) → IfOk result (TellsQuiet known f n next)
           → IfOk result (λ quiet. IsTrue quiet ↔ IsQuiet (state_of h) n)
-      quiet_by (Ok quiet) tells = tells (state_of h) stands_for
+      quiet_by (Ok quiet) tells = tells (state_of h) stands_calm
       quiet_by (Err fault) tells = tt
 
   -- what is found by what is loose

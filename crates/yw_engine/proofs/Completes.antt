@@ -1,18 +1,21 @@
 -- What a completion breaks, and the event that it asks for, by what is held.
-use Rattle.std.proofs.Common.{◌<◌, ◌≡◌, ◌∙◌, List, Ok, Option, Some, None, ap, false, length, refl, sym, true, ℕ}
+use Rattle.std.proofs.Common.{◌<◌, ◌≡◌, ◌∙◌, List, Ok, Option, Some, None, ap, false, length, refl, subst, sym, true, ℕ}
 use Rattle.std.specs.Prelude.{[], drop, option_and_then, option_map}
 use Rattle.yw_asked.proofs.ItemsAsked as items
 use Rattle.yw_asked.proofs.Unbroken.{none_broken}
 use Rattle.yw_breaks.proofs.Joining as joining
 use Rattle.yw_breaks.proofs.Whole as whole
 use Rattle.yw_breaks.specs.Events.{CompleteMakes}
+use Rattle.yw_breaks.specs.Finds.{Finds}
 use Rattle.yw_breaks.specs.Tables.{complete_most, complete_rest}
 use Rattle.yw_built.specs.Built.{is_built}
 use Rattle.yw_cases.specs.State.{MayStand}
 use Rattle.yw_cases.specs.Tried.{is_apart}
 use Rattle.yw_engine.proofs.Commands.{IsBuiltOf, as_asked, of_kind}
+use Rattle.yw_engine.proofs.Parts.{held_by}
 use Rattle.yw_engine.specs.Decides.{Makes}
 use Rattle.yw_known.specs.Here.{IsItemHere, SaysItem, as_item_at, as_net_at}
+use Rattle.yw_library.specs.Holdings.{Holdings}
 use Rattle.yw_library.specs.Names.{names_of}
 use Rattle.yw_known.specs.declared.here.ItemHere.{ItemHere}
 use Rattle.yw_standing.specs.State.{state_of}
@@ -69,6 +72,12 @@ module _ (h : Standing) (may : MayStand h) (who : List ℕ) (j : Ident) (gs : Li
   fits_all first = (none_broken (complete_most s who j gs) first).1.1.1.1.1.0
 
   module _ (w : ItemHere) (says : SaysItem h.known h.forest j w) where
+    -- what is found of the forest that is read is so of the state
+    pub most_is : (f : Forest) → f ≡ h.forest → (found : Option Refusal)
+        → ((known : Holdings) (i : Ident) → SaysItem known f i w → Finds known f (λ z. complete_most z who i gs) found) → First (complete_most s who j gs) found
+    most_is f same found finds =
+        finds h.known j (subst (λ (g : Forest). SaysItem h.known g j w) (sym same) says) s (held_by h h.known f refl same may)
+
     here : IsItemHere h.known h.forest s j w
     here = says s may.held
 

@@ -38,8 +38,17 @@ fn add_here(
     if let Some(refusal) = breaks_quiet(work.alloc, quiet) {
         return Err(EngineFault::Refused(refusal));
     }
-    let (here, next) = (&asked.here, work.standing.next());
-    match add_asked(work.alloc, asked.roles, here, next, net, task, value)? {
+    let (forest, here, next) = (work.standing.forest(), &asked.here, work.standing.next());
+    match add_asked(
+        work.alloc,
+        forest,
+        asked.roles,
+        here,
+        next,
+        net,
+        task,
+        value,
+    )? {
         Ok(found) => Ok(Numbered {
             event: found.event,
             number: found.task,

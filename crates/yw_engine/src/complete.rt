@@ -37,7 +37,7 @@ fn complete_here(
     if let Some(refusal) = breaks_quiet(work.alloc, quiet) {
         return Err(EngineFault::Refused(refusal));
     }
-    if let Some(refusal) = complete_most(work.alloc, here, who, given)? {
+    if let Some(refusal) = complete_most(work.alloc, work.standing.forest(), here, who, given)? {
         return Err(EngineFault::Refused(refusal));
     }
     let out = complete_values(work.alloc, here, given)?;

@@ -40,8 +40,8 @@ fn enter_here(
     if let Some(refusal) = breaks_quiet(work.alloc, quiet) {
         return Err(EngineFault::Refused(refusal));
     }
-    let (here, next) = (&asked.here, work.standing.next());
-    match enter_asked(work.alloc, asked.roles, here, next, task)? {
+    let (forest, here, next) = (work.standing.forest(), &asked.here, work.standing.next());
+    match enter_asked(work.alloc, forest, asked.roles, here, next, at, task)? {
         Ok(entry) => {
             let EntryAsked { task, taken, rows } = entry;
             Ok(entry_of(work.alloc, here, at, next, task, taken, rows)?)

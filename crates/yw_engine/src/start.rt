@@ -18,12 +18,12 @@ fn start_breaks(work: &Work, who: &Name, item: &Ident, quiet: bool) -> Option<Re
     requires rest { TellsRestFor work.now.standing who.now (case_number item.now) quiet }
     ensures { BreaksNow work.now.standing (commands.Start who.now item.now) result }
 {
-    let standing = &work.standing;
-    match item_front(standing.known(), standing.forest(), who, item) {
+    let (known, forest) = (work.standing.known(), work.standing.forest());
+    match item_front(known, forest, who, item) {
         Err(rule) => Some(placeless(work.alloc, rule)),
         Ok(asked) => match breaks_quiet(work.alloc, quiet) {
             Some(refusal) => Some(refusal),
-            None => start_rest(work.alloc, asked.roles, &asked.here),
+            None => start_rest(work.alloc, forest, asked.roles, &asked.here),
         },
     }
 }

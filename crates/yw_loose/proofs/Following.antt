@@ -1,14 +1,17 @@
 -- What becomes of counts behind an event, step by step.
 use Rattle.std.specs.BTreeMap.{Updates, is_at}
-use Rattle.std.specs.Prelude.{◌≡◌, ◌≤◌, ◌<◌, ◌+◌, ◌==◌, ◌&&◌, ℕ, Bool, IfSome, IsSome, List, None, Option, Some, Vec, cond, false, length, slice_get, true}
+use Rattle.std.specs.Map.{lookup}
+use Rattle.std.specs.Prelude.{◌≡◌, ◌≤◌, ◌<◌, ◌+◌, ◌==◌, ◌&&◌, ℕ, Bool, IfSome, IsSome, List, None, Option, Some, Vec, cond, false, filter, length, not, slice_get, true}
 use Rattle.std.specs.declared.alloc.Global.{Global}
 use Rattle.std.proofs.Common.{ap, arith, inl, inr, set, subst, sym, ◌∙◌}
-use Rattle.std.proofs.Math.Bool.{and-false}
+use Rattle.std.proofs.Math.Bool.{and-false, and-true}
 use Rattle.std.proofs.lemmas.Bool.{eq-eqb, eqb-true, false_from_ne_true}
 use Rattle.std.proofs.lemmas.List.{length-set}
+use Rattle.std.proofs.lemmas.Map.Entries.{lookup-filter-keys}
 use Rattle.std.proofs.lemmas.Option.{slice_get_within}
-use Rattle.yw_base.specs.Identity.{is_identity, parent}
-use Rattle.yw_loose.specs.Counts.{AreLeft, AreMore, CountsOne, Exits, Follows, Leaves, Puts, counts_at, is_of_task}
+use Rattle.yw_base.specs.Identity.{is_identity, case_number, parent}
+use Rattle.yw_enabled.specs.Left.{is_done}
+use Rattle.yw_loose.specs.Counts.{AreLeft, AreMore, CountsOne, Exits, Follows, Leaves, LosesCase, Puts, counts_at, is_done_item}
 use Rattle.yw_loose.specs.declared.counts.Counts.{Counts}
 use Rattle.yw_moved.proofs.Parents.{is_same, parent_of_child}
 use Rattle.yw_progress.specs.Progress.{completed_by}
@@ -73,12 +76,36 @@ pub first_out : (old new : Counts) (popped : Option (Ident × Vec ℕ Global)) �
 first_out old new None some updates i v at = never some
 first_out old new (Some p) some updates i v at = left_there old new p.0 updates i v at
 
--- ---- an item more is done
+-- those of one case are taken out
+module _ (n : ℕ) (old new : Counts) (kept : new.nets.entries ≡ filter (λ (e : Ident × Vec ℕ Global). not (case_number e.0 == n)) old.nets.entries) (i : Ident)
+    (v : Vec ℕ Global) (at : counts_at new i ≡ Some v) where
+  abbrev other : Ident → Bool
+  other k = not (case_number k == n)
+
+  looked : counts_at new i ≡ cond (other i) (counts_at old i) None
+  looked =
+      ap (lookup (is_at (lexical i))) kept
+      ∙ lookup-filter-keys (is_at (lexical i)) other (other i) (λ k same_key. ap other (sym (tied by_name i k same_key))) old.nets.entries
+
+  out_there : {A : Type 0} → other i ≡ false → A
+  out_there here = nowhere (sym (looked ∙ ap (λ b. cond b (counts_at old i) None) here) ∙ at)
+
+  case_left : counts_at old i ≡ Some v
+  case_left = by_test (other i) (λ stays. sym (looked ∙ ap (λ b. cond b (counts_at old i) None) stays) ∙ at) (λ here. out_there here)
+
+  not_there : case_number i ≡ n → ⊥
+  not_there here = out_there (ap not (eq-eqb (case_number i) n here))
+
+pub case_out : (n : ℕ) (old new : Counts) → new.nets.entries ≡ filter (λ (e : Ident × Vec ℕ Global). not (case_number e.0 == n)) old.nets.entries
+    → LosesCase n old new
+case_out n old new kept = record { had = λ i v at. case_left n old new kept i v at; others = λ i v at. not_there n old new kept i v at }
+
+-- ---- an item is completed
 
 module _ (f : Forest) (j : Ident) where
   -- of no task in a net that has counts
-  apart : (i : Ident) (v : Vec ℕ Global) → is_child j i ≡ false → AreMore v.items v.items (is_of_task f i j)
-  apart i v out = no_more v.items (is_of_task f i j) (λ k. ap (λ b. b && is_some_and (item_of f j) (λ (n : Node). (out-Node n).task == k)) out)
+  apart : (i : Ident) (v : Vec ℕ Global) → is_child j i ≡ false → AreMore v.items v.items (is_done_item f i j)
+  apart i v out = no_more v.items (is_done_item f i j) (λ k. ap (λ b. b && is_some_and (item_of f j) (λ (n : Node). (out-Node n).task == k && is_done n)) out)
 
   -- there is none
   pub no_item : (c : Counts) → item_of f j ≡ None → CountsOne f j c c
@@ -87,8 +114,24 @@ module _ (f : Forest) (j : Ident) where
         was = λ i v identity at. (
           v,
           at,
-          no_more v.items (is_of_task f i j)
-              (λ k. ap (λ o. is_child j i && is_some_and o (λ (n : Node). (out-Node n).task == k)) none ∙ and-false (is_child j i)),
+          no_more v.items (is_done_item f i j)
+              (λ k. ap (λ o. is_child j i && is_some_and o (λ (n : Node). (out-Node n).task == k && is_done n)) none ∙ and-false (is_child j i)),
+        );
+      }
+
+  -- it isn't done
+  pub not_done : (c : Counts) (n : Node) → item_of f j ≡ Some n → is_done n ≡ false → CountsOne f j c c
+  not_done c n found undone =
+      record {
+        was = λ i v identity at. (
+          v,
+          at,
+          no_more v.items (is_done_item f i j)
+              (λ k.
+              ap (λ o. is_child j i && is_some_and o (λ (m : Node). (out-Node m).task == k && is_done m)) found
+              ∙ ap (λ b. is_child j i && ((out-Node n).task == k && b)) undone
+              ∙ ap (λ b. is_child j i && b) (and-false ((out-Node n).task == k))
+              ∙ and-false (is_child j i)),
         );
       }
 
@@ -115,10 +158,10 @@ module _ (f : Forest) (j : Ident) where
       }
 
   -- or one more of its task
-  pub net_back : (old mid new : Counts) (n : Node) (w more : Vec ℕ Global) → item_of f j ≡ Some n → is_identity (parent j) ≡ true
+  pub net_back : (old mid new : Counts) (n : Node) (w more : Vec ℕ Global) → item_of f j ≡ Some n → is_done n ≡ true → is_identity (parent j) ≡ true
       → counts_at old (parent j) ≡ Some w → AreMore w.items more.items (λ k. (out-Node n).task == k) → Updates lexical old.nets mid.nets (parent j) None
       → Updates lexical mid.nets new.nets (parent j) (Some more) → CountsOne f j old new
-  net_back old mid new n w more found above had one out back =
+  net_back old mid new n w more found done above had one out back =
       record {
         was = λ i v identity at.
             by_test (is_at (lexical (parent j)) i)
@@ -127,7 +170,7 @@ module _ (f : Forest) (j : Ident) where
             let now : more ≡ v = some_same more v (sym (back.0 i ∙ ap (λ b. cond b (Some more) (counts_at mid i)) here) ∙ at) in (
               w,
               ap (counts_at old) (sym same_net) ∙ had,
-              subst (λ (x : Vec ℕ Global). AreMore w.items x.items (is_of_task f i j)) now
+              subst (λ (x : Vec ℕ Global). AreMore w.items x.items (is_done_item f i j)) now
                   (record {
                     each = λ k d e.
                         let (b, before, sum) = one.each k d e in
@@ -143,10 +186,12 @@ module _ (f : Forest) (j : Ident) where
       below : (i : Ident) → parent j ≡ i → is_child j i ≡ true
       below i same_net = ap (is_child j) (sym same_net) ∙ is_child_of j (parent j) (parent_child j long)
 
-      of_task : (i : Ident) → parent j ≡ i → (k : ℕ) → is_of_task f i j k ≡ ((out-Node n).task == k)
+      of_task : (i : Ident) → parent j ≡ i → (k : ℕ) → is_done_item f i j k ≡ ((out-Node n).task == k)
       of_task i same_net k =
-          ap (λ b. b && is_some_and (item_of f j) (λ (x : Node). (out-Node x).task == k)) (below i same_net)
-          ∙ ap (λ o. is_some_and o (λ (x : Node). (out-Node x).task == k)) found
+          ap (λ b. b && is_some_and (item_of f j) (λ (x : Node). (out-Node x).task == k && is_done x)) (below i same_net)
+          ∙ ap (λ o. is_some_and o (λ (x : Node). (out-Node x).task == k && is_done x)) found
+          ∙ ap (λ b. (out-Node n).task == k && b) done
+          ∙ and-true ((out-Node n).task == k)
 
 -- ---- an event
 
@@ -157,8 +202,8 @@ leaves_follows f e old new none leaves =
       was = λ i v identity at. (
         v,
         leaves.had i v at,
-        no_more v.items (λ k. is_some_and (completed_by e) (λ (j : Ident). is_of_task f i j k))
-            (λ k. ap (λ o. is_some_and o (λ (j : Ident). is_of_task f i j k)) none),
+        no_more v.items (λ k. is_some_and (completed_by e) (λ (j : Ident). is_done_item f i j k))
+            (λ k. ap (λ o. is_some_and o (λ (j : Ident). is_done_item f i j k)) none),
       );
     }
 
@@ -171,7 +216,7 @@ one_follows f e j old mid new is leaves one =
           let (w, at_mid, more) = one.was i v identity at in (
             w,
             leaves.had i w at_mid,
-            subst (λ o. AreMore w.items v.items (λ k. is_some_and o (λ (l : Ident). is_of_task f i l k))) (sym is) more,
+            subst (λ o. AreMore w.items v.items (λ k. is_some_and o (λ (l : Ident). is_done_item f i l k))) (sym is) more,
           );
     }
 

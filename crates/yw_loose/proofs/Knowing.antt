@@ -66,17 +66,17 @@ module _ (old mid new : Loose) where
 module _ (s : State) (old new : Loose) (js : List Ident) (has : HasAll old new js) where
   pub has_rested : IsRested s old → IsRested s new
   has_rested rested = record {
-    still = λ j x stands known loose.
-        rested.still j x stands (sym (has.known (case_number j)) ∙ known) (by_test (is_loose old j) (λ b. never (sym loose ∙ has.was j b)) (λ f. f));
+    rests = λ j x stands known loose.
+        rested.rests j x stands (sym (has.known (case_number j)) ∙ known) (by_test (is_loose old j) (λ b. never (sym loose ∙ has.was j b)) (λ f. f));
     counted = subst (AreRight s) (sym has.counts) rested.counted;
   }
 
   -- the case in which these are all, is known
   pub listed : (n : ℕ) → AreAllIn s n js → (ns : BTreeSet ℕ) → Updates nat_cmp new.known ns n true → IsRested s old → IsRested s (record new { known = ns })
   listed n are ns updates rested = record {
-    still = λ j x stands known loose. elim (or_cases _ _ (sym (knows new ns n (case_number j) updates) ∙ known)) [
+    rests = λ j x stands known loose. elim (or_cases _ _ (sym (knows new ns n (case_number j) updates) ∙ known)) [
       | inl here ↦ never (sym loose ∙ All-contains (λ i. is_loose new i ≡ true) js j has.all (are.all j x stands (sym (tied by_number n (case_number j) here))))
-      | inr there ↦ (has_rested rested).still j x stands there loose
+      | inr there ↦ (has_rested rested).rests j x stands there loose
     ];
     counted = (has_rested rested).counted;
   }

@@ -1,7 +1,9 @@
 pub mod Sets
+pub mod Within
 pub mod Rested
 pub mod Moving
 pub mod Knowing
 pub mod Looking
 pub mod Counting
 pub mod Following
+pub mod Behind

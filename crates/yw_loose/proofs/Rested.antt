@@ -2,14 +2,12 @@
 use Rattle.std.specs.BTreeSet.{BTreeSet, Updates, contains}
 use Rattle.std.specs.BTreeMap.{is_at}
 use Rattle.std.specs.List.{list_any}
-use Rattle.std.specs.Prelude.{◌≡◌, ℕ, [], false, length, true}
+use Rattle.std.specs.Prelude.{◌≡◌, ℕ, [], false, true}
 use Rattle.std.proofs.Common.{ap, subst, sym, ◌∙◌}
-use Rattle.std.proofs.lemmas.Bool.{and_parts, eqb-true}
-use Rattle.std.proofs.lemmas.List.{nil_from_length}
 use Rattle.std.proofs.lemmas.Slice.Eq.{bytes_eq-Decides}
 use Rattle.yw_loose.proofs.Sets.{taken}
 use Rattle.yw_loose.specs.Counts.{AreRight}
-use Rattle.yw_loose.specs.Loose.{Forgets, IsRested, IsSame, is_at_rest, is_known}
+use Rattle.yw_loose.specs.Loose.{Forgets, IsRested, IsSame, is_known}
 use Rattle.yw_loose.specs.declared.counts.Counts.{Counts}
 use Rattle.yw_loose.specs.declared.loose.Loose.{Loose}
 use Rattle.yw_state.proofs.Tests.{by_test, never}
@@ -18,34 +16,30 @@ use Rattle.yw_state.specs.Identity.{Ident, same}
 use Rattle.yw_base.specs.Identity.{case_number}
 use Rattle.yw_state.specs.Map.{lexical}
 use Rattle.yw_state.specs.State.{State}
-use Rattle.yw_still.proofs.Quiet.{quiet}
-use Rattle.yw_still.specs.Still.{IsStill}
+use Rattle.yw_state.specs.Words.{urgent}
+use Rattle.yw_walk.proofs.Calm.{rests_quiet}
+use Rattle.yw_walk.specs.Finds.{Rests}
 
-pub none_loose : (l : Loose) → l.idents.keys ≡ [] → (n : ℕ) → is_known l n ≡ true → (s : State) → IsRested s l → IsQuiet s n
-none_loose l none n known s rested =
-    quiet s n (λ j x stands is. rested.still j x stands (ap (is_known l) is ∙ known) (ap (list_any (is_at (lexical j))) none))
-
-pub at_rest : (l : Loose) (n : ℕ) → is_at_rest l n ≡ true → (s : State) → IsRested s l → IsQuiet s n
-at_rest l n rest s rested =
-    let parts = and_parts _ (is_known l n) rest in
-    none_loose l (nil_from_length l.idents.keys (eqb-true (length l.idents.keys) 0 parts.0)) n parts.1 s rested
+pub none_loose : (l : Loose) → l.idents.keys ≡ [] → (n : ℕ) → is_known l n ≡ true → (s : State) → IsRested s l → urgent s n ≡ false → IsQuiet s n
+none_loose l none n known s rested calm =
+    rests_quiet s n calm (λ j x stands is. rested.rests j x stands (ap (is_known l) is ∙ known) (ap (list_any (is_at (lexical j))) none))
 
 pub same_rested : (old new : Loose) → IsSame old new → (s : State) → IsRested s old → IsRested s new
 same_rested old new same s rested =
     record {
-      still = λ j x stands known loose. rested.still j x stands (sym (same.known (case_number j)) ∙ known) (sym (same.loose j) ∙ loose);
+      rests = λ j x stands known loose. rested.rests j x stands (sym (same.known (case_number j)) ∙ known) (sym (same.loose j) ∙ loose);
       counted = subst (AreRight s) (sym same.counts) rested.counted;
     }
 
--- an identity that is still is loose no longer
-pub popped : (l : Loose) (ids : BTreeSet Ident) (id : Ident) → Updates lexical l.idents ids id false → (s : State) → IsStill s id → IsRested s l
+-- an identity that rests is loose no longer
+pub popped : (l : Loose) (ids : BTreeSet Ident) (id : Ident) → Updates lexical l.idents ids id false → (s : State) → Rests s id → IsRested s l
     → IsRested s (record l { idents = ids })
-popped l ids id updates s still rested =
+popped l ids id updates s rests rested =
     record {
-      still = λ j x stands known loose.
+      rests = λ j x stands known loose.
           by_test (same j id)
-          (λ t. subst (IsStill s) (sym ((bytes_eq-Decides j id).0 t)) still)
-          (λ f. rested.still j x stands known (sym (taken l ids id updates j f) ∙ loose));
+          (λ t. subst (Rests s) (sym ((bytes_eq-Decides j id).0 t)) rests)
+          (λ f. rested.rests j x stands known (sym (taken l ids id updates j f) ∙ loose));
       counted = rested.counted;
     }
 
@@ -54,13 +48,13 @@ pub passed_over : (old mid : Loose) (ids : BTreeSet Ident) (id : Ident) → Forg
     → (s : State) → IsRested s old → IsRested s (record mid { idents = ids })
 passed_over old mid ids id forgets updates s rested =
     record {
-      still = λ j x stands known loose.
+      rests = λ j x stands known loose.
           by_test (same j id)
           (λ t. never (sym (ap (λ (i : Ident). is_known mid (case_number i)) ((bytes_eq-Decides j id).0 t) ∙ forgets.gone) ∙ known))
-          (λ f. rested.still j x stands (forgets.known (case_number j) known) (sym (ap (λ is. contains lexical is j) forgets.idents) ∙ sym (taken mid ids id updates j f) ∙ loose));
+          (λ f. rested.rests j x stands (forgets.known (case_number j) known) (sym (ap (λ is. contains lexical is j) forgets.idents) ∙ sym (taken mid ids id updates j f) ∙ loose));
       counted = subst (AreRight s) (sym forgets.counts) rested.counted;
     }
 
 -- other counts that are right
 pub recounted : (l : Loose) (c : Counts) (s : State) → AreRight s c → IsRested s l → IsRested s (record l { counts = c })
-recounted l c s right rested = record { still = rested.still; counted = right }
+recounted l c s right rested = record { rests = rested.rests; counted = right }

@@ -1,13 +1,13 @@
 -- What is kept of how many items are done, and what it says of a state. Our own.
 use Rattle.std.specs.BTreeMap as tree
-use Rattle.std.specs.Prelude.{◌≡◌, ◌⊎◌, ◌+◌, ◌==◌, ◌&&◌, ℕ, Bool, List, Option, Some, Vec, cond, false, is_some, slice_get, true}
+use Rattle.std.specs.Prelude.{◌≡◌, ◌≢◌, ◌⊎◌, ◌+◌, ◌==◌, ◌&&◌, ℕ, Bool, List, Option, Some, Vec, cond, false, is_some, slice_get, true}
 use Rattle.std.specs.declared.alloc.Global.{Global}
-use Rattle.yw_base.specs.Identity.{is_identity}
+use Rattle.yw_base.specs.Identity.{is_identity, case_number}
+use Rattle.yw_enabled.specs.Left.{is_done}
 use Rattle.yw_library.specs.Held.{IsHeld}
 use Rattle.yw_library.specs.Holdings.{Holdings}
 use Rattle.yw_loose.specs.declared.counts.Counts.{Counts}
 use Rattle.yw_texts.specs.Texts.{reader}
-use Rattle.yw_plain.specs.Plain.{IsPlain, is_plain_event}
 use Rattle.yw_progress.specs.Progress.{completed_by, done_in, is_anew}
 use Rattle.yw_state.specs.Events.{Leads}
 use Rattle.yw_state.specs.Identity.{Ident, is_child, same}
@@ -42,26 +42,31 @@ pub record Puts (old new : Counts) (at : Ident) (v : Vec ℕ Global) : Type 0 wh
 pub record AreMore (before now : List ℕ) (more : ℕ → Bool) : Type 0 where
   pub each : (k d : ℕ) → slice_get now k ≡ Some d → (b : ℕ) × (slice_get before k ≡ Some b) × (d ≡ b + cond (more k) 1 0)
 
--- the item at j is one of task k in the net at i
-abbrev pub is_of_task : Forest → Ident → Ident → ℕ → Bool
-is_of_task f i j k = is_child j i && is_some_and (item_of f j) (λ (n : Node). (out-Node n).task == k)
+-- the item at j is one of task k in the net at i, and is done
+abbrev pub is_done_item : Forest → Ident → Ident → ℕ → Bool
+is_done_item f i j k = is_child j i && is_some_and (item_of f j) (λ (n : Node). (out-Node n).task == k && is_done n)
 
 -- Each net has the counts that it had, or none any more; none where it begins or ends by the event.
 pub record Leaves (e : Event) (old new : Counts) : Type 0 where
   pub had : (i : Ident) (v : Vec ℕ Global) → counts_at new i ≡ Some v → counts_at old i ≡ Some v
   pub stays : (i : Ident) (v : Vec ℕ Global) → is_identity i ≡ true → counts_at new i ≡ Some v → is_anew e i ≡ false
 
--- Each net has the counts that it had, with one more of the task of the item at j, or none any more.
+-- Each net has the counts that it had, or none any more; none in case n.
+pub record LosesCase (n : ℕ) (old new : Counts) : Type 0 where
+  pub had : (i : Ident) (v : Vec ℕ Global) → counts_at new i ≡ Some v → counts_at old i ≡ Some v
+  pub others : (i : Ident) (v : Vec ℕ Global) → counts_at new i ≡ Some v → case_number i ≢ n
+
+-- Each net has the counts that it had, with one more of the task of the item at j where that is done, or none any more.
 pub record CountsOne (f : Forest) (j : Ident) (old new : Counts) : Type 0 where
   pub was : (i : Ident) (v : Vec ℕ Global) → is_identity i ≡ true → counts_at new i ≡ Some v
-      → (w : Vec ℕ Global) × (counts_at old i ≡ Some w) × AreMore w.items v.items (is_of_task f i j)
+      → (w : Vec ℕ Global) × (counts_at old i ≡ Some w) × AreMore w.items v.items (is_done_item f i j)
 
--- So it is with the item that the event completes, and no net has counts that begins or ends by it.
+-- So it is with the item that the event completes. No net has counts that begins or ends by the event.
 pub record Follows (f : Forest) (e : Event) (old new : Counts) : Type 0 where
   pub stays : (i : Ident) (v : Vec ℕ Global) → is_identity i ≡ true → counts_at new i ≡ Some v → is_anew e i ≡ false
   pub was : (i : Ident) (v : Vec ℕ Global) → is_identity i ≡ true → counts_at new i ≡ Some v
       → (w : Vec ℕ Global) × (counts_at old i ≡ Some w)
-      × AreMore w.items v.items (λ k. is_some_and (completed_by e) (λ (j : Ident). is_of_task f i j k))
+      × AreMore w.items v.items (λ k. is_some_and (completed_by e) (λ (j : Ident). is_done_item f i j k))
 
 -- Of a task without items in this net none is done; of each other as many as before.
 pub record AreLeft (net : NetState) (before now : List ℕ) : Type 0 where
@@ -82,4 +87,4 @@ pub record Exits (f : Forest) (at : Ident) (old new : Counts) : Type 0 where
 -- counts that were right in the state before the event, are right behind it, with this forest
 abbrev pub RightBehind : Forest → Event → Counts → Counts → Type 0
 RightBehind f e old new =
-    (known : Holdings) (s t : State) → IsWell reader s → IsHeld known f t → IsPlain s → is_plain_event e ≡ true → Leads reader s e t → AreRight s old → AreRight t new
+    (known : Holdings) (s t : State) → IsWell reader s → IsHeld known f t → Leads reader s e t → AreRight s old → AreRight t new

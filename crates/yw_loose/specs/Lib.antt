@@ -1,3 +1,4 @@
 pub mod Counts
 pub mod Loose
+pub mod Moved
 pub mod Next

@@ -11,9 +11,9 @@ use Rattle.yw_state.specs.Identity.{Ident, same}
 use Rattle.yw_state.specs.Map.{lexical}
 use Rattle.yw_state.specs.State.{Site, State}
 use Rattle.yw_state.specs.Well.{Stands}
-use Rattle.yw_still.specs.Still.{IsStill}
 use Rattle.yw_tree.specs.Forest.{IsForest, sites_of}
 use Rattle.yw_tree.specs.declared.Forest.{Forest}
+use Rattle.yw_walk.specs.Finds.{Rests}
 
 -- it is known where something may come of itself in case n
 abbrev pub is_known : Loose → ℕ → Bool
@@ -27,9 +27,9 @@ is_loose l j = contains lexical l.idents j
 abbrev pub is_at_rest : Loose → ℕ → Bool
 is_at_rest l n = length l.idents.keys == 0 && is_known l n
 
--- In each case that is known, what isn't loose is still. The counts are right.
+-- In each case that is known, what isn't loose is idle, or work is held there. The counts are right.
 pub record IsRested (s : State) (l : Loose) : Type 0 where
-  pub still : (j : Ident) (x : Site) → Stands s j x → is_known l (case_number j) ≡ true → is_loose l j ≡ false → IsStill s j
+  pub rests : (j : Ident) (x : Site) → Stands s j x → is_known l (case_number j) ≡ true → is_loose l j ≡ false → Rests s j
   pub counted : AreRight s l.counts
 
 -- ---- more is loose, and the counts are the same

@@ -1,25 +1,28 @@
 // How many items are done, of nets that have many.
 ghost use Rattle.std.specs.List.{list_any};
-ghost use Rattle.std.specs.Prelude.{◌≡◌, ◌==◌, ℕ, IfOk, IfSome, OnOk, Some, Vec, nat_lt, length, option_copied, option_map, true};
+ghost use Rattle.std.specs.Prelude.{◌≡◌, ◌==◌, ℕ, IfOk, IfSome, None, OnOk, Some, Vec, nat_lt, length, option_copied, option_map, true};
 ghost use Rattle.std.specs.declared.alloc.Global.{Global};
 ghost use Rattle.yw_base.specs.Identity.{is_identity};
-ghost use Rattle.yw_enabled.specs.Left.{TellsNet};
+ghost use Rattle.yw_enabled.specs.Left.{TellsNet, is_done};
+ghost use Rattle.yw_library.specs.Held.{IsHeld};
 ghost use Rattle.yw_library.specs.Holdings.{Holdings};
-ghost use Rattle.yw_loose.specs.Counts.{AreLeft, AreMore, AreRight, CountsOne, Exits, Follows, Leaves, Puts, RightBehind, counts_at};
+ghost use Rattle.yw_loose.specs.Counts.{AreLeft, AreMore, AreRight, CountsOne, Exits, Follows, Leaves, LosesCase, Puts, RightBehind, counts_at};
+ghost use Rattle.yw_loose.specs.Moved.{exlet_at};
 ghost use Rattle.yw_progress.specs.Progress.{completed_by, is_anew, left_by};
 ghost use Rattle.yw_state.specs.Identity.{Ident, same};
 ghost use Rattle.yw_state.specs.Options.{is_some_and};
 ghost use Rattle.yw_state.specs.State.{State};
+ghost use Rattle.yw_state.specs.Words.{is_completed};
 ghost use Rattle.yw_tree.specs.declared.NetState.{out-NetState};
-ghost use Rattle.yw_walk.specs.Finds.{StandsFor};
 
+use crate::events::exlet_at;
 use std::alloc::{AllocError, Global};
 use std::collections::BTreeMap;
 use yw_base::Ident;
 use yw_enabled::done_counts;
-use yw_state::Event;
+use yw_state::{Event, Stage};
 use yw_task::is_active;
-use yw_tree::{Forest, NetState};
+use yw_tree::{Forest, NetState, Node};
 
 /// A task with more items than these has many.
 const MANY: usize = 16;
@@ -38,6 +41,21 @@ fn has_many(net: &NetState) -> bool
     ensures { result ≡ list_any (λ nodes. nat_lt 16 (length nodes.items)) (out-NetState net.now).items.items }
 {
     net.items.iter().any(|nodes| nodes.len() > MANY)
+}
+
+/// It has made its values.
+fn is_completed(stage: Stage) -> bool
+    ensures { result ≡ is_completed stage }
+{
+    matches!(stage, Stage::Completed)
+}
+
+/// The item counts where its task exits: it is completed, no run hangs at it, and it isn't suspended.
+#[tactic(auto, unfolding(yw_enabled::specs::Left::is_done))]
+fn is_done(node: &Node) -> bool
+    ensures { result ≡ is_done node.now }
+{
+    is_completed(node.stage) && !node.run.is_some() && !node.suspended
 }
 
 /// The item that an event completes.
@@ -148,7 +166,7 @@ impl Counts {
         forest: &Forest,
         at: &Ident,
     ) -> Result<(), AllocError>
-        ensures { (known : Holdings) (next : ℕ) (s : State) → StandsFor known forest.now next s → AreRight s self.old → AreRight s self.new }
+        ensures { (known : Holdings) (s : State) → IsHeld known forest.now s → AreRight s self.old → AreRight s self.new }
     {
         // No work is done here: it says that it is an identity.
         let _ = at.numbers();
@@ -174,13 +192,23 @@ impl Counts {
         Ok(())
     }
 
-    /// One item more is done: it is counted in the net in which it stands, if that has counts. An `Err` says that no memory was left.
+    /// No net of this case has counts any more.
+    fn forget_case(&mut self, n: u64)
+        ensures { LosesCase n self.old self.new }
+    {
+        self.nets.retain(|net, _counts| net.case_number() != n);
+    }
+
+    /// An item is completed: it is counted in the net in which it stands, if it is done and that has counts. An `Err` says that no memory was left.
     fn add_one(&mut self, alloc: Global, forest: &Forest, item: &Ident) -> Result<(), AllocError>
         ensures { OnOk result (CountsOne forest.now item.now self.old self.new) }
     {
         let Some(node) = forest.item(item) else {
             return Ok(());
         };
+        if !is_done(node) {
+            return Ok(());
+        }
         let Some(net) = item.parent(alloc)? else {
             return Ok(());
         };
@@ -208,7 +236,7 @@ impl Counts {
         Ok(())
     }
 
-    /// What another event changes of the counts, with the forest behind it. An `Err` says that no memory was left.
+    /// What an event changes of the counts by which no task exits, with the forest behind it. An `Err` says that no memory was left.
     fn go_on(&mut self, alloc: Global, forest: &Forest, event: &Event) -> Result<(), AllocError>
         ensures { OnOk result (Follows forest.now event.now self.old self.new) }
     {
@@ -219,6 +247,22 @@ impl Counts {
         }
     }
 
+    /// What an event of no exlet changes of the counts, with the forest behind it. An `Err` says that no memory was left.
+    fn follow_net(
+        &mut self,
+        alloc: Global,
+        forest: &Forest,
+        event: &Event,
+    ) -> Result<(), AllocError>
+        requires { exlet_at event.now ≡ None }
+        ensures { OnOk result (RightBehind forest.now event.now self.old self.new) }
+    {
+        match left_by(event) {
+            Some(net) => self.exit(alloc, forest, net),
+            None => self.go_on(alloc, forest, event),
+        }
+    }
+
     /// What an event changes of the counts, with the forest behind it. An `Err` says that no memory was left.
     fn follow(&mut self, alloc: Global, forest: &Forest, event: &Event) -> Result<(), AllocError>
         ensures { OnOk result (RightBehind forest.now event.now self.old self.new) }
@@ -226,13 +270,18 @@ impl Counts {
         if self.nets.is_empty() {
             return Ok(());
         }
-        match left_by(event) {
-            Some(net) => self.exit(alloc, forest, net),
-            None => self.go_on(alloc, forest, event),
+        match exlet_at(event) {
+            Some(at) => {
+                // No work is done here: it says that it is an identity.
+                let _ = at.numbers();
+                self.forget_case(at.case_number());
+                Ok(())
+            }
+            None => self.follow_net(alloc, forest, event),
         }
     }
 
-    /// An event of neither a rule tree nor an exlet is done, and this is the forest behind it. Where no memory is left, no net has counts any more.
+    /// An event is done, and this is the forest behind it. Where no memory is left, no net has counts any more.
     pub(crate) fn after(&mut self, alloc: Global, forest: &Forest, event: &Event)
         ensures { RightBehind forest.now event.now self.old self.new }
     {

@@ -3,6 +3,7 @@
 #![tactic(auto)]
 
 mod counts;
+mod events;
 mod listing;
 mod loose;
 mod moved;

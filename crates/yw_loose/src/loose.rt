@@ -1,16 +1,17 @@
 // What is kept of where something may come of itself.
-ghost use Rattle.std.specs.Prelude.{◌≡◌, ℕ, OnErr, OnOk, true};
+ghost use Rattle.std.specs.Prelude.{◌≡◌, ℕ, OnErr, OnOk, false, true};
 ghost use Rattle.yw_loose.specs.Loose.{Forgets, Gains, IsRested, IsSame, is_at_rest};
 ghost use Rattle.yw_state.specs.Automatic.{IsQuiet};
 ghost use Rattle.yw_state.specs.State.{State};
+ghost use Rattle.yw_state.specs.Words.{urgent};
 
 use crate::counts::Counts;
 use std::alloc::{AllocError, Global};
 use std::collections::BTreeSet;
 use yw_base::Ident;
 
-/// The cases of which it is known where something may come of itself, and these identities: at each other identity of a known case all is
-/// still. Beside them, how many items are done. Our own.
+/// The cases of which it is known where something may come of itself, and these identities: each other identity of a known case is idle, or
+/// work is held there. Beside them, how many items are done. Our own.
 #[derive(Drop)]
 pub struct Loose {
     /// The numbers of the cases that are known.
@@ -42,10 +43,10 @@ impl Loose {
         self.counts.forget();
     }
 
-    /// It is known that the case with this number is quiet. `false` says nothing. It takes no memory.
+    /// It is known that the case with this number is quiet, unless something in it is urgent. `false` says nothing. It takes no memory.
     pub fn is_at_rest(&self, n: u64) -> bool
         ensures value { result ≡ is_at_rest self.now n }
-        ensures quiet { result ≡ true → (s : State) → IsRested s self.now → IsQuiet s n }
+        ensures quiet { result ≡ true → (s : State) → IsRested s self.now → urgent s n ≡ false → IsQuiet s n }
     {
         self.idents.is_empty() && self.known.contains(&n)
     }

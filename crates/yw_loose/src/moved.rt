@@ -1,38 +1,23 @@
 // What an event may have set moving.
 ghost use Rattle.std.specs.List.{list_any, range_with_len};
-ghost use Rattle.std.specs.Prelude.{◌≡◌, ◌+◌, ◌||◌, IfOk, OnOk, Some, SomeIff, map, option_copied, true};
+ghost use Rattle.std.specs.Prelude.{◌≡◌, ◌+◌, ◌||◌, IfOk, None, OnOk, Some, SomeIff, map, true};
 ghost use Rattle.yw_base.specs.Identity.{is_identity, child, parent};
 ghost use Rattle.yw_library.specs.Held.{IsHeld};
 ghost use Rattle.yw_library.specs.Holdings.{Holdings};
 ghost use Rattle.yw_loose.specs.Loose.{IsRested, Loosens};
+ghost use Rattle.yw_loose.specs.Moved.{done_at, is_moved, made_by};
 ghost use Rattle.yw_texts.specs.Texts.{reader};
-ghost use Rattle.yw_moved.specs.Moved.{done_at, is_moved, made_by};
-ghost use Rattle.yw_plain.specs.Plain.{IsPlain, is_plain_event};
 ghost use Rattle.yw_state.specs.Events.{Leads};
 ghost use Rattle.yw_state.specs.Identity.{Ident, same};
 ghost use Rattle.yw_state.specs.State.{State};
 ghost use Rattle.yw_state.specs.Well.{IsWell};
 
 use crate::Loose;
+use crate::events::{done_at, is_rule, moved_case};
 use std::alloc::{AllocError, Global};
 use yw_base::Ident;
 use yw_state::Event;
 use yw_tree::Forest;
-
-/// The net or the item at which an event is done; `None` for one of a whole case, or of none.
-fn done_at(event: &Event) -> Option<&Ident>
-    ensures { option_copied result ≡ done_at event.now }
-{
-    match event {
-        Event::Enter { net, .. } | Event::Exit { net, .. } | Event::Add { net, .. } => Some(net),
-        Event::Start { item, .. }
-        | Event::Complete { item, .. }
-        | Event::StartSub { item }
-        | Event::CompleteSub { item }
-        | Event::CompleteEmpty { item } => Some(item),
-        _ => None,
-    }
-}
 
 /// The identity of an item of a net, by its number; `None` where that is no number, or the net's identity is too long.
 fn child(alloc: Global, net: &Ident, number: u64) -> Result<Option<Ident>, AllocError>
@@ -90,7 +75,7 @@ impl Loose {
         Ok(())
     }
 
-    /// And at what the event makes. Of a case that begins or is over nothing is known.
+    /// And at the items that the event makes.
     fn add_made(&mut self, alloc: Global, event: &Event) -> Result<(), AllocError>
         ensures { OnOk result (Loosens self.old self.new (λ j. list_any (same j) (made_by event.now))) }
     {
@@ -102,10 +87,6 @@ impl Loose {
                 ..
             } => self.add_items(alloc, net, *first, *count),
             Event::Add { net, number, .. } => self.add_items(alloc, net, *number, 1),
-            Event::Launch { case, .. } | Event::Finish { case } | Event::Cancel { case } => {
-                self.forget_case(*case);
-                Ok(())
-            }
             _ => Ok(()),
         }
     }
@@ -121,26 +102,45 @@ impl Loose {
         if !self.known.contains(&at.case_number()) {
             return Ok(());
         }
-        self.add_around(alloc, at)?;
-        self.add_made(alloc, event)
+        self.add_made(alloc, event)?;
+        self.add_around(alloc, at)
     }
 
-    /// The same of any event.
+    /// Of the case in which another event may have set something moving nothing is known any more.
+    fn forget_moved(&mut self, event: &Event)
+        requires { done_at event.now ≡ None }
+        ensures { Loosens self.old self.new (is_moved event.now) }
+    {
+        match moved_case(event) {
+            Some(case) => self.forget_case(case),
+            None => (),
+        }
+    }
+
+    /// What an event may have set moving is loose, or nothing is known of its case any more.
     fn add_moved(&mut self, alloc: Global, event: &Event) -> Result<(), AllocError>
         ensures { OnOk result (Loosens self.old self.new (is_moved event.now)) }
     {
         match done_at(event) {
             Some(at) => self.add_at(alloc, at, event),
-            None => self.add_made(alloc, event),
+            None => {
+                self.forget_moved(event);
+                Ok(())
+            }
         }
     }
 
-    /// An event of neither a rule tree nor an exlet is done, and this is the forest behind it: what the event may have set moving is loose now, if its
-    /// case is known, and what it completes is counted. Where no memory is left, nothing is known of any case any more.
+    /// An event is done, and this is the forest behind it: what the event may have set moving is loose now, if its case is known, and what it
+    /// completes is counted. Where it is of an exlet and suspends nothing, nothing is known of its case any more; where it adds a rule, or no memory is
+    /// left, nothing of any case.
     pub fn after(&mut self, alloc: Global, forest: &Forest, event: &Event)
-        ensures { (known : Holdings) (s t : State) → IsWell reader s → IsHeld known forest.now t → IsPlain s → is_plain_event event.now ≡ true
-            → Leads reader s event.now t → IsRested s self.old → IsRested t self.new }
+        ensures { (known : Holdings) (s t : State) → IsWell reader s → IsHeld known forest.now t → Leads reader s event.now t
+            → IsRested s self.old → IsRested t self.new }
     {
+        if is_rule(event) {
+            self.forget();
+            return;
+        }
         self.counts.after(alloc, forest, event);
         match self.add_moved(alloc, event) {
             Ok(()) => (),

@@ -22,7 +22,7 @@ fn event_counted(
     counts: &mut Counts,
 ) -> Result<Option<Found>, AllocError>
     ensures found { IfOk result (FindsCounted known.now forest.now id.now next counts.old) }
-    ensures right { StaysRight known.now forest.now next counts.old counts.new }
+    ensures right { StaysRight known.now forest.now counts.old counts.new }
 {
     // No work is done here: it says that it is an identity.
     let _ = id.numbers();
@@ -43,7 +43,7 @@ impl Loose {
     ) -> Result<Option<Found>, AllocError>
         requires { is_known self.old n ≡ true }
         ensures found { IfOk result (FindsLoose known.now forest.now n next self.old) }
-        ensures rested { StaysRested known.now forest.now next self.old self.new }
+        ensures rested { StaysRested known.now forest.now n next self.old self.new }
     {
         'idents: while let Some(id) = self.idents.first() {
             let case = id.case_number();
@@ -61,8 +61,9 @@ impl Loose {
         Ok(None)
     }
 
-    /// The next event that comes of itself in a case, in a state without rules and exlets, with what was computed of it: `None` exactly where the
-    /// case is quiet, as it is where no case has this number. `next` is the number that is drawn next. An `Err` says that no memory was left.
+    /// The next event that comes of itself in a case in which nothing is urgent and no compensation is at its end, with what was computed of it:
+    /// `None` exactly where the case is quiet, as it is where no case has this number. `next` is the number that is drawn next. An `Err` says that no
+    /// memory was left.
     ///
     /// Only what is loose is looked at, in order of identities, each before those below it. A case of which nothing is known is looked at whole.
     pub fn next_event(
@@ -74,7 +75,7 @@ impl Loose {
         next: u64,
     ) -> Result<Option<Found>, AllocError>
         ensures found { IfOk result (FindsLoose known.now forest.now n next self.old) }
-        ensures rested { StaysRested known.now forest.now next self.old self.new }
+        ensures rested { StaysRested known.now forest.now n next self.old self.new }
     {
         self.know(alloc, forest, n)?;
         self.first_event(alloc, known, forest, n, next)

@@ -3,6 +3,7 @@ mod Leaving
 mod Entering
 mod Stepping
 mod NetThere
-mod AllStill
+pub mod Calm
+mod AllRest
 mod Inner
 pub mod Plainly

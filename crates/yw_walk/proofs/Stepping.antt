@@ -31,7 +31,6 @@ use Rattle.yw_state.specs.Words.{busy, clear, is_executing}
 use Rattle.yw_state.specs.declared.event.Event.TheVariants as events
 use Rattle.yw_still.specs.Still.{item_begins, item_ends, item_goes_on}
 use Rattle.yw_tree.specs.declared.Forest.{Forest}
-use Rattle.yw_tree.specs.declared.Node.{out-Node}
 use Rattle.yw_walk.specs.Computed.{IsComputedOf}
 use Rattle.yw_walk.specs.Finds.{ComesPlainly}
 use Rattle.yw_walk.specs.declared.found.Computed.TheVariants as computed

@@ -1,10 +1,11 @@
 -- What comes of itself at one identity, and in a case: found, or nothing.
-use Rattle.std.specs.List.{All, Contains}
-use Rattle.std.specs.Prelude.{◌≡◌, ◌↔◌, ℕ, Bool, IsTrue, List, MatchOption, None, Option, Some, option_map, true, false, unwrap_or}
+use Rattle.std.specs.List.{All}
+use Rattle.std.specs.Prelude.{◌≡◌, ◌↔◌, ◌⊎◌, ℕ, Bool, IsTrue, List, MatchOption, None, Option, Some, option_map, true, false, unwrap_or}
 use Rattle.yw_base.specs.Gates.{is_or}
 use Rattle.yw_enabled.specs.Entered.{EntersFrom, is_chosen, is_manual as is_manual_by}
 use Rattle.yw_enabled.specs.Free.{MayDraw, StandsFree}
 use Rattle.yw_enabled.specs.Left.{TellsNet}
+use Rattle.yw_idle.specs.Idle.{IsIdle, IsParked, RestsAll, compensation_would_end}
 use Rattle.yw_library.specs.Held.{IsHeld}
 use Rattle.yw_known.specs.Here.{IsItemHere, IsNetHere}
 use Rattle.yw_known.specs.declared.here.ItemHere.{ItemHere}
@@ -13,7 +14,7 @@ use Rattle.yw_library.specs.Holdings.{Holdings}
 use Rattle.yw_mark.specs.Taking.{OfTask, taken_places}
 use Rattle.yw_mark.specs.declared.join.Taken.{Taken}
 use Rattle.yw_path.specs.Upstream.{IsUpstreamOf}
-use Rattle.yw_plain.specs.Plain.{IsPlain, is_plain_event}
+use Rattle.yw_plain.specs.Plain.{is_plain_event}
 use Rattle.yw_state.specs.Automatic.{Comes, IsQuiet}
 use Rattle.yw_state.specs.Identity.{Ident}
 use Rattle.yw_base.specs.Identity.{case_number}
@@ -29,8 +30,8 @@ use Rattle.yw_state.specs.Nets.{is_atomic}
 use Rattle.yw_state.specs.State.{State, TaskAt, is_item, net_part}
 use Rattle.yw_state.specs.Values.{Row}
 use Rattle.yw_state.specs.declared.event.Event.{Event}
-use Rattle.yw_state.specs.Words.{busy, clear}
-use Rattle.yw_still.specs.Still.{CaseIsStill, IsStill, case_ends, is_entering, is_leaving, item_goes_on, task_numbered}
+use Rattle.yw_state.specs.Words.{clear, urgent}
+use Rattle.yw_still.specs.Still.{case_ends, is_entering, is_leaving, item_goes_on, task_numbered}
 use Rattle.yw_task.specs.Giving.{entry_rows}
 use Rattle.yw_task.specs.Leaving.{IsOutcomeAt}
 use Rattle.yw_task.specs.declared.exits.Outcome.{Outcome}
@@ -127,13 +128,21 @@ TellsAt f i told = (state : NetState) → net_at f i ≡ Some state → TellsNet
 
 -- ---- an identity
 
--- What is known, the forest and the number that is drawn next stand for this state, which has neither rules nor exlets.
-pub record StandsFor (known : Holdings) (f : Forest) (next : ℕ) (s : State) : Type 0 where
+-- What is known, the forest and the number that is drawn next stand for this state. In case n nothing is urgent and no compensation is at its end.
+-- Persons enter the atomic tasks and no others.
+pub record StandsCalm (known : Holdings) (f : Forest) (next n : ℕ) (s : State) : Type 0 where
   pub held : IsHeld known f s
-  pub plain : IsPlain s
+  pub calm : urgent s n ≡ false
+  pub compensation : (j : Ident) → case_number j ≡ n → compensation_would_end s j ≡ false
+  pub manual : AtomicIsManual s
   pub drawn : s.next ≡ next
 
--- They stand for this state, in which nothing holds work at j and persons enter the atomic tasks and no others.
+-- where nothing is urgent, nothing comes of itself at j: it is idle, or work is held there
+abbrev pub Rests : State → Ident → Type 0
+Rests s j = IsIdle s j ⊎ IsParked s j
+
+-- What is known, the forest and the number that is drawn next stand for this state. Nothing holds work at j, and persons enter the atomic tasks and
+-- no others.
 pub record IsFreeAt (known : Holdings) (f : Forest) (next : ℕ) (j : Ident) (s : State) : Type 0 where
   pub held : IsHeld known f s
   pub free : clear s j ≡ true
@@ -152,10 +161,10 @@ IsItemAt known f j found = (s : State) → IsHeld known f s → MatchOption foun
 abbrev pub IsAtEnd : Holdings → Forest → Ident → Bool → Type 0
 IsAtEnd known f j ends = (s : State) → IsHeld known f s → at_output s j ≡ ends
 
--- where nothing holds work and no run hangs there, the case is finished by this event, or isn't at its end
-abbrev pub FindsFinish : Ident → Bool → Option Found → Type 0
-FindsFinish j ends found =
-    (s : State) → clear s j ≡ true → busy s j ≡ false → at_output s j ≡ ends
+-- where nothing holds work, the case is finished by this event, or it isn't at its end or a run hangs there
+abbrev pub FindsFinish : Holdings → Forest → Ident → Bool → Option Found → Type 0
+FindsFinish known f j ends found =
+    (s : State) → IsHeld known f s → clear s j ≡ true → at_output s j ≡ ends
     → MatchOption found (case_ends s j ≡ false) (IsFound s (case_number j))
 
 -- where nothing holds work, the item goes on by this event, or it doesn't
@@ -177,21 +186,21 @@ FindsItemOrTasks known f j next found =
 
 -- this event comes of itself there, or nothing does
 abbrev pub FindsAt : Holdings → Forest → Ident → ℕ → Option Found → Type 0
-FindsAt known f j next found = (s : State) → StandsFor known f next s → MatchOption found (IsStill s j) (IsFound s (case_number j))
+FindsAt known f j next found =
+    (s : State) → StandsCalm known f next (case_number j) s → MatchOption found (Rests s j) (IsFound s (case_number j))
 
--- at one of these identities this event comes of itself, or each of them is still
-abbrev pub FindsAmong : Holdings → Forest → List Ident → ℕ → Option Found → Type 0
-FindsAmong known f js next found =
-    (s : State) → StandsFor known f next s
-    → MatchOption found (All (IsStill s) js) (λ e. (j : Ident) × Contains js j × IsFound s (case_number j) e)
+-- at one of these identities, which are all in case n, this event comes of itself, or at none of them does anything
+abbrev pub FindsAmong : Holdings → Forest → ℕ → List Ident → ℕ → Option Found → Type 0
+FindsAmong known f n js next found =
+    (s : State) → StandsCalm known f next n s → All (λ j. case_number j ≡ n) js → MatchOption found (All (Rests s) js) (IsFound s n)
 
 -- ---- a case
 
--- this event comes of itself in the case, or each identity in it is still, and so it is quiet
+-- this event comes of itself in the case, or at each identity in it nothing does, and so it is quiet
 abbrev pub FindsNext : Holdings → Forest → ℕ → ℕ → Option Found → Type 0
 FindsNext known f n next found =
-    (s : State) → StandsFor known f next s → MatchOption found (CaseIsStill s n × IsQuiet s n) (IsFound s n)
+    (s : State) → StandsCalm known f next n s → MatchOption found (RestsAll s n × IsQuiet s n) (IsFound s n)
 
 -- whether the case is quiet
 abbrev pub TellsQuiet : Holdings → Forest → ℕ → ℕ → Bool → Type 0
-TellsQuiet known f n next quiet = (s : State) → StandsFor known f next s → IsTrue quiet ↔ IsQuiet s n
+TellsQuiet known f n next quiet = (s : State) → StandsCalm known f next n s → IsTrue quiet ↔ IsQuiet s n

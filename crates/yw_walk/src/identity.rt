@@ -63,9 +63,10 @@ fn item_or_tasks_at(
     }
 }
 
-/// What comes of itself at an identity: the case there is finished, the item goes on, or a task of the net is left, or else entered. `None`
-/// where all is still. The item is found by one way down, and its net with it. `next` is the number that is drawn next; how many items of each task
-/// of the net are done may be told. An `Err` says that no memory was left.
+/// What comes of itself at an identity, in a case in which nothing is urgent and no compensation is at its end: the case there is finished, the item
+/// goes on, or a task of the net is left, or else entered. `None` where none of these comes, as where work is held. The item is found by one way
+/// down, and its net with it. `next` is the number that is drawn next; how many items of each task of the net are done may be told. An `Err` says
+/// that no memory was left.
 pub fn event_at(
     alloc: Global,
     known: &Known,
@@ -76,9 +77,12 @@ pub fn event_at(
 ) -> Result<Option<Found>, AllocError>
     ensures { TellsAt forest.now id.now (option_copied told.entry) → IfOk result (FindsAt known.now forest.now id.now next) }
 {
+    if forest.is_held(id) {
+        return Ok(None);
+    }
     let item = item_here(known, forest, id);
     let here = net_at(known, forest, id, &item);
-    match finish_of(id, is_at_end(&here)) {
+    match finish_of(forest, id, is_at_end(&here)) {
         Some(found) => Ok(Some(found)),
         None => item_or_tasks_at(alloc, &item, &here, id, next, told),
     }

@@ -11,13 +11,17 @@ use yw_base::Ident;
 use yw_enabled::{ItemStep, item_step};
 use yw_known::ItemHere;
 use yw_state::Event;
+use yw_tree::Forest;
 
-/// The end of the case at an identity, where `ends` says that its net is at its end. `None` of other identities, and where it isn't.
-pub fn finish_of(id: &Ident, ends: bool) -> Option<Found>
-    ensures { FindsFinish id.now ends result }
+/// The end of the case at an identity, where `ends` says that its net is at its end. `None` of other identities, where it isn't, and where a run
+/// hangs at the case.
+pub fn finish_of(forest: &Forest, id: &Ident, ends: bool) -> Option<Found>
+    ensures { (known : Holdings) → FindsFinish known forest.now id.now ends result }
 {
     match id.numbers() {
-        [number] if ends => Some(Found::plainly(Event::Finish { case: *number })),
+        [number] if ends && !forest.is_busy(id) => {
+            Some(Found::plainly(Event::Finish { case: *number }))
+        }
         _ => None,
     }
 }

@@ -1,5 +1,5 @@
-//! The next event that comes of itself in a case, by a look at each identity that stands in it, in states without rules and exlets. The
-//! README of the crate says which clause proves what.
+//! The next event that comes of itself in a case, by a look at each identity that stands in it, where nothing in the case is urgent and no
+//! compensation is at its end. The README of the crate says which clause proves what.
 #![tactic(auto)]
 
 mod found;

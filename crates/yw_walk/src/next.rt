@@ -1,5 +1,5 @@
 // The next event that comes of itself in a case.
-ghost use Rattle.std.specs.Prelude.{IfOk};
+ghost use Rattle.std.specs.Prelude.{ℕ, IfOk};
 ghost use Rattle.yw_idents.specs.Idents.{lent};
 ghost use Rattle.yw_walk.specs.Finds.{FindsAmong, FindsNext, TellsQuiet};
 
@@ -11,7 +11,7 @@ use yw_idents::idents_in;
 use yw_known::Known;
 use yw_tree::Forest;
 
-/// What comes of itself at the first of these identities at which something does.
+/// What comes of itself at the first of these identities, all of one case, at which something does.
 fn first_at(
     alloc: Global,
     known: &Known,
@@ -19,7 +19,7 @@ fn first_at(
     idents: &Vec<&Ident>,
     next: u64,
 ) -> Result<Option<Found>, AllocError>
-    ensures { IfOk result (FindsAmong known.now forest.now (lent idents.now.items) next) }
+    ensures { (n : ℕ) → IfOk result (FindsAmong known.now forest.now n (lent idents.now.items) next) }
 {
     for id in idents {
         if let Some(found) = event_at(alloc, known, forest, id, next, None)? {
@@ -29,11 +29,12 @@ fn first_at(
     Ok(None)
 }
 
-/// The next event that comes of itself in a case, in a state without rules and exlets, with what was computed of it: `None` exactly where the case
-/// is quiet, as it is where no case has this number. `next` is the number that is drawn next. An `Err` says that no memory was left.
+/// The next event that comes of itself in a case in which nothing is urgent and no compensation is at its end, with what was computed of it: `None`
+/// exactly where the case is quiet, as it is where no case has this number. `next` is the number that is drawn next. An `Err` says that no memory was
+/// left.
 ///
-/// The identities of the case are looked at in turn, each before those of what is below it; at one identity first whether the case is at
-/// its end, then how the item goes on, then which task of the net is left, and then which is entered. That the server does all this by
+/// The identities of the case are looked at in turn, each before those of what is below it; at one identity first whether work is held, then whether
+/// the case is at its end, then how the item goes on, then which task of the net is left, and then which is entered. That the server does all this by
 /// itself, and the order, are our own.
 pub fn next_event(
     alloc: Global,
@@ -50,7 +51,8 @@ pub fn next_event(
     }
 }
 
-/// Whether nothing comes of itself in a case, in a state without rules and exlets: the same look. An `Err` says that no memory was left.
+/// Whether nothing comes of itself in a case in which nothing is urgent and no compensation is at its end: the same look. An `Err` says that no
+/// memory was left.
 pub fn is_quiet(
     alloc: Global,
     known: &Known,

@@ -11,8 +11,8 @@ returns-in-Some c =
     let here = c.args.here.now in
     let u = c.task_at-task.result.now in
     let fault = value_fault u (out-NetState here.state.now).vals c.args.value c.args.next in
-    add_refused c.args.roles.now here c.args.t c.args.value c.args.next c.args.name c.requires c.args.at u c.task_at-task.ensures c.placeless.result
-    (ap (λ (r : Refusal). Some r) c.placeless.ensures ∙ ap (or_else fault) (sym c.in-Some.is ∙ c.add_rule.ensures))
+    add_refused c.args.forest.now c.args.at c.args.roles.now here c.args.t c.args.value c.args.next c.args.name c.requires u c.task_at-task.ensures c.placeless.result
+    (λ known s h. ap (λ (r : Refusal). Some r) c.placeless.ensures ∙ ap (or_else fault) (sym c.in-Some.is ∙ c.add_rule.ensures known s h))
 
 pub returns-in_default-element_value : goal.returns-in_default-element_value
 returns-in_default-element_value c =
@@ -20,9 +20,10 @@ returns-in_default-element_value c =
     let u = c.task_at-task.result.now in
     let vals = (out-NetState here.state.now).vals in
     let fault = value_fault u vals c.args.value c.args.next in
-    add_refused c.args.roles.now here c.args.t c.args.value c.args.next c.args.name c.requires c.args.at u c.task_at-task.ensures c.in_ok-bad_value.field-0
-    (ap (λ (r : Refusal). Some r) c.in_ok-bad_value.ensures ∙ sym (without_element u vals c.args.value c.args.next (sym c.in_default-element_value.ensures))
-    ∙ ap (or_else fault) (sym c.in_default.is ∙ c.add_rule.ensures))
+    add_refused c.args.forest.now c.args.at c.args.roles.now here c.args.t c.args.value c.args.next c.args.name c.requires u c.task_at-task.ensures c.in_ok-bad_value.field-0
+    (λ known s h.
+    ap (λ (r : Refusal). Some r) c.in_ok-bad_value.ensures ∙ sym (without_element u vals c.args.value c.args.next (sym c.in_default-element_value.ensures))
+    ∙ ap (or_else fault) (sym c.in_default.is ∙ c.add_rule.ensures known s h))
 
 pub returns-in-Some-2 : goal.returns-in-Some-2
 returns-in-Some-2 c =
@@ -30,10 +31,11 @@ returns-in-Some-2 c =
     let u = c.task_at-task.result.now in
     let vals = (out-NetState here.state.now).vals in
     let fault = value_fault u vals c.args.value c.args.next in
-    add_refused c.args.roles.now here c.args.t c.args.value c.args.next c.args.name c.requires c.args.at u c.task_at-task.ensures c.in-Some-2.refusal
-    (sym c.in-Some-2.is ∙ c.in_ok-refusal.ensures
+    add_refused c.args.forest.now c.args.at c.args.roles.now here c.args.t c.args.value c.args.next c.args.name c.requires u c.task_at-task.ensures c.in-Some-2.refusal
+    (λ known s h.
+    sym c.in-Some-2.is ∙ c.in_ok-refusal.ensures
     ∙ sym (with_element u vals c.args.value c.args.next c.in-Some-element_value.element (sym c.in-Some-element_value.ensures))
-    ∙ ap (or_else fault) (sym c.in_default.is ∙ c.add_rule.ensures))
+    ∙ ap (or_else fault) (sym c.in_default.is ∙ c.add_rule.ensures known s h))
 
 pub returns-in-None : goal.returns-in-None
 returns-in-None c =
@@ -42,7 +44,8 @@ returns-in-None c =
     let vals = (out-NetState here.state.now).vals in
     let element = c.in-Some-element_value.element in
     let fault = value_fault u vals c.args.value c.args.next in
-    add_made c.args.roles.now here c.args.t c.args.value c.args.next c.args.name c.requires c.args.at u c.task_at-task.ensures
-    (sym c.in-None.is ∙ c.in_ok-refusal.ensures ∙ sym (with_element u vals c.args.value c.args.next element (sym c.in-Some-element_value.ensures))
-    ∙ ap (or_else fault) (sym c.in_default.is ∙ c.add_rule.ensures))
+    add_made c.args.forest.now c.args.at c.args.roles.now here c.args.t c.args.value c.args.next c.args.name c.requires u c.task_at-task.ensures
+    (λ known s h.
+    sym c.in-None.is ∙ c.in_ok-refusal.ensures ∙ sym (with_element u vals c.args.value c.args.next element (sym c.in-Some-element_value.ensures))
+    ∙ ap (or_else fault) (sym c.in_default.is ∙ c.add_rule.ensures known s h))
     element (sym c.in-Some-element_value.ensures)

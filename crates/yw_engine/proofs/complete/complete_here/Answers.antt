@@ -1,7 +1,7 @@
 use Rattle.std.proofs.Common.{None, Option, Some, subst}
 use Rattle.yw_breaks.proofs.Whole.{complete_joins}
 use Rattle.yw_breaks.specs.Tables.{complete_front, complete_most, complete_rest}
-use Rattle.yw_engine.proofs.Completes.{asked, fits, its_task, last_first, most_first}
+use Rattle.yw_engine.proofs.Completes.{asked, fits, its_task, last_first, most_first, most_is}
 use Rattle.yw_engine.proofs.Fronts.{behind, moving}
 use Rattle.yw_engine.proofs.complete.complete_here.Goals as goal
 use Rattle.yw_standing.specs.State.{state_of}
@@ -29,7 +29,7 @@ returns-in-Some-2 c =
     let j = c.args.item in
     let gs = c.args.given.now in
     let most = subst (λ (o : Option Refusal). First (complete_most s who j gs) o) c.in-Some-2.is
-    (c.in_ok-refusal.ensures.finds h.known h.forest j c.requires.says s may.held may.plain) in
+    (most_is h may who j gs c.args.here.now c.requires.says c.forest.result.now c.forest.ensures c.in_ok-refusal.field-0 c.in_ok-refusal.ensures.finds) in
     behind h (commands.Complete who j gs) j (complete_front s who j gs) (complete_rest s who j gs) (complete_joins reader s who j gs) c.requires.front
     c.args.quiet c.requires.rest c.breaks_quiet.result c.breaks_quiet.ensures c.in_default.is
     (Some c.in-Some-2.refusal) (most_first h may who j gs c.in-Some-2.refusal most)
@@ -43,7 +43,7 @@ complete_values-requires c =
     let j = c.args.item in
     let gs = c.args.given.now in
     let most = subst (λ (o : Option Refusal). First (complete_most s who j gs) o) c.in_default-2.is
-    (c.in_ok-refusal.ensures.finds h.known h.forest j c.requires.says s may.held may.plain) in
+    (most_is h may who j gs c.args.here.now c.requires.says c.forest.result.now c.forest.ensures c.in_ok-refusal.field-0 c.in_ok-refusal.ensures.finds) in
     fits h may who j gs c.args.here.now c.requires.says most
 
 pub ask_mapping-requires : goal.ask_mapping-requires
@@ -59,7 +59,7 @@ returns-in-Some-3 c =
     let j = c.args.item in
     let gs = c.args.given.now in
     let most = subst (λ (o : Option Refusal). First (complete_most s who j gs) o) c.in_default-2.is
-    (c.in_ok-refusal.ensures.finds h.known h.forest j c.requires.says s may.held may.plain) in
+    (most_is h may who j gs c.args.here.now c.requires.says c.forest.result.now c.forest.ensures c.in_ok-refusal.field-0 c.in_ok-refusal.ensures.finds) in
     let breaks = c.in_ok-refusal-2.ensures who (c.in_ok-refusal.ensures.shown c.in_default-2.is) in
     let last = last_first h may who j gs c.args.here.now c.requires.says most c.in_ok-out.out
     (c.in_ok-out.ensures h.known h.forest j c.requires.says) c.in_ok-refusal-2.field-0 breaks in
@@ -78,7 +78,7 @@ returns-in-None c =
     let says = c.requires.says in
     let makes = c.in_ok-out.ensures h.known h.forest j says in
     let most = subst (λ (o : Option Refusal). First (complete_most s who j gs) o) c.in_default-2.is
-    (c.in_ok-refusal.ensures.finds h.known h.forest j says s may.held may.plain) in
+    (most_is h may who j gs c.args.here.now says c.forest.result.now c.forest.ensures c.in_ok-refusal.field-0 c.in_ok-refusal.ensures.finds) in
     let breaks = c.in_ok-refusal-2.ensures who (c.in_ok-refusal.ensures.shown c.in_default-2.is) in
     let last = last_first h may who j gs c.args.here.now says most c.in_ok-out.out makes c.in_ok-refusal-2.field-0 breaks in (
       behind h (commands.Complete who j gs) j (complete_front s who j gs) (complete_rest s who j gs) (complete_joins reader s who j gs) c.requires.front

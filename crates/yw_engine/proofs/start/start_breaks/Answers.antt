@@ -18,7 +18,7 @@ returns-in-Err c =
     let s = state_of h in
     let who = c.args.who.now in
     let j = c.args.item.now in
-    let held = held_by h c.known.result.now c.forest.result.now c.known.ensures c.forest.ensures c.requires.stands in
+    let held = held_by h c.known-known.result.now c.forest-forest.result.now c.known-known.ensures c.forest-forest.ensures c.requires.stands in
     subst (λ (x : Refusal). BreaksNow h (commands.Start who j) (Some x)) (sym c.placeless.ensures)
     (in_front h (commands.Start who j) j (start_front s who j) (start_rest s who j) (start_joins reader s who j) c.in-Err.rule (c.in-Err.ensures s held))
 
@@ -28,8 +28,8 @@ returns-in-Some c =
     let s = state_of h in
     let who = c.args.who.now in
     let j = c.args.item.now in
-    let held = held_by h c.known.result.now c.forest.result.now c.known.ensures c.forest.ensures c.requires.stands in
-    let roles = subst (λ (k : Holdings). HasRoles k who c.in-Ok.asked.roles.now) c.known.ensures c.in-Ok.ensures.roles in
+    let held = held_by h c.known-known.result.now c.forest-forest.result.now c.known-known.ensures c.forest-forest.ensures c.requires.stands in
+    let roles = subst (λ (k : Holdings). HasRoles k who c.in-Ok.asked.roles.now) c.known-known.ensures c.in-Ok.ensures.roles in
     moving h (commands.Start who j) j (start_front s who j) (start_rest s who j) (start_joins reader s who j) (c.in-Ok.ensures.unbroken s held)
     c.args.quiet (c.requires.rest c.in-Ok.asked.roles.now roles) c.breaks_quiet.result c.breaks_quiet.ensures c.in-Some.refusal c.in-Some.is
 
@@ -39,9 +39,9 @@ returns-in-None c =
     let s = state_of h in
     let who = c.args.who.now in
     let j = c.args.item.now in
-    let f = c.forest.result.now in
-    let held = held_by h c.known.result.now f c.known.ensures c.forest.ensures c.requires.stands in
-    let roles = subst (λ (k : Holdings). HasRoles k who c.in-Ok.asked.roles.now) c.known.ensures c.in-Ok.ensures.roles in
+    let f = c.forest-forest.result.now in
+    let held = held_by h c.known-known.result.now f c.known-known.ensures c.forest-forest.ensures c.requires.stands in
+    let roles = subst (λ (k : Holdings). HasRoles k who c.in-Ok.asked.roles.now) c.known-known.ensures c.in-Ok.ensures.roles in
     behind h (commands.Start who j) j (start_front s who j) (start_rest s who j) (start_joins reader s who j) (c.in-Ok.ensures.unbroken s held)
     c.args.quiet (c.requires.rest c.in-Ok.asked.roles.now roles) c.breaks_quiet.result c.breaks_quiet.ensures c.in-None.is
-    c.start_rest.result (c.start_rest.ensures c.known.result.now f who j c.in-Ok.ensures.roles c.in-Ok.ensures.says s held c.requires.stands.plain)
+    c.start_rest.result (c.start_rest.ensures c.known-known.result.now who j c.in-Ok.ensures.roles c.in-Ok.ensures.says s held)

@@ -6,7 +6,7 @@ use Rattle.yw_loose.proofs.next.event_counted.Goals as goal
 pub returns-clause-found : goal.returns-clause-found
 returns-clause-found c =
     found_counted c.args.known.now c.args.forest.now c.args.id.now c.args.next c.args.counts.now (option_copied c.told.result)
-    (λ s w right.
-    tells c.args.known.now c.args.forest.now c.args.next s w c.args.id.now c.numbers.ensures.identity c.know.new.self
-    (c.in_ok-know.ensures c.args.known.now c.args.next s w right) (option_copied c.told.result) c.told.ensures)
+    (λ s held right.
+    tells c.args.known.now c.args.forest.now s held c.args.id.now c.numbers.ensures.identity c.know.new.self
+    (c.in_ok-know.ensures c.args.known.now s held right) (option_copied c.told.result) c.told.ensures)
     c.event_at.result c.event_at.ensures

@@ -1,6 +1,6 @@
 use Rattle.std.proofs.Common.{subst}
 use Rattle.yw_enabled.proofs.Results.{ok_then}
-use Rattle.yw_walk.proofs.AllStill.{below_there}
+use Rattle.yw_walk.proofs.AllRest.{below_there}
 use Rattle.yw_walk.proofs.identity.item_or_tasks_at.Goals as goal
 use Rattle.yw_walk.specs.Finds.{FindsStep}
 

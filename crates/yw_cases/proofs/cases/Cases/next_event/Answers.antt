@@ -8,7 +8,7 @@ use Rattle.yw_state.specs.Automatic.{IsQuiet}
 use Rattle.yw_walk.specs.Finds.{IsFound}
 
 pub invariant_of-self : goal.invariant_of-self
-invariant_of-self c = rested_looked c.self.inside.standing c.self.inside.loose c.self.invariant c.next_event.new.self c.next_event.ensures.rested
+invariant_of-self c = rested_looked c.self.inside.standing c.self.inside.loose c.self.invariant c.args.n c.next_event.new.self c.next_event.ensures.rested
 
 pub returns-clause-found : goal.returns-clause-found
 returns-clause-found c =

@@ -6,9 +6,9 @@ use Rattle.yw_tree.proofs.OnResults.{on_ok}
 
 pub returns : goal.returns
 returns c =
-    on_ok c.add_made.result _ _ c.add_made.ensures
-    (λ made. moved_at c.args.self.now c.add_made.new.self c.args.event.now c.args.at.now c.requires
-    (then c.args.self.now c.add_around.new.self c.add_made.new.self _ _ c.in_ok-add_around.ensures made))
+    on_ok c.add_around.result _ _ c.add_around.ensures
+    (λ around. moved_at c.args.self.now c.add_around.new.self c.args.event.now c.args.at.now c.requires
+    (then c.args.self.now c.add_made.new.self c.add_around.new.self _ _ c.in_ok-add_made.ensures around))
 
 pub returns-then-not-contains : goal.returns-then-not-contains
 returns-then-not-contains c =

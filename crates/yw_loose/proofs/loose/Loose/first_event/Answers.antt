@@ -1,7 +1,7 @@
 use Rattle.std.proofs.Common.{ap, arith, length, subst, sym, ◌<◌, ◌∙◌}
 use Rattle.std.specs.BTreeSet.{BTreeSet, Updates}
 use Rattle.std.specs.Prelude.{false, slice_get}
-use Rattle.yw_loose.proofs.Looking.{none_there, other_passes, recounts, still_passes}
+use Rattle.yw_loose.proofs.Looking.{found_there, none_there, other_passes, recounts, resting_passes}
 use Rattle.yw_loose.proofs.Sets.{first_popped, none_first}
 use Rattle.yw_loose.proofs.loose.Loose.first_event.Goals as goal
 use Rattle.yw_loose.specs.Loose.{Forgets}
@@ -32,8 +32,8 @@ idents-preserved-then-case-n c =
 
 pub idents-preserved-in_default-found : goal.idents-preserved-in_default-found
 idents-preserved-in_default-found c =
-    still_passes c.args.known.now c.args.forest.now c.args.n c.args.next c.args.self.now c.idents.self c.idents.invariant c.event_counted.new.counts
-    c.pop_first-in-Some.new.self c.in-Some.id.now c.in_ok-found.ensures.right
+    resting_passes c.args.known.now c.args.forest.now c.args.n c.args.next c.args.self.now c.idents.self c.idents.invariant c.event_counted.new.counts
+    c.pop_first-in-Some.new.self c.in-Some.id.now (sym c.case_number-case.ensures ∙ c.if-case-n.false) c.in_ok-found.ensures.right
     (first_popped c.idents.self.idents c.pop_first-in-Some.new.self c.in-Some.id.now c.pop_first-in-Some.result c.in-Some.ensures.first
     c.pop_first-in-Some.ensures.variant c.pop_first-in-Some.ensures.removal c.pop_first-in-Some.ensures.updates).0
     (subst (FindsCounted c.args.known.now c.args.forest.now c.in-Some.id.now c.args.next c.idents.self.counts) c.in_default-found.is c.in_ok-found.ensures.found)
@@ -47,6 +47,12 @@ pub returns-in-Some-found-clause-rested : goal.returns-in-Some-found-clause-rest
 returns-in-Some-found-clause-rested c =
     (recounts c.args.known.now c.args.forest.now c.args.n c.args.next c.args.self.now c.idents.self c.idents.invariant c.event_counted.new.counts
     c.in_ok-found.ensures.right).rested
+
+pub returns-in-Some-found-clause-found : goal.returns-in-Some-found-clause-found
+returns-in-Some-found-clause-found c =
+    found_there c.args.known.now c.args.forest.now c.args.n c.args.next c.args.self.now c.idents.self c.idents.invariant c.in-Some.id.now
+    c.in-Some-found.found (sym c.case_number-case.ensures ∙ c.if-case-n.false)
+    (subst (FindsCounted c.args.known.now c.args.forest.now c.in-Some.id.now c.args.next c.idents.self.counts) c.in-Some-found.is c.in_ok-found.ensures.found)
 
 pub returns-clause-found : goal.returns-clause-found
 returns-clause-found c =
