@@ -188,7 +188,7 @@ class KnownTest(unittest.TestCase):
         self.assertEqual((known.ready, known.working), ({}, {}))
 
     def test_what_is_not_known_here_is_said(self):
-        for word, fields in (("suspend", {"at": "1"}), ("load", {"name": "a", "toml": "name = "}), ("load", {"name": "a", "toml": 'name = "a"'})):
+        for word, fields in (("raise", {"at": "1"}), ("load", {"name": "a", "toml": "name = "}), ("load", {"name": "a", "toml": 'name = "a"'})):
             with self.subTest(word), self.assertRaises(NotReplayed):
                 known_after(*self.BEGUN, (word, fields))
 

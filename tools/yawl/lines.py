@@ -10,8 +10,9 @@ from yawl.rules import forms
 
 # What a field may be typed as, beside the forms that docs/LINES.md has: a file's name for its text.
 SHOWN = {"TEXT": "FILE", "[NAME,..]": "NAME ..", "{NAME:VALUE,..}": "NAME=VALUE .."}
-# Words whose case has to be typed: `cancel` ends it for good, and `ended` asks for a case that isn't known any more.
-TYPED = ("cancel", "ended")
+# Words whose identity has to be typed: `cancel` ends a case for good, `ended` asks for one that isn't known any more, and no case or item is more likely to
+# be suspended than another.
+TYPED = ("cancel", "ended", "suspend", "continue")
 # Words that take the number of a case and no net within it.
 OF_CASE = ("advance", "show")
 
@@ -73,7 +74,7 @@ class Typed:
         if self.rest and self.rest[0][0].isdigit() and self.rest[0].replace(".", "").isdigit():
             return self.rest.pop(0)
         if self.word in TYPED:
-            return self.lacks("a case")
+            return self.lacks("a case" if name == "case" else "a case or an item")
         if name == "case":
             net = self.known.nets[-1] if self.known.nets else self.lacks("a case: none is known")
             return net.partition(".")[0] if self.word in OF_CASE else net

@@ -174,7 +174,8 @@ _ACTS = {
     "person": Folder.person, "load": Folder.load, "rule": Folder.nothing, "launch": Folder.launch, "enter": Folder.enter,
     "start": Folder.start, "complete": Folder.complete, "exit": Folder.exit, "add": Folder.add, "finish": Folder.end,
     "cancel": Folder.end, "startsub": Folder.start_sub, "completesub": Folder.complete_net, "completeempty": Folder.complete,
-    "pass": Folder.nothing, "substitute": Folder.substitute, "completeworklet": Folder.complete_net, "advance": Folder.nothing,
+    "pass": Folder.nothing, "substitute": Folder.substitute, "completeworklet": Folder.complete_net, "suspend": Folder.nothing,
+    "continue": Folder.nothing, "advance": Folder.nothing,
 }
 
 

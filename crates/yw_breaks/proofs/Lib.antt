@@ -12,3 +12,4 @@ pub mod Completes
 pub mod Adds
 pub mod Allowed
 pub mod Asking
+pub mod Marked

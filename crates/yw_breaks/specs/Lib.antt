@@ -7,4 +7,5 @@ pub mod Start
 pub mod Enter
 pub mod Complete
 pub mod Add
+pub mod Marks
 pub mod Events

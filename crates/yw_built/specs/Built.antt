@@ -3,7 +3,7 @@ use Rattle.std.specs.Prelude.{Bool, true, false}
 use Rattle.yw_state.specs.declared.event.Event.{Event}
 use Rattle.yw_state.specs.declared.event.Event.TheVariants as events
 
--- those of neither a rule tree nor an exlet
+-- those of neither a rule tree nor the run of an exlet
 abbrev pub is_built : Event → Bool
 is_built (events.Person name roles) = true
 is_built (events.Load name text) = true
@@ -18,5 +18,7 @@ is_built (events.Cancel n) = true
 is_built (events.StartSub j) = true
 is_built (events.CompleteSub j) = true
 is_built (events.CompleteEmpty j) = true
+is_built (events.Suspend j) = true
+is_built (events.Continue j) = true
 is_built (events.Advance n) = true
 is_built event = false

@@ -4,7 +4,7 @@ ghost use Rattle.yw_built.specs.Built.{is_built};
 
 use yw_state::Event;
 
-/// It is of neither a rule tree nor an exlet.
+/// It is of neither a rule tree nor the run of an exlet.
 pub fn is_built(event: &Event) -> bool
     ensures { result ≡ is_built event.now }
 {
@@ -22,6 +22,8 @@ pub fn is_built(event: &Event) -> bool
         | Event::StartSub { .. }
         | Event::CompleteSub { .. }
         | Event::CompleteEmpty { .. }
+        | Event::Suspend { .. }
+        | Event::Continue { .. }
         | Event::Advance { .. } => true,
         _ => false,
     }

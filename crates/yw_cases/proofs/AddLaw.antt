@@ -1,7 +1,8 @@
 -- An item is added to a task.
 use Rattle.std.proofs.Common.{ap, arith, length, refl, subst, sym, ◌∙◌, ◌≤◌}
+use Rattle.std.proofs.Math.Bool.{and-false, and-true}
 use Rattle.std.proofs.lemmas.Bool.{and_parts, eqb-true, leb-true}
-use Rattle.std.specs.Prelude.{Bool, List, None, Option, Some, [], cond, false, find, is_none, is_some, map, nat_le, nat_lt, option_map, slice_get, true, ℕ, ◌&&◌, ◌+◌, ◌==◌, ◌∷◌, ◌≡◌}
+use Rattle.std.specs.Prelude.{Bool, List, None, Option, Some, [], cond, false, find, is_none, is_some, map, nat_le, nat_lt, not, option_map, slice_get, true, ℕ, ◌&&◌, ◌+◌, ◌==◌, ◌∷◌, ◌≡◌}
 use Rattle.yw_base.specs.Identity.{number_end}
 use Rattle.yw_base.specs.Values.{may_hold}
 use Rattle.yw_base.specs.declared.value.Value.{Value}
@@ -25,7 +26,7 @@ use Rattle.yw_standing.specs.Here.{IsNetKnown, with_state}
 use Rattle.yw_standing.specs.State.{state_of}
 use Rattle.yw_standing.specs.Tried.{IsDone, LeadsOn, TellsLeads}
 use Rattle.yw_standing.specs.declared.standing.Standing.{Standing}
-use Rattle.yw_state.proofs.Tests.{by_option, map_some, nowhere, some_same, then_some, there_and}
+use Rattle.yw_state.proofs.Tests.{and_right, by_option, map_some, nowhere, some_same, then_some, there_and}
 use Rattle.yw_state.specs.After.{with_next}
 use Rattle.yw_state.specs.Allowed.{allows, element_param, is_next, may_add}
 use Rattle.yw_state.specs.Identity.{Ident}
@@ -35,7 +36,7 @@ use Rattle.yw_state.specs.Passing.{given_value, given_values}
 use Rattle.yw_state.specs.State.{State, TaskAt, items_of, no_checks, task_at}
 use Rattle.yw_state.specs.Texts.{Said, nothing}
 use Rattle.yw_state.specs.Values.{Row}
-use Rattle.yw_state.specs.Words.{active}
+use Rattle.yw_state.specs.Words.{active, held}
 use Rattle.yw_state.specs.declared.event.Event.TheVariants as events
 use Rattle.yw_steps.proofs.FromState.{come_before}
 use Rattle.yw_steps.specs.Adds.{AddsElement, MayComeMoreAt}
@@ -76,14 +77,6 @@ given_where task vals v =
 
 -- ---- whether it is allowed
 
-and_true : (b : Bool) → (b && true) ≡ b
-and_true true = refl
-and_true false = refl
-
-and_false : (b : Bool) → (b && false) ≡ false
-and_false true = refl
-and_false false = refl
-
 module _ (old : Standing) (may : MayStand old) (i : Ident) (name : List ℕ) (value : Value) (n : ℕ) where
   abbrev s : State
   s = state_of old
@@ -91,24 +84,32 @@ module _ (old : Standing) (may : MayStand old) (i : Ident) (name : List ℕ) (va
   abbrev drawn : Bool
   drawn = n == old.next && nat_le (n + 1) number_end
 
+  -- the task may have such an item, and nothing holds work there
+  abbrev grows : Bool
+  grows = not (held s i) && is_some_and (task_at s i name) (may_add s i value)
+
   abbrev may_be_added : Bool
-  may_be_added = is_some_and (task_at s i name) (may_add s i value) && drawn
+  may_be_added = grows && drawn
 
   add_as : (said : Said) → allows s (events.Add i name value n) said ≡ may_be_added
   unfolding allows
   add_as said =
       ap (λ b. b && is_next s n) (only_clear s (words_of old may) i (is_some_and (task_at s i name) (may_add s i value)))
-      ∙ ap (λ k. is_some_and (task_at s i name) (may_add s i value) && (n == k && nat_le (n + 1) number_end)) (next_is old)
+      ∙ ap (λ k. grows && (n == k && nat_le (n + 1) number_end)) (next_is old)
 
   tells_add : (b : Bool) → may_be_added ≡ b → TellsLeads old (events.Add i name value n) b
   tells_add true e = leads_plainly old (events.Add i name value n) refl (add_as nothing ∙ e, tt)
   tells_add false e = fails old (events.Add i name value n) (λ said. add_as said ∙ e)
 
   pub not_next : drawn ≡ false → TellsLeads old (events.Add i name value n) false
-  not_next e = tells_add false (ap (λ b. is_some_and (task_at s i name) (may_add s i value) && b) e ∙ and_false (is_some_and (task_at s i name) (may_add s i value)))
+  not_next e = tells_add false (ap (λ b. grows && b) e ∙ and-false grows)
+
+  pub held_back : held s i ≡ true → TellsLeads old (events.Add i name value n) false
+  held_back is = tells_add false (ap (λ b. not b && is_some_and (task_at s i name) (may_add s i value) && drawn) is)
 
   pub no_task : task_at s i name ≡ None → TellsLeads old (events.Add i name value n) false
-  no_task none = tells_add false (ap (λ o. is_some_and o (may_add s i value) && drawn) none)
+  no_task none =
+      tells_add false (ap (λ o. not (held s i) && is_some_and o (may_add s i value) && drawn) none ∙ ap (λ b. b && drawn) (and-false (not (held s i))))
 
   module _ (w : NetHere) (here : IsNetHere old.known old.forest s i w) (t : ℕ) (number : task_number w.net.now name ≡ Some t) (task : Task)
       (of_net : slice_get w.net.now.tasks t ≡ Some task) where
@@ -123,19 +124,20 @@ module _ (old : Standing) (may : MayStand old) (i : Ident) (name : List ℕ) (va
         its_active (names_of old.known) old.forest s i w.net.now w.state.now here.stands t j && has_room task (count_is j) && takes_element task value
         && given_where task (out-NetState w.state.now).vals value j
 
-    pub tells_growth : drawn ≡ true → (b : Bool) → b ≡ may_grow w.state.now task t value → TellsLeads old (events.Add i name value n) b
-    tells_growth next b is =
-        tells_add b (ap (λ o. is_some_and o (may_add s i value) && drawn) (named old i w here name t number task of_net)
-        ∙ ap (λ d. may_add s i value x && d) next ∙ and_true (may_add s i value x) ∙ grows_as ∙ sym is)
+    pub tells_growth : held s i ≡ false → drawn ≡ true → (b : Bool) → b ≡ may_grow w.state.now task t value → TellsLeads old (events.Add i name value n) b
+    tells_growth unheld next b is =
+        tells_add b (ap (λ h. not h && is_some_and (task_at s i name) (may_add s i value) && drawn) unheld
+        ∙ ap (λ o. is_some_and o (may_add s i value) && drawn) (named old i w here name t number task of_net)
+        ∙ ap (λ d. may_add s i value x && d) next ∙ and-true (may_add s i value x) ∙ grows_as ∙ sym is)
 
   -- ---- where it is allowed
 
   module _ (leads : LeadsOn old (events.Add i name value n)) where
-    both : (is_some_and (task_at s i name) (may_add s i value) ≡ true) × (drawn ≡ true)
-    both = and_parts (is_some_and (task_at s i name) (may_add s i value)) drawn (sym (add_as leads.1.said) ∙ leads.1.allowed.0)
+    both : (grows ≡ true) × (drawn ≡ true)
+    both = and_parts grows drawn (sym (add_as leads.1.said) ∙ leads.1.allowed.0)
 
     added_task : (y : TaskAt) × (task_at s i name ≡ Some y) × (may_add s i value y ≡ true)
-    added_task = there_and (task_at s i name) (may_add s i value) both.0
+    added_task = there_and (task_at s i name) (may_add s i value) (and_right (not (held s i)) (is_some_and (task_at s i name) (may_add s i value)) both.0)
 
     number_is : n ≡ s.next
     number_is = eqb-true n old.next (and_parts (n == old.next) (nat_le (n + 1) number_end) both.1).0 ∙ sym (next_is old)

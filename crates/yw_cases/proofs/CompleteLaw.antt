@@ -1,7 +1,8 @@
 -- A person completes an item.
 use Rattle.std.proofs.Common.{ap, subst, sym, ◌∙◌}
+use Rattle.std.proofs.Math.Bool.{and-false}
 use Rattle.std.proofs.lemmas.Bool.{and_from}
-use Rattle.std.specs.Prelude.{Bool, IsSome, List, MatchOption, None, Option, Some, false, is_none, is_some, refl, true, ℕ, ◌&&◌, ◌||◌, ◌∷◌, ◌≡◌}
+use Rattle.std.specs.Prelude.{Bool, IsSome, List, MatchOption, None, Option, Some, false, is_none, is_some, not, refl, true, ℕ, ◌&&◌, ◌||◌, ◌∷◌, ◌≡◌}
 use Rattle.yw_base.specs.Identity.{is_identity, parent}
 use Rattle.yw_cases.proofs.Allows.{free}
 use Rattle.yw_cases.proofs.Trying.{done, stands_well, words_of}
@@ -33,7 +34,7 @@ use Rattle.yw_state.specs.State.{ItemAt, State, is_item, item_at, items_of, net_
 use Rattle.yw_state.specs.Texts.{Said, nothing}
 use Rattle.yw_state.specs.Values.{Row}
 use Rattle.yw_state.specs.Well.{wants_net}
-use Rattle.yw_state.specs.Words.{is_executing}
+use Rattle.yw_state.specs.Words.{held, is_executing}
 use Rattle.yw_state.specs.declared.event.Event.TheVariants as events
 use Rattle.yw_state.specs.declared.rule.Refusal.{Refusal}
 use Rattle.yw_state.specs.declared.rule.Rule.{Rule}
@@ -65,7 +66,7 @@ module _ (old : Standing) (may : MayStand old) (j : Ident) (out : Row) where
   abbrev s : State
   s = state_of old
 
-  complete_as : (said : Said) → allows s (events.Complete j out) said ≡ is_some_and (item_at s j) (may_complete s j out)
+  complete_as : (said : Said) → allows s (events.Complete j out) said ≡ (not (held s j) && is_some_and (item_at s j) (may_complete s j out))
   unfolding allows
   complete_as said = free s (words_of old may) j (is_some_and (item_at s j) (may_complete s j out))
 
@@ -74,13 +75,21 @@ module _ (old : Standing) (may : MayStand old) (j : Ident) (out : Row) where
   Completing = (x : ItemAt) × (item_at s j ≡ Some x) × (may_complete s j out x ≡ true)
 
   completing : (t : State) → Leads reader s (events.Complete j out) t → Completing
-  completing t leads = there_and (item_at s j) (may_complete s j out) (sym (complete_as leads.said) ∙ leads.allowed.0)
+  completing t leads =
+      there_and (item_at s j) (may_complete s j out)
+      (and_right (not (held s j)) (is_some_and (item_at s j) (may_complete s j out)) (sym (complete_as leads.said) ∙ leads.allowed.0))
 
   -- ---- whether it may be
 
+  pub held_back : held s j ≡ true → LeadsNowhere old (events.Complete j out)
+  held_back is = fails old (events.Complete j out) (λ said. complete_as said ∙ ap (λ b. not b && is_some_and (item_at s j) (may_complete s j out)) is)
+
   pub not_there : (o : Option ItemHere) → o ≡ None → FoundIs old j o → LeadsNowhere old (events.Complete j out)
   not_there o is found =
-      fails old (events.Complete j out) (λ said. complete_as said ∙ ap (λ (z : Option ItemAt). is_some_and z (may_complete s j out)) (no_item s j (subst (FoundIs old j) is found)))
+      fails old (events.Complete j out)
+      (λ said.
+      complete_as said ∙ ap (λ (z : Option ItemAt). not (held s j) && is_some_and z (may_complete s j out)) (no_item s j (subst (FoundIs old j) is found))
+      ∙ and-false (not (held s j)))
 
   module _ (w : ItemHere) (here : IsItemHere old.known old.forest s j w) where
     abbrev x : ItemAt
@@ -89,19 +98,19 @@ module _ (old : Standing) (may : MayStand old) (j : Ident) (out : Row) where
     abbrev defined : Bool
     defined = is_defined x.of_task.task (made_rows_with (items_of s (parent j) x.part.task) j out) x.of_task.within.part.vals
 
-    its_test : (said : Said) → allows s (events.Complete j out) said ≡ may_complete s j out x
-    its_test said = complete_as said ∙ ap (λ (z : Option ItemAt). is_some_and z (may_complete s j out)) here.at
+    its_test : (said : Said) → allows s (events.Complete j out) said ≡ (not (held s j) && may_complete s j out x)
+    its_test said = complete_as said ∙ ap (λ (z : Option ItemAt). not (held s j) && is_some_and z (may_complete s j out)) here.at
 
     pub not_made : can_make w.item.now w.task.now out ≡ false → LeadsNowhere old (events.Complete j out)
     not_made e t leads =
-        let all : may_complete s j out x ≡ true = sym (its_test leads.said) ∙ leads.allowed.0 in
+        let all : may_complete s j out x ≡ true = and_right (not (held s j)) (may_complete s j out x) (sym (its_test leads.said) ∙ leads.allowed.0) in
         let four = and_left (is_executing x.part.stage && is_some x.part.who && is_none (net_part s j) && row_fits x.of_task.task.outs out) defined all in
         let fits = and_right (is_executing x.part.stage && is_some x.part.who && is_none (net_part s j)) (row_fits x.of_task.task.outs out) four in
         let three = and_left (is_executing x.part.stage && is_some x.part.who && is_none (net_part s j)) (row_fits x.of_task.task.outs out) four in
         let begun = and_left (is_executing x.part.stage && is_some x.part.who) (is_none (net_part s j)) three in
         never (sym e ∙ and_from (is_executing x.part.stage && is_some x.part.who) (row_fits x.of_task.task.outs out) begun fits)
 
-    module _ (makes : can_make w.item.now w.task.now out ≡ true) where
+    module _ (unheld : held s j ≡ false) (makes : can_make w.item.now w.task.now out ≡ true) where
       begun : (is_executing x.part.stage && is_some x.part.who) ≡ true
       begun = and_left (is_executing x.part.stage && is_some x.part.who) (row_fits x.of_task.task.outs out) makes
 
@@ -159,7 +168,7 @@ module _ (old : Standing) (may : MayStand old) (j : Ident) (out : Row) where
           let four : (is_executing x.part.stage && is_some x.part.who && is_none (net_part s j) && row_fits x.of_task.task.outs out) ≡ true =
           and_from (is_executing x.part.stage && is_some x.part.who && is_none (net_part s j)) (row_fits x.of_task.task.outs out)
           (and_from (is_executing x.part.stage && is_some x.part.who) (is_none (net_part s j)) begun (ap is_none no_net)) fits in
-          its_test said ∙ ap (λ c. c && defined) four
+          its_test said ∙ ap (λ b. not b && may_complete s j out x) unheld ∙ ap (λ c. c && defined) four
           ∙ defined_is old.forest may.held.boxed j identity w.outer.net.now place w.task.now here.of_net (names_of old.known) s may.held.sites item_is out fits ∙ sym is
 
       pub tells_completed : (b : Bool) → DefinedOnce b → TellsLeads old (events.Complete j out) b

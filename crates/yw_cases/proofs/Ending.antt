@@ -1,10 +1,12 @@
 -- A case is over, or goes on.
-use Rattle.std.proofs.Common.{sym, ◌∙◌}
-use Rattle.std.specs.Prelude.{Bool, List, false, is_some, refl, true, ℕ, ◌∷◌, [], ◌≡◌}
+use Rattle.std.proofs.Common.{ap, sym, ◌∙◌}
+use Rattle.std.proofs.Math.Bool.{and-false}
+use Rattle.std.specs.Prelude.{Bool, List, false, is_some, not, refl, true, ℕ, ◌&&◌, ◌∷◌, [], ◌≡◌}
 use Rattle.yw_base.specs.Identity.{is_identity}
 use Rattle.yw_cases.proofs.Allows.{finish_as}
 use Rattle.yw_cases.proofs.Trying.{done, words_of}
 use Rattle.yw_library.specs.Ended.{ended_of}
+use Rattle.yw_cases.specs.Ending.{case_ends}
 use Rattle.yw_cases.specs.State.{MayStand}
 use Rattle.yw_known.proofs.Items.{case_is}
 use Rattle.yw_nest.specs.Cases.{Cancels, Finishes, with_ended}
@@ -22,6 +24,7 @@ use Rattle.yw_state.specs.Joins.{at_output, marked}
 use Rattle.yw_state.specs.Map.{insert}
 use Rattle.yw_state.specs.State.{NetAt, is_case, net_at}
 use Rattle.yw_state.specs.Texts.{nothing}
+use Rattle.yw_state.specs.Words.{held}
 use Rattle.yw_state.specs.declared.event.Event.TheVariants as events
 use Rattle.yw_state.specs.declared.part.Way.{Way}
 use Rattle.yw_state.specs.declared.part.Way.TheVariants.{Cancelled, Finished}
@@ -30,8 +33,8 @@ use Rattle.yw_tree.specs.declared.Forest.{Forest}
 
 module _ (old : Standing) (may : MayStand old) (n : ℕ) where
   -- at no number but an identity's is a net at its end
-  pub no_number : (is_identity (n ∷ []) ≡ true → ⊥) → at_output (state_of old) (case_ident n) ≡ false
-  no_number off =
+  none_at_output : (is_identity (n ∷ []) ≡ true → ⊥) → at_output (state_of old) (case_ident n) ≡ false
+  none_at_output off =
       by_test (at_output (state_of old) (case_ident n))
       (λ (ends : at_output (state_of old) (case_ident n) ≡ true).
       let net = there_and (net_at (state_of old) (case_ident n)) (λ (w : NetAt). marked (state_of old) (case_ident n) w.net.output) ends in
@@ -39,13 +42,18 @@ module _ (old : Standing) (may : MayStand old) (n : ℕ) where
       absurd (off (may.held.well.numbers.identities (case_ident n) stands.0 stands.1)))
       (λ e. e)
 
+  -- so no case ends there
+  pub no_number : (is_identity (n ∷ []) ≡ true → ⊥) → case_ends (state_of old) n ≡ false
+  no_number off =
+      ap (λ b. not (held (state_of old) (case_ident n)) && b) (none_at_output off) ∙ and-false (not (held (state_of old) (case_ident n)))
+
   -- ---- it is finished
 
-  not_finished : at_output (state_of old) (case_ident n) ≡ false → LeadsNowhere old (events.Finish n)
+  not_finished : case_ends (state_of old) n ≡ false → LeadsNowhere old (events.Finish n)
   not_finished e = fails old (events.Finish n) (λ said. finish_as (state_of old) (words_of old may) n said ∙ e)
 
   module _ (f : Forest) (es : List (ℕ × Way)) where
-    pub finished : at_output (state_of old) (case_ident n) ≡ true → ended_of es ≡ insert (ended_of old.ended) n Finished → Finishes n old.forest f
+    pub finished : case_ends (state_of old) n ≡ true → ended_of es ≡ insert (ended_of old.ended) n Finished → Finishes n old.forest f
         → IsDone old (events.Finish n) (record old { forest = f; ended = es })
     finished e put does =
         done old may (λ names. events.Finish n) NeedsNothing (with_ended n Finished) (events.Finish n) (record old { forest = f; ended = es }) does tt refl
@@ -69,7 +77,7 @@ module _ (old : Standing) (may : MayStand old) (n : ℕ) where
 
   -- ---- whether it may be
 
-  pub tells_finish : (b : Bool) → at_output (state_of old) (case_ident n) ≡ b → TellsLeads old (events.Finish n) b
+  pub tells_finish : (b : Bool) → case_ends (state_of old) n ≡ b → TellsLeads old (events.Finish n) b
   tells_finish true e = leads_plainly old (events.Finish n) refl (finish_as (state_of old) (words_of old may) n nothing ∙ e, tt)
   tells_finish false e = not_finished e
 
@@ -85,7 +93,7 @@ module _ (old : Standing) (may : MayStand old) (n : ℕ) where
 
   -- ---- where it is allowed
 
-  pub finishes_so : LeadsOn old (events.Finish n) → at_output (state_of old) (case_ident n) ≡ true
+  pub finishes_so : LeadsOn old (events.Finish n) → case_ends (state_of old) n ≡ true
   finishes_so leads = sym (finish_as (state_of old) (words_of old may) n leads.1.said) ∙ leads.1.allowed.0
 
   pub cancels_so : LeadsOn old (events.Cancel n) → is_case (state_of old) (case_ident n) ≡ true

@@ -1,10 +1,10 @@
 -- A task is entered, and gets items.
 use Rattle.std.proofs.Common.{List, ap, arith, length, refl, subst, sym, ◌+◌, ◌<◌, ◌∙◌, ◌≤◌}
 use Rattle.std.proofs.lemmas.Bool.{leb-true}
-use Rattle.std.specs.Prelude.{Option, Some, [], slice_get, true, unwrap_or, ℕ, ◌≡◌}
+use Rattle.std.specs.Prelude.{Option, Some, [], false, slice_get, true, unwrap_or, ℕ, ◌≡◌}
 use Rattle.yw_accepted.proofs.Loaded.{accepted_are_sound, accepted_are_within}
 use Rattle.yw_base.specs.Identity.{most_numbers, number_end}
-use Rattle.yw_cases.proofs.EntryLaw.{Entering, enter_as, entering, its_entry}
+use Rattle.yw_cases.proofs.EntryLaw.{Entering, enter_as, entering, its_entry, task_by, unheld_by}
 use Rattle.yw_cases.proofs.TaskHere.{its, named, named_so, numbered_by, task_known}
 use Rattle.yw_cases.proofs.Trying.{done, words_of}
 use Rattle.yw_cases.specs.State.{MayStand}
@@ -31,7 +31,7 @@ use Rattle.yw_state.specs.Nets.{task_number}
 use Rattle.yw_state.specs.State.{NetAt, State, TaskAt, net_at, no_checks, task_at}
 use Rattle.yw_state.specs.Texts.{nothing}
 use Rattle.yw_state.specs.Values.{Row}
-use Rattle.yw_state.specs.Words.{active}
+use Rattle.yw_state.specs.Words.{active, held}
 use Rattle.yw_state.specs.declared.event.Event.TheVariants as events
 use Rattle.yw_steps.proofs.FromState.{may_get}
 use Rattle.yw_steps.specs.Enters.{AreEntryRowsAt, Enters, MayComeAt, StandsFor}
@@ -85,7 +85,10 @@ module _ (old : Standing) (may : MayStand old) (i : Ident) (name : List ℕ) (pl
       (enter_as old may i name places first count nothing ∙ sym (enter_as old may i name places first count leads.1.said) ∙ leads.1.allowed.0, leads.1.allowed.1)
 
   pub entered_task : (x : TaskAt) × (task_at s i name ≡ Some x) × (may_enter s i places first count x ≡ true)
-  entered_task = there_and (task_at s i name) (may_enter s i places first count) (sym (enter_as old may i name places first count leads.1.said) ∙ leads.1.allowed.0)
+  entered_task = there_and (task_at s i name) (may_enter s i places first count) (task_by old may i name places first count leads.0 leads.1)
+
+  unheld : held s i ≡ false
+  unheld = unheld_by old may i name places first count leads.0 leads.1
 
   module _ (w : KnownNet) (known : IsNetKnown old.known old.forest s i w) (t : ℕ) (taken : Taken) (rows : List Row) (takes : EntryTakes s i name places t taken rows) where
     pub entry_number : task_number w.net.now name ≡ Some t
@@ -105,10 +108,10 @@ module _ (old : Standing) (may : MayStand old) (i : Ident) (name : List ℕ) (pl
     its_name : task.name ≡ name
     its_name = named_so w.net.now t task name of_net number
 
-    abbrev facts : Entering old may i name places first count (with_state w known.state) known.here t number task of_net
+    abbrev facts : Entering old may i name places first count (with_state w known.state) known.here t number task of_net unheld
     facts =
-        entering old may i name places first count (with_state w known.state) known.here t number task of_net
-        (its_entry old may i name places first count (with_state w known.state) known.here t number task of_net leads.0 leads.1)
+        entering old may i name places first count (with_state w known.state) known.here t number task of_net unheld
+        (its_entry old may i name places first count (with_state w known.state) known.here t number task of_net unheld leads.0 leads.1)
 
     pub room_there : first + count ≤ number_end
     room_there = leb-true (first + count) number_end facts.room

@@ -1,10 +1,11 @@
 -- Whether a task's entry is allowed.
 use Rattle.std.proofs.Common.{ap, length, refl, subst, sym, ◌∙◌}
+use Rattle.std.proofs.Math.Bool.{and-false}
 use Rattle.std.proofs.lemmas.Bool.{and_from, and_parts, eq-eqb, eqb-true}
-use Rattle.std.specs.Prelude.{List, None, Option, Some, Vec, [], false, nat_le, not, slice_get, true, unwrap_or, ℕ, ◌&&◌, ◌+◌, ◌==◌, ◌≡◌}
+use Rattle.std.specs.Prelude.{Bool, List, None, Option, Some, Vec, [], false, nat_le, not, slice_get, true, unwrap_or, ℕ, ◌&&◌, ◌+◌, ◌==◌, ◌≡◌}
 use Rattle.std.specs.declared.alloc.Global.{Global}
 use Rattle.yw_base.specs.Identity.{number_end}
-use Rattle.yw_cases.proofs.Allows.{only_clear}
+use Rattle.yw_cases.proofs.Allows.{clear_there, only_clear}
 use Rattle.yw_accepted.proofs.Loaded.{accepted_are_within}
 use Rattle.yw_cases.proofs.TaskHere.{its, named, named_so, numbered}
 use Rattle.yw_cases.proofs.Taking.{joined, taken_by}
@@ -26,7 +27,7 @@ use Rattle.yw_standing.specs.declared.standing.Standing.{Standing}
 use Rattle.yw_texts.specs.Texts.{reader}
 use Rattle.yw_spec.specs.declared.spec.Place.{Place}
 use Rattle.yw_spec.specs.declared.task.Task.{Task}
-use Rattle.yw_state.proofs.Tests.{never, some_same, there_and}
+use Rattle.yw_state.proofs.Tests.{and_left, and_right, is_not, never, some_same, there_and}
 use Rattle.yw_state.specs.Allowed.{allows, draws, makes, may_enter, place_numbers, takes_from}
 use Rattle.yw_state.specs.Events.{Leads}
 use Rattle.yw_state.specs.Identity.{Ident}
@@ -37,7 +38,7 @@ use Rattle.yw_state.specs.Passing.{entry_values, within_bounds}
 use Rattle.yw_state.specs.State.{State, TaskAt, task_at}
 use Rattle.yw_state.specs.Texts.{Said, nothing}
 use Rattle.yw_state.specs.Values.{Row}
-use Rattle.yw_state.specs.Words.{active, clear}
+use Rattle.yw_state.specs.Words.{active, clear, held}
 use Rattle.yw_state.specs.declared.event.Event.TheVariants as events
 use Rattle.yw_still.proofs.Joining.{joins_tokens}
 use Rattle.yw_still.specs.Still.{can_be_entered, may_be_made}
@@ -56,17 +57,37 @@ module _ (old : Standing) (may : MayStand old) (i : Ident) (name : List ℕ) (pl
   abbrev s : State
   s = state_of old
 
-  pub enter_as : (said : Said) → allows s (events.Enter i name places first count) said ≡ is_some_and (task_at s i name) (may_enter s i places first count)
+  -- its task may be entered so
+  abbrev its_task : Bool
+  its_task = is_some_and (task_at s i name) (may_enter s i places first count)
+
+  pub enter_as : (said : Said) → allows s (events.Enter i name places first count) said ≡ (not (held s i) && its_task)
   unfolding allows
-  enter_as said = only_clear s (words_of old may) i (is_some_and (task_at s i name) (may_enter s i places first count))
+  enter_as said = only_clear s (words_of old may) i its_task
+
+  -- where it is allowed, work isn't held, and its task may be entered
+  pub unheld_by : (z : State) → Leads reader s (events.Enter i name places first count) z → held s i ≡ false
+  unheld_by z leads = is_not (held s i) (and_left (not (held s i)) its_task (sym (enter_as leads.said) ∙ leads.allowed.0))
+
+  pub task_by : (z : State) → Leads reader s (events.Enter i name places first count) z → its_task ≡ true
+  task_by z leads = and_right (not (held s i)) its_task (sym (enter_as leads.said) ∙ leads.allowed.0)
+
+  pub held_back : held s i ≡ true → LeadsNowhere old (events.Enter i name places first count)
+  held_back is = fails old (events.Enter i name places first count) (λ said. enter_as said ∙ ap (λ b. not b && its_task) is)
 
   pub no_task : task_at s i name ≡ None → LeadsNowhere old (events.Enter i name places first count)
-  no_task none = fails old (events.Enter i name places first count) (λ said. enter_as said ∙ ap (λ o. is_some_and o (may_enter s i places first count)) none)
+  no_task none =
+      fails old (events.Enter i name places first count)
+      (λ said. enter_as said ∙ ap (λ o. not (held s i) && is_some_and o (may_enter s i places first count)) none ∙ and-false (not (held s i)))
 
   module _ (w : NetHere) (here : IsNetHere old.known old.forest s i w) (t : ℕ) (number : task_number w.net.now name ≡ Some t) (task : Task)
-      (of_net : slice_get w.net.now.tasks t ≡ Some task) where
+      (of_net : slice_get w.net.now.tasks t ≡ Some task) (unheld : held s i ≡ false) where
     abbrev x : TaskAt
     x = its old i w here name t number task of_net
+
+    -- nothing holds work there
+    clear_here : clear s i ≡ true
+    clear_here = clear_there s (words_of old may) i unheld
 
     abbrev marks : List ℕ
     marks = (out-NetState w.state.now).marks
@@ -77,7 +98,7 @@ module _ (old : Standing) (may : MayStand old) (i : Ident) (name : List ℕ) (pl
     pub draw_there : MayDraw (names_of old.known) old.forest s i w.net.now w.state.now old.next
     draw_there =
         record {
-          free = record { stands = here.stands; numbers = may.held.well.numbers; free = (words_of old may).clear i };
+          free = record { stands = here.stands; numbers = may.held.well.numbers; free = clear_here };
           spec = w.spec.now;
           within = here.within;
           next = next_is old;
@@ -125,7 +146,7 @@ module _ (old : Standing) (may : MayStand old) (i : Ident) (name : List ℕ) (pl
 
     pub its_entry : (z : State) → Leads reader s (events.Enter i name places first count) z → may_enter s i places first count x ≡ true
     its_entry z leads =
-        let found = there_and (task_at s i name) (may_enter s i places first count) (sym (enter_as leads.said) ∙ leads.allowed.0) in
+        let found = there_and (task_at s i name) (may_enter s i places first count) (task_by z leads) in
         subst (λ (y : TaskAt). may_enter s i places first count y ≡ true) (some_same found.0 x (sym found.1 ∙ named old i w here name t number task of_net)) found.2
 
     can_enter : Entering → can_be_entered s i x ≡ true
@@ -135,7 +156,7 @@ module _ (old : Standing) (may : MayStand old) (i : Ident) (name : List ℕ) (pl
         ∙ and_from (within_bounds task.many (length h.rows)) (nat_le (s.next + length h.rows) number_end)
         (ap (within_bounds task.many) h.as_many ∙ h.bounds) ((λ j. nat_le (sym h.same j + h.as_many j) number_end) ∙ h.room) in
         and_from (clear s i && not (active s i t) && has_tokens task.join s i task.before) (is_some_and (entry_values task vals) (may_be_made s x))
-        (and_from (clear s i && not (active s i t)) (has_tokens task.join s i task.before) (and_from (clear s i) (not (active s i t)) ((words_of old may).clear i) h.idle)
+        (and_from (clear s i && not (active s i t)) (has_tokens task.join s i task.before) (and_from (clear s i) (not (active s i t)) clear_here h.idle)
         (joins_tokens s i task.before task.join h.cs h.taken)) made
 
     pub not_entered : MayNotEnter w.net.now w.state.now t old.next → LeadsNowhere old (events.Enter i name places first count)
@@ -186,7 +207,8 @@ module _ (old : Standing) (may : MayStand old) (i : Ident) (name : List ℕ) (pl
         and_from (not (active s i t) && takes_from s i x places && makes x count) (draws s first count)
         (and_from (not (active s i t) && takes_from s i x places) (makes x count) (and_from (not (active s i t)) (takes_from s i x places) idle takes) made) draw in
         leads_plainly old (events.Enter i name places first count) refl (
-          enter_as nothing ∙ ap (λ o. is_some_and o (may_enter s i places first count)) (named old i w here name t number task of_net) ∙ all,
+          enter_as nothing ∙ ap (λ b. not b && its_task) unheld
+              ∙ ap (λ o. is_some_and o (may_enter s i places first count)) (named old i w here name t number task of_net) ∙ all,
           λ y is_y. subst (NoWait s i) (some_same x y (sym (named old i w here name t number task of_net) ∙ is_y)) from.no_wait,
         )
 
@@ -212,11 +234,12 @@ module _ (old : Standing) (may : MayStand old) (i : Ident) (name : List ℕ) (pl
 -- ---- the event by which it may be entered
 
 module _ (old : Standing) (may : MayStand old) (i : Ident) (name : List ℕ) (w : NetHere) (here : IsNetHere old.known old.forest (state_of old) i w) (t : ℕ)
-    (number : task_number w.net.now name ≡ Some t) (task : Task) (of_net : slice_get w.net.now.tasks t ≡ Some task) where
+    (number : task_number w.net.now name ≡ Some t) (task : Task) (of_net : slice_get w.net.now.tasks t ≡ Some task)
+    (unheld : held (state_of old) i ≡ false) where
   pub entered_as : (taken : Taken) → MayEnter w.net.now w.state.now t old.next taken → (e : Found) → walks.IsEntry w i old.next t taken e
       → IsEntered (state_of old) i name e
   entered_as taken enters e entry =
-      let draw = draw_there old may i name [] 0 0 w here t number task of_net in
+      let draw = draw_there old may i name [] 0 0 w here t number task of_net unheld in
       let is = numbered old i w here name t number task of_net in
       subst (λ (n : List ℕ). IsEntered (state_of old) i n e) (named_so w.net.now t task name of_net number)
       (entry (names_of old.known) old.forest (state_of old) (its old i w here name t number task of_net) draw

@@ -1,10 +1,11 @@
 -- A task exits.
 use Rattle.std.proofs.Common.{ap, length, refl, subst, sym, ◌<◌, ◌∙◌}
+use Rattle.std.proofs.Math.Bool.{and-false}
 use Rattle.std.proofs.lemmas.Bool.{and_from, and_parts}
 use Rattle.std.specs.Cmp.Lexicographic.{pointwise}
 use Rattle.std.specs.List.{list_all}
-use Rattle.std.specs.Prelude.{Bool, IsSome, List, None, Some, false, fold, is_some, nat_eq, slice_get, true, ℕ, ◌&&◌, ◌≡◌}
-use Rattle.yw_cases.proofs.Allows.{only_clear}
+use Rattle.std.specs.Prelude.{Bool, IsSome, List, None, Some, false, fold, is_some, nat_eq, not, slice_get, true, ℕ, ◌&&◌, ◌≡◌}
+use Rattle.yw_cases.proofs.Allows.{clear_there, only_clear}
 use Rattle.yw_cases.proofs.TaskHere.{its, named, named_so, numbered, numbered_by, task_known}
 use Rattle.yw_cases.proofs.Trying.{done, words_of}
 use Rattle.yw_cases.specs.State.{MayStand}
@@ -26,7 +27,7 @@ use Rattle.yw_texts.specs.Texts.{reader}
 use Rattle.yw_nest.specs.Does.{all_else}
 use Rattle.yw_spec.specs.declared.spec.Place.{Place}
 use Rattle.yw_spec.specs.declared.task.Task.{Task}
-use Rattle.yw_state.proofs.Tests.{and_right, never, same_numbers, some_same, there_and}
+use Rattle.yw_state.proofs.Tests.{and_left, and_right, is_not, never, same_numbers, some_same, there_and}
 use Rattle.yw_state.specs.Allowed.{Allowed, allows, exit_values, has_room_for, may_exit, may_leave, place_numbers, puts_on}
 use Rattle.yw_state.specs.Events.{Leads}
 use Rattle.yw_state.specs.Identity.{Ident}
@@ -36,7 +37,7 @@ use Rattle.yw_state.specs.Options.{is_some_and}
 use Rattle.yw_state.specs.Passing.{kept_values, split_places}
 use Rattle.yw_state.specs.State.{State, TaskAt, task_at}
 use Rattle.yw_state.specs.Texts.{Said, nothing}
-use Rattle.yw_state.specs.Words.{active, clear}
+use Rattle.yw_state.specs.Words.{active, clear, held}
 use Rattle.yw_state.specs.declared.event.Event.TheVariants as events
 use Rattle.yw_state.specs.declared.tree.TreeKind.TheVariants.{Post}
 use Rattle.yw_steps.specs.Exits.{Exits, IsOutcomeIn, MayExit}
@@ -57,15 +58,31 @@ module _ (old : Standing) (may : MayStand old) (i : Ident) (name : List ℕ) (pl
   abbrev s : State
   s = state_of old
 
-  exit_as : (said : Said) → allows s (events.Exit i name places) said ≡ is_some_and (task_at s i name) (may_exit s i places)
+  -- its task may exit so
+  abbrev its_task : Bool
+  its_task = is_some_and (task_at s i name) (may_exit s i places)
+
+  exit_as : (said : Said) → allows s (events.Exit i name places) said ≡ (not (held s i) && its_task)
   unfolding allows
-  exit_as said = only_clear s (words_of old may) i (is_some_and (task_at s i name) (may_exit s i places))
+  exit_as said = only_clear s (words_of old may) i its_task
+
+  -- where it is allowed, work isn't held, and its task may exit
+  unheld_by : (z : State) → Leads reader s (events.Exit i name places) z → held s i ≡ false
+  unheld_by z leads = is_not (held s i) (and_left (not (held s i)) its_task (sym (exit_as leads.said) ∙ leads.allowed.0))
+
+  task_by : (z : State) → Leads reader s (events.Exit i name places) z → its_task ≡ true
+  task_by z leads = and_right (not (held s i)) its_task (sym (exit_as leads.said) ∙ leads.allowed.0)
+
+  pub held_back : held s i ≡ true → LeadsNowhere old (events.Exit i name places)
+  held_back is = fails old (events.Exit i name places) (λ said. exit_as said ∙ ap (λ b. not b && its_task) is)
 
   pub no_task : task_at s i name ≡ None → LeadsNowhere old (events.Exit i name places)
-  no_task none = fails old (events.Exit i name places) (λ said. exit_as said ∙ ap (λ o. is_some_and o (may_exit s i places)) none)
+  no_task none =
+      fails old (events.Exit i name places)
+      (λ said. exit_as said ∙ ap (λ o. not (held s i) && is_some_and o (may_exit s i places)) none ∙ and-false (not (held s i)))
 
   module _ (w : NetHere) (here : IsNetHere old.known old.forest s i w) (t : ℕ) (number : task_number w.net.now name ≡ Some t) (task : Task)
-      (of_net : slice_get w.net.now.tasks t ≡ Some task) where
+      (of_net : slice_get w.net.now.tasks t ≡ Some task) (unheld : held s i ≡ false) where
     abbrev x : TaskAt
     x = its old i w here name t number task of_net
 
@@ -76,8 +93,12 @@ module _ (old : Standing) (may : MayStand old) (i : Ident) (name : List ℕ) (pl
     abbrev has_numbers : List ℕ → Bool
     has_numbers ds = is_some_and (place_numbers w.net.now places) (λ cs. pointwise nat_eq cs ds)
 
+    -- nothing holds work there
+    clear_here : clear s i ≡ true
+    clear_here = clear_there s (words_of old may) i unheld
+
     free_there : StandsFree (names_of old.known) old.forest s i w.net.now w.state.now
-    free_there = record { stands = here.stands; numbers = may.held.well.numbers; free = (words_of old may).clear i }
+    free_there = record { stands = here.stands; numbers = may.held.well.numbers; free = clear_here }
 
     leaving : (b : Bool) → IsLeavingAs w.net.now w.state.now t b → is_leaving s i x ≡ b
     leaving b is = is (names_of old.known) old.forest s i x free_there (numbered old i w here name t number task of_net)
@@ -95,13 +116,13 @@ module _ (old : Standing) (may : MayStand old) (i : Ident) (name : List ℕ) (pl
         let parts = and_parts (pointwise nat_eq put.0 split) (list_all (has_room_for s i x) put.0) put.2 in
         let room : list_all (has_room_for s i x) split ≡ true = subst (λ cs. list_all (has_room_for s i x) cs ≡ true) (same_numbers put.0 split parts.0) parts.1 in (
           and_from (clear s i && active s i t && may_leave s i x) (list_all (has_room_for s i x) split)
-              (and_from (clear s i && active s i t) (may_leave s i x) (and_from (clear s i) (active s i t) ((words_of old may).clear i) two.0) two.1) room,
+              (and_from (clear s i && active s i t) (may_leave s i x) (and_from (clear s i) (active s i t) clear_here two.0) two.1) room,
           ap (λ o. is_some_and o (λ cs. pointwise nat_eq cs split)) put.1 ∙ parts.0,
         )
 
     its_exit : (z : State) → Leads reader s (events.Exit i name places) z → may_exit s i places x ≡ true
     its_exit z leads =
-        let found = there_and (task_at s i name) (may_exit s i places) (sym (exit_as leads.said) ∙ leads.allowed.0) in
+        let found = there_and (task_at s i name) (may_exit s i places) (task_by z leads) in
         subst (λ (y : TaskAt). may_exit s i places y ≡ true) (some_same found.0 x (sym found.1 ∙ named old i w here name t number task of_net)) found.2
 
     pub not_leaving : IsLeavingAs w.net.now w.state.now t false → LeadsNowhere old (events.Exit i name places)
@@ -125,8 +146,11 @@ module _ (old : Standing) (may : MayStand old) (i : Ident) (name : List ℕ) (pl
           ap (λ o. is_some_and o (puts_on s i x)) put.1 ∙ and_from (pointwise nat_eq put.0 split) (list_all (has_room_for s i x) put.0) put.2 room in
           let exits : may_exit s i places x ≡ true =
           and_from (active s i t && may_leave s i x) (is_some_and (place_numbers w.net.now places) (puts_on s i x))
-          (and_from (active s i t) (may_leave s i x) (and_right (clear s i) (active s i t) two.0) two.1) puts in
-          (exit_as nothing ∙ ap (λ o. is_some_and o (may_exit s i places)) (named old i w here name t number task of_net) ∙ exits, tt)
+          (and_from (active s i t) (may_leave s i x) (and_right (clear s i) (active s i t) two.0) two.1) puts in (
+            exit_as nothing ∙ ap (λ b. not b && its_task) unheld
+                ∙ ap (λ o. is_some_and o (may_exit s i places)) (named old i w here name t number task of_net) ∙ exits,
+            tt,
+          )
 
       pub exits_by : has_numbers out.places ≡ true → MayAct old (events.Exit i name places) (computed.Exit t out)
       exits_by splits = record {
@@ -148,7 +172,7 @@ module _ (old : Standing) (may : MayStand old) (i : Ident) (name : List ℕ) (pl
 
   -- its task is there
   pub exit_task : (x : TaskAt) × (task_at (state_of old) i name ≡ Some x) × (may_exit (state_of old) i places x ≡ true)
-  exit_task = there_and (task_at (state_of old) i name) (may_exit (state_of old) i places) (sym (exit_as old may i name places leads.1.said) ∙ leads.1.allowed.0)
+  exit_task = there_and (task_at (state_of old) i name) (may_exit (state_of old) i places) (task_by old may i name places leads.0 leads.1)
 
   module _ (w : KnownNet) (known : IsNetKnown old.known old.forest (state_of old) i w) (t : ℕ) (out : Outcome) (left : ExitLeaves (state_of old) i name t out) where
     number : task_number w.net.now name ≡ Some t
@@ -175,7 +199,8 @@ module _ (old : Standing) (may : MayStand old) (i : Ident) (name : List ℕ) (pl
         let s = state_of old in
         let x : TaskAt = its old i (with_state w known.state) known.here name t number task of_net.1 in
         let same : left.of_task ≡ x = some_same left.of_task x (sym left.named ∙ named old i (with_state w known.state) known.here name t number task of_net.1) in
-        let kept = kept_there old may i name places (with_state w known.state) known.here t number task of_net.1 in
+        let unheld = unheld_by old may i name places leads.0 leads.1 in
+        let kept = kept_there old may i name places (with_state w known.state) known.here t number task of_net.1 unheld in
         record {
           values = subst (λ (z : TaskAt). fold put_in z.within.part.vals out.puts ≡ exit_values s i z) same left.values ∙ kept;
           places = subst (λ (z : TaskAt). out.places ≡ split_places z.task (exit_values s i z)) same left.places ∙ ap (split_places task) kept;

@@ -20,11 +20,27 @@ use Rattle.yw_state.specs.State.{Sites, State, opening}
 use Rattle.yw_state.specs.Texts.{nothing}
 use Rattle.yw_state.specs.declared.event.Event.TheVariants as events
 use Rattle.yw_tree.specs.Forest.{sites_of}
+use Rattle.yw_trees.specs.Placed.{Placed, rules_of}
 
 module _ (old : Standing) where
   -- all but persons and specifications
   abbrev base : Sites → State
-  base m = record opening { next = old.next; sites = m; ended = ended_of old.ended }
+  base m = record opening { rules = rules_of old.known.rules; next = old.next; sites = m; ended = ended_of old.ended }
+
+  whole : with_library (base (sites_of (names_of old.known) old.forest)) old.known ≡ state_of old
+  unfolding with_library
+  whole = refl
+
+  -- so it is with others, where the rules are the same
+  whole_then : (new : Holdings) → new.rules ≡ old.known.rules
+      → with_library (base (sites_of (names_of new) old.forest)) new ≡ state_of (record old { known = new })
+  unfolding with_library
+  whole_then new same =
+      ap
+      (λ (ts : List Placed).
+      let u : State = record opening { next = old.next; sites = sites_of (names_of new) old.forest; ended = ended_of old.ended } in
+      record (with_library u new) { rules = rules_of ts })
+      (sym same)
 
   no_person : (name : List ℕ) (roles : List (List ℕ)) → are_roles roles ≡ false → LeadsNowhere old (events.Person name roles)
   no_person name roles wrong t leads = never (sym wrong ∙ person_roles (state_of old) t name roles leads)
@@ -37,7 +53,10 @@ module _ (old : Standing) where
         let names : names_of new ≡ names_of old.known = ap (λ (z : Holdings). names_of z) place in
         record {
           leads = person_leads_to (state_of old) (state_of (record old { known = new })) name roles right
-              (ap (λ (z : ℕ → List ℕ). with_library (base (sites_of z old.forest)) new) names ∙ reached (base (sites_of (names_of old.known) old.forest)));
+              (sym (whole_then new (ap (λ (z : Holdings). z.rules) place))
+              ∙ ap (λ (z : ℕ → List ℕ). with_library (base (sites_of z old.forest)) new) names
+              ∙ reached (base (sites_of (names_of old.known) old.forest))
+              ∙ ap (λ (u : State). after u (events.Person name roles) nothing) whole);
           boxed = may.held.boxed;
         }
 
@@ -47,8 +66,10 @@ module _ (old : Standing) where
         let sites : sites_of (names_of old.known) old.forest ≡ sites_of (names_of new) old.forest =
         load_keeps_sites old.known old.forest (state_of old) adds.loaded may.held ∙ ap (λ (z : Holdings). sites_of (names_of z) old.forest) (sym adds.behind) in
         record {
-          leads = subst (Leads reader (state_of old) (events.Load name text)) (ap (λ (m : Sites). with_library (base m) new) sites)
-              (always (base (sites_of (names_of old.known) old.forest)));
+          leads = subst (λ (u : State). Leads reader u (events.Load name text) (state_of (record old { known = new }))) whole
+              (subst (Leads reader (with_library (base (sites_of (names_of old.known) old.forest)) old.known) (events.Load name text))
+              (ap (λ (m : Sites). with_library (base m) new) sites ∙ whole_then new (ap (λ (z : Holdings). z.rules) adds.behind))
+              (always (base (sites_of (names_of old.known) old.forest))));
           boxed = may.held.boxed;
         }
 
@@ -56,8 +77,11 @@ module _ (old : Standing) where
     pub loads_as : {E : Type 0} (name text : List ℕ) (result : Result Bool E) → IfOk result (λ leads. IsTried old.known (events.Load name text) leads new)
         → (result ≡ Ok true → AddsSpec old.known new name text) → IfOk result (λ leads. TellsLoaded old name text leads (record old { known = new }))
     loads_as name text (Ok true) tried adds = load_done name text tried (adds refl)
-    loads_as name text (Ok false) tried adds =
-        (λ t leads. tried.0 (base (sites_of (names_of old.known) old.forest)) t leads, ap (λ (z : Holdings). record old { known = z }) tried.1)
+    loads_as name text (Ok false) tried adds = (
+      λ t leads. tried.0 (base (sites_of (names_of old.known) old.forest)) t
+          (subst (λ (u : State). Leads reader u (events.Load name text) t) (sym whole) leads),
+      ap (λ (z : Holdings). record old { known = z }) tried.1,
+    )
     loads_as name text (Err fault) tried adds = tt
 
   pub person_so : (name : List ℕ) (roles : List (List ℕ)) → LeadsOn old (events.Person name roles) → are_roles roles ≡ true

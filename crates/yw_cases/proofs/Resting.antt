@@ -15,7 +15,7 @@ use Rattle.yw_standing.specs.State.{state_of}
 use Rattle.yw_standing.specs.Tried.{IsDone}
 use Rattle.yw_standing.specs.declared.standing.Standing.{Standing}
 use Rattle.yw_texts.specs.Texts.{reader}
-use Rattle.yw_plain.specs.Plain.{is_plain_event}
+use Rattle.yw_plain.specs.Plain.{keeps_plain}
 use Rattle.yw_state.specs.Automatic.{IsQuiet}
 use Rattle.yw_state.specs.Events.{Leads}
 use Rattle.yw_state.specs.State.{State}
@@ -28,7 +28,7 @@ use Rattle.yw_walk.specs.declared.found.Found.{Found}
 
 module _ (old : Standing) (before : Loose) (is : StandsRested old before) where
   -- whatever says so of a state before the event and one after it
-  pub rested_done : (e : Event) (new : Standing) (now : Loose) → is_plain_event e ≡ true → IsDone old e new
+  pub rested_done : (e : Event) (new : Standing) (now : Loose) → keeps_plain e ≡ true → IsDone old e new
       → ((known : Holdings) (s t : State) → IsWell reader s → IsHeld known new.forest t → Leads reader s e t → IsRested s before → IsRested t now)
       → StandsRested new now
   rested_done e new now plain done moved =

@@ -7,7 +7,7 @@ use Rattle.yw_invariant.proofs.EventsWell.{event_keeps_well}
 use Rattle.yw_invariant.proofs.FromOpening.{opening_is_well}
 use Rattle.yw_library.specs.Names.{names_of}
 use Rattle.yw_library.specs.Holdings as library
-use Rattle.yw_library.specs.Holdings.{Holdings, with_library}
+use Rattle.yw_library.specs.Holdings.{Holdings, with_holdings, with_library}
 use Rattle.yw_standing.specs.State.{state_of}
 use Rattle.yw_standing.specs.Tried.{IsDone}
 use Rattle.yw_standing.specs.declared.standing.Standing.{Standing}
@@ -17,7 +17,7 @@ use Rattle.yw_nest.specs.Stands.{StandsWell}
 use Rattle.yw_plain.proofs.Keeping.{event_keeps}
 use Rattle.yw_plain.proofs.Started.{none_stays}
 use Rattle.yw_plain.proofs.Words as plain
-use Rattle.yw_plain.specs.Plain.{IsPlain, PlainWords, is_plain_event}
+use Rattle.yw_plain.specs.Plain.{IsPlain, PlainWords, keeps_plain}
 use Rattle.yw_plain.specs.Worklets.{HasNoWorklet}
 use Rattle.yw_state.proofs.Tests.{nowhere}
 use Rattle.yw_state.specs.After.{with_sites}
@@ -42,12 +42,13 @@ module _ (old : Standing) (may : MayStand old) where
 
   -- ---- after an event that is done
 
-  pub done_stands : (e : Event) (new : Standing) → is_plain_event e ≡ true → IsDone old e new → MayStand new
+  pub done_stands : (e : Event) (new : Standing) → keeps_plain e ≡ true → IsDone old e new → MayStand new
   unfolding with_library
   done_stands e new plain done =
       record {
         held = record {
           library = refl;
+          rules = refl;
           boxed = done.boxed;
           sites = refl;
           well = event_keeps_well reader accepted_are_sound (state_of old) may.held.well e (state_of new) done.leads;
@@ -77,19 +78,19 @@ module _ (old : Standing) (may : MayStand old) where
 -- ---- all that is kept
 
 opening_plain : IsPlain opening
-opening_plain = record { rules = refl; run = λ j x at. nowhere at; suspended = λ j x at. nowhere at; due = λ j x at. nowhere at }
+opening_plain = record { rules = refl; run = λ j x at. nowhere at; due = λ j x at. nowhere at }
 
 -- where nothing is kept
 pub opens : (known : Holdings) (f : Forest) → known ≡ library.nothing → ((names : ℕ → List ℕ) → sites_of names f ≡ empty)
     → state_of (record { known = known; forest = f; ended = []; next = 1 }) ≡ opening
 unfolding with_library
-opens known f none sites = λ i. with_library (record opening { next = 1; sites = sites (names_of known) i; ended = empty }) (none i)
+opens known f none sites = λ i. with_holdings (record opening { next = 1; sites = sites (names_of known) i; ended = empty }) (none i)
 
 pub opening_stands : (h : Standing) → state_of h ≡ opening → IsForest h.forest → MayStand h
 unfolding with_library
 opening_stands h is boxed =
     record {
-      held = record { library = refl; boxed = boxed; sites = refl; well = subst (IsWell reader) (sym is) (opening_is_well reader) };
+      held = record { library = refl; rules = refl; boxed = boxed; sites = refl; well = subst (IsWell reader) (sym is) (opening_is_well reader) };
       plain = subst IsPlain (sym is) opening_plain;
       no_worklet = subst HasNoWorklet (sym is) (record { started = λ j x at. nowhere at });
     }

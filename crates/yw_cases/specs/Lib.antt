@@ -1,5 +1,6 @@
 pub mod Rows
 pub mod Items
+pub mod Ending
 pub mod State
 pub mod Tried
 pub mod Rested

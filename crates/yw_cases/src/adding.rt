@@ -7,6 +7,7 @@ ghost use Rattle.yw_standing.specs.State.{state_of};
 ghost use Rattle.yw_standing.specs.Tried.{IsDone, LeadsOn};
 ghost use Rattle.yw_state.specs.declared.event.Event.TheVariants as events;
 
+use crate::held::is_held;
 use crate::rows::may_hold;
 use crate::whole::NO_CHECKS;
 use std::alloc::{AllocError, Global};
@@ -57,6 +58,9 @@ pub fn may_add(standing: &Standing, at: &Ident, name: &Name, value: &Value, n: u
     ensures { TellsNumbered standing.now (events.Add at.now name.now value.now n) result }
 {
     if !draws(standing.next, n, 1) {
+        return None;
+    }
+    if is_held(standing, at) {
         return None;
     }
     let Some(here) = net_here(&standing.known, &standing.forest, at) else {

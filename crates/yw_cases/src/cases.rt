@@ -9,7 +9,7 @@ ghost use Rattle.yw_library.specs.Accepts.{IfRefused};
 ghost use Rattle.yw_standing.specs.State.{state_of};
 ghost use Rattle.yw_standing.specs.Tried.{LeadsOn};
 ghost use Rattle.yw_texts.specs.Texts.{reader};
-ghost use Rattle.yw_plain.specs.Plain.{is_plain_event};
+ghost use Rattle.yw_plain.specs.Plain.{keeps_plain};
 ghost use Rattle.yw_state.specs.Automatic.{IsQuiet};
 ghost use Rattle.yw_state.specs.Events.{Leads};
 ghost use Rattle.yw_state.specs.Map.{get};
@@ -47,11 +47,12 @@ impl Model for Cases {
     ghost Value = { Standing };
 
     ghost use Rattle.std.specs.Coded.{codes};
+    ghost use Rattle.yw_expr.specs.Tree.{tree_code};
     ghost use Rattle.yw_state.specs.contracts.loaded.Loaded as loaded;
     ghost use Rattle.yw_tree.specs.contracts.NetState as net;
     ghost use Rattle.yw_tree.specs.contracts.Run as run;
 
-    ghost coded = { Prim.hlevel (codes, loaded.the_row.coded, net.the_row.coded, run.the_row.coded) };
+    ghost coded = { Prim.hlevel (codes, tree_code, loaded.the_row.coded, net.the_row.coded, run.the_row.coded) };
 
     ghost view = { λ c. c.standing };
 
@@ -121,7 +122,7 @@ impl Cases {
     /// What a command's rules have shown, and what comes of itself, is allowed; so only who does an event that something else tells needs to ask.
     /// That an event is done exactly where the definitions allow it is our own.
     pub fn may(&self, event: &Event) -> Result<Option<Computed>, AllocError>
-        requires plain { is_plain_event event.now ≡ true }
+        requires plain { keeps_plain event.now ≡ true }
         requires apart { is_apart event.now ≡ false }
         ensures { IfOk result (TellsComputed self.now event.now) }
     {
@@ -140,7 +141,7 @@ impl Cases {
     /// Does an event that is allowed, with what was computed of it: the state is then that after it. Nothing is tested, nor computed anew. An
     /// `Err` says that no memory was left; then nothing is kept any more.
     pub fn act(&mut self, event: &Event, computed: Computed) -> Result<(), AllocError>
-        requires plain { is_plain_event event.now ≡ true }
+        requires plain { keeps_plain event.now ≡ true }
         requires apart { is_apart event.now ≡ false }
         requires leads { LeadsOn self.old event.now }
         requires computed { IsComputedOf (state_of self.old) event.now computed }

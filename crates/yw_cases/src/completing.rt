@@ -6,6 +6,7 @@ ghost use Rattle.yw_standing.specs.Tried.{IsDone, LeadsOn, TellsLeads};
 ghost use Rattle.yw_state.specs.Words.{is_executing};
 ghost use Rattle.yw_state.specs.declared.event.Event.TheVariants as events;
 
+use crate::held::is_held;
 use crate::rows::{copy_row, row_fits};
 use crate::whole::NO_CHECKS;
 use std::alloc::{AllocError, Global};
@@ -34,8 +35,8 @@ fn can_make(item: &Node, task: &Task, out: &Row) -> bool
     is_executing(item.stage) && item.who.is_some() && row_fits(task.outs.as_slice(), out.as_slice())
 }
 
-/// Whether an item may be completed with these values: a person is at work on it, they are of the sorts that its task makes, and each of the
-/// task's assignments is defined then. An `Err` says that no memory was left.
+/// Whether an item may be completed with these values: nothing holds work there, a person is at work on it, they are of the sorts that its task makes,
+/// and each of the task's assignments is defined then. An `Err` says that no memory was left.
 pub fn may_complete(
     alloc: Global,
     standing: &Standing,
@@ -45,6 +46,9 @@ pub fn may_complete(
     requires { MayStand standing.now }
     ensures { IfOk result (TellsLeads standing.now (events.Complete j.now out.now)) }
 {
+    if is_held(standing, j) {
+        return Ok(false);
+    }
     let Some(here) = item_here(&standing.known, &standing.forest, j) else {
         return Ok(false);
     };

@@ -1,5 +1,5 @@
 // A task is entered.
-ghost use Rattle.std.specs.Prelude.{◌≡◌, ◌==◌, ◌&&◌, IfOk, OnOk, filter};
+ghost use Rattle.std.specs.Prelude.{◌≡◌, ◌==◌, ◌&&◌, IfOk, OnOk, false, filter};
 ghost use Rattle.yw_cases.specs.Entering.{FindsChoice, candidate, first_number, stands_for};
 ghost use Rattle.yw_cases.specs.Places.{ArePlacesApart};
 ghost use Rattle.yw_cases.specs.State.{MayStand};
@@ -7,9 +7,11 @@ ghost use Rattle.yw_cases.specs.Tried.{TellsComputed};
 ghost use Rattle.yw_mark.specs.Tokens.{is_marked};
 ghost use Rattle.yw_standing.specs.State.{state_of};
 ghost use Rattle.yw_standing.specs.Tried.{IsDone, LeadsOn};
+ghost use Rattle.yw_state.specs.Words.{held};
 ghost use Rattle.yw_state.specs.declared.event.Event.TheVariants as events;
 ghost use Rattle.yw_walk.specs.Computed.{IsComputedOf};
 
+use crate::held::is_held;
 use crate::places::{are_numbered, place_number};
 use crate::whole::NO_CHECKS;
 use std::alloc::{AllocError, Global};
@@ -103,9 +105,8 @@ fn choice_of(
     Ok(None)
 }
 
-/// Whether a task may be entered from these places, and so many items come, numbered from `first` on, with the choice of its join and what they are
-/// given. An `Err` says that no memory was left.
-pub fn may_enter(
+/// Whether a task may be entered, where nothing holds work in its net; as `may_enter` says.
+fn may_enter_free(
     alloc: Global,
     standing: &Standing,
     at: &Ident,
@@ -114,7 +115,8 @@ pub fn may_enter(
     first: u64,
     count: u32,
 ) -> Result<Option<Computed>, AllocError>
-    requires { MayStand standing.now }
+    requires stands { MayStand standing.now }
+    requires unheld { held (state_of standing.now) at.now ≡ false }
     ensures { IfOk result (TellsComputed standing.now (events.Enter at.now name.now places.now first count)) }
 {
     let Some(here) = net_here(&standing.known, &standing.forest, at) else {
@@ -142,6 +144,26 @@ pub fn may_enter(
         })),
         None => Ok(None),
     }
+}
+
+/// Whether a task may be entered from these places, and so many items come, numbered from `first` on, with the choice of its join and what they are
+/// given. An `Err` says that no memory was left.
+pub fn may_enter(
+    alloc: Global,
+    standing: &Standing,
+    at: &Ident,
+    name: &Name,
+    places: &PlaceList,
+    first: u64,
+    count: u32,
+) -> Result<Option<Computed>, AllocError>
+    requires { MayStand standing.now }
+    ensures { IfOk result (TellsComputed standing.now (events.Enter at.now name.now places.now first count)) }
+{
+    if is_held(standing, at) {
+        return Ok(None);
+    }
+    may_enter_free(alloc, standing, at, name, places, first, count)
 }
 
 /// A task is entered, and so many items come, numbered from `first` on, as is allowed, by the choice of its join and the rows that were computed of

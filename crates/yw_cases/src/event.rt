@@ -3,7 +3,7 @@ ghost use Rattle.std.specs.Prelude.{◌≡◌, IfOk, OnOk, false, true};
 ghost use Rattle.yw_cases.specs.State.{MayStand};
 ghost use Rattle.yw_cases.specs.Tried.{IsNumbered, TellsComputed, TellsNumbered};
 ghost use Rattle.yw_cases.specs.Tried.{is_apart, is_numbered};
-ghost use Rattle.yw_plain.specs.Plain.{is_plain_event};
+ghost use Rattle.yw_plain.specs.Plain.{keeps_plain};
 ghost use Rattle.yw_standing.specs.State.{state_of};
 ghost use Rattle.yw_standing.specs.Tried.{IsDone, LeadsOn, TellsLeads};
 ghost use Rattle.yw_state.specs.declared.event.Event.TheVariants as events;
@@ -22,6 +22,7 @@ use crate::whole::{
     act_cancel, act_finish, act_launch, may_advance, may_cancel, may_finish, may_launch,
 };
 use std::alloc::{AllocError, Global};
+use yw_deeds::{act_continue, act_suspend, may_continue, may_suspend};
 use yw_standing::Standing;
 use yw_state::Event;
 use yw_walk::Computed;
@@ -29,7 +30,7 @@ use yw_walk::Computed;
 /// Whether an event of which nothing is computed is allowed, so that it leads on. An `Err` says that no memory was left.
 fn may_plainly(alloc: Global, standing: &Standing, event: &Event) -> Result<bool, AllocError>
     requires stands { MayStand standing.now }
-    requires plain { is_plain_event event.now ≡ true }
+    requires plain { keeps_plain event.now ≡ true }
     requires apart { is_apart event.now ≡ false }
     requires computed { is_computed event.now ≡ false }
     ensures { IfOk result (TellsLeads standing.now event.now) }
@@ -43,6 +44,8 @@ fn may_plainly(alloc: Global, standing: &Standing, event: &Event) -> Result<bool
         Event::StartSub { item } => Ok(may_start_sub(standing, item)),
         Event::CompleteSub { item } => Ok(may_complete_sub(standing, item)),
         Event::CompleteEmpty { item } => Ok(may_complete_empty(standing, item)),
+        Event::Suspend { at } => Ok(may_suspend(standing, at)),
+        Event::Continue { at } => Ok(may_continue(standing, at)),
         Event::Advance { case } => Ok(may_advance(standing, *case)),
         _ => unreachable!(),
     }
@@ -55,7 +58,7 @@ fn may_else(
     event: &Event,
 ) -> Result<Option<Computed>, AllocError>
     requires stands { MayStand standing.now }
-    requires plain { is_plain_event event.now ≡ true }
+    requires plain { keeps_plain event.now ≡ true }
     requires apart { is_apart event.now ≡ false }
     requires computed { is_computed event.now ≡ false }
     ensures { IfOk result (TellsComputed standing.now event.now) }
@@ -74,7 +77,7 @@ pub fn may(
     event: &Event,
 ) -> Result<Option<Computed>, AllocError>
     requires stands { MayStand standing.now }
-    requires plain { is_plain_event event.now ≡ true }
+    requires plain { keeps_plain event.now ≡ true }
     requires apart { is_apart event.now ≡ false }
     ensures { IfOk result (TellsComputed standing.now event.now) }
 {
@@ -114,7 +117,7 @@ pub fn may_numbered(standing: &Standing, event: &Event) -> Option<usize>
 /// told nowhere.
 fn act_plainly(alloc: Global, standing: &mut Standing, event: &Event) -> Result<(), AllocError>
     requires stands { MayStand standing.old }
-    requires plain { is_plain_event event.now ≡ true }
+    requires plain { keeps_plain event.now ≡ true }
     requires apart { is_apart event.now ≡ false }
     requires computed { is_computed event.now ≡ false }
     requires leads { LeadsOn standing.old event.now }
@@ -132,6 +135,14 @@ fn act_plainly(alloc: Global, standing: &mut Standing, event: &Event) -> Result<
             act_complete_empty(alloc, standing, item);
             Ok(())
         }
+        Event::Suspend { at } => {
+            act_suspend(standing, at);
+            Ok(())
+        }
+        Event::Continue { at } => {
+            act_continue(standing, at);
+            Ok(())
+        }
         Event::Advance { .. } => Ok(()),
         _ => unreachable!(),
     }
@@ -146,7 +157,7 @@ pub fn act(
     computed: Computed,
 ) -> Result<(), AllocError>
     requires stands { MayStand standing.old }
-    requires plain { is_plain_event event.now ≡ true }
+    requires plain { keeps_plain event.now ≡ true }
     requires apart { is_apart event.now ≡ false }
     requires leads { LeadsOn standing.old event.now }
     requires computed { IsComputedOf (state_of standing.old) event.now computed }

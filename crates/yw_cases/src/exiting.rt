@@ -7,6 +7,7 @@ ghost use Rattle.yw_standing.specs.Tried.{IsDone, LeadsOn};
 ghost use Rattle.yw_state.specs.declared.event.Event.TheVariants as events;
 ghost use Rattle.yw_walk.specs.Computed.{IsComputedOf};
 
+use crate::held::is_held;
 use crate::places::are_numbered;
 use std::alloc::{AllocError, Global};
 use yw_base::{Ident, Name};
@@ -27,6 +28,9 @@ pub fn may_exit(
     requires { MayStand standing.now }
     ensures { IfOk result (TellsComputed standing.now (events.Exit at.now name.now places.now)) }
 {
+    if is_held(standing, at) {
+        return Ok(None);
+    }
     let Some(here) = net_here(&standing.known, &standing.forest, at) else {
         return Ok(None);
     };

@@ -1,6 +1,6 @@
 // Items that go on: one is started, a child net begins or ends at one, or one of an empty task is completed.
 ghost use Rattle.std.specs.Prelude.{◌≡◌, ◌&&◌, IfOk, None, MatchOption, OnOk};
-ghost use Rattle.yw_cases.specs.Items.{item_suits, suits};
+ghost use Rattle.yw_cases.specs.Items.{item_goes, item_suits, suits};
 ghost use Rattle.yw_cases.specs.State.{MayStand};
 ghost use Rattle.yw_cases.specs.declared.items.ItemEvent.TheVariants.{CompleteSub};
 ghost use Rattle.yw_library.specs.Held.{IsHeld};
@@ -12,6 +12,7 @@ ghost use Rattle.yw_state.specs.Joins.{at_output};
 ghost use Rattle.yw_state.specs.State.{State, item_at};
 ghost use Rattle.yw_state.specs.declared.event.Event.TheVariants as events;
 
+use crate::held::is_held;
 use crate::whole::NO_CHECKS;
 use std::alloc::{AllocError, Global};
 use yw_base::{Ident, Name};
@@ -58,6 +59,14 @@ fn item_suits(standing: &Standing, event: ItemEvent, j: &Ident) -> bool
     }
 }
 
+/// The item at an identity is one for the event, and nothing holds work there.
+fn item_goes(standing: &Standing, event: ItemEvent, j: &Ident) -> bool
+    requires { MayStand standing.now }
+    ensures { result ≡ item_goes (state_of standing.now) event j.now }
+{
+    !is_held(standing, j) && item_suits(standing, event, j)
+}
+
 /// The net in which an item stands, by what is known, found by one way down; `None` only where no item stands at the identity. It takes no memory.
 pub fn outer_net<'a>(known: &'a Known, forest: &Forest, j: &Ident) -> Option<KnownNet<'a>>
     ensures { (s : State) → IsHeld known.now forest.now s
@@ -70,12 +79,12 @@ pub fn outer_net<'a>(known: &'a Known, forest: &Forest, j: &Ident) -> Option<Kno
     known.net(outer.spec, outer.net)
 }
 
-/// The item at an identity is one whose child net is at its end.
+/// The item at an identity is one whose child net is at its end, and nothing holds work there.
 fn sub_ends(standing: &Standing, j: &Ident) -> bool
     requires { MayStand standing.now }
-    ensures { result ≡ (item_suits (state_of standing.now) CompleteSub j.now && at_output (state_of standing.now) j.now) }
+    ensures { result ≡ (item_goes (state_of standing.now) CompleteSub j.now && at_output (state_of standing.now) j.now) }
 {
-    item_suits(standing, ItemEvent::CompleteSub, j)
+    item_goes(standing, ItemEvent::CompleteSub, j)
         && net_at_output(&standing.known, &standing.forest, j)
 }
 
@@ -84,7 +93,7 @@ pub fn may_start(standing: &Standing, j: &Ident, _who: &Name) -> bool
     requires { MayStand standing.now }
     ensures { TellsLeads standing.now (events.Start j.now _who.now) result }
 {
-    item_suits(standing, ItemEvent::Start, j)
+    item_goes(standing, ItemEvent::Start, j)
 }
 
 /// A person starts an item, as is allowed. An `Err` says that no memory was left.
@@ -103,7 +112,7 @@ pub fn may_complete_empty(standing: &Standing, j: &Ident) -> bool
     requires { MayStand standing.now }
     ensures { TellsLeads standing.now (events.CompleteEmpty j.now) result }
 {
-    item_suits(standing, ItemEvent::CompleteEmpty, j)
+    item_goes(standing, ItemEvent::CompleteEmpty, j)
 }
 
 /// An item of an empty task is completed, as is allowed. It takes no memory.
@@ -120,7 +129,7 @@ pub fn may_start_sub(standing: &Standing, j: &Ident) -> bool
     requires { MayStand standing.now }
     ensures { TellsLeads standing.now (events.StartSub j.now) result }
 {
-    item_suits(standing, ItemEvent::StartSub, j)
+    item_goes(standing, ItemEvent::StartSub, j)
 }
 
 /// The child net of an item begins, as is allowed. An `Err` says that no memory was left.

@@ -8,6 +8,7 @@ mod completing;
 mod entering;
 mod event;
 mod exiting;
+mod held;
 mod items;
 pub mod laws;
 mod library;

@@ -1,5 +1,6 @@
 // Cases that begin, and that are over.
 ghost use Rattle.std.specs.Prelude.{◌≡◌, IfOk, OnOk};
+ghost use Rattle.yw_cases.specs.Ending.{case_ends, ends_at};
 ghost use Rattle.yw_cases.specs.Rows.{may_begin};
 ghost use Rattle.yw_cases.specs.State.{MayStand};
 ghost use Rattle.yw_cases.specs.Tried.{IsSpecNumbered, TellsNumbered};
@@ -8,12 +9,12 @@ ghost use Rattle.yw_standing.specs.State.{state_of};
 ghost use Rattle.yw_standing.specs.Tried.{IsDone, LeadsOn, TellsLeads};
 ghost use Rattle.yw_state.specs.Allowed.{launch_fits};
 ghost use Rattle.yw_state.specs.Identity.{case_ident};
-ghost use Rattle.yw_state.specs.Joins.{at_output};
 ghost use Rattle.yw_state.specs.Nets.{top_net};
 ghost use Rattle.yw_state.specs.Options.{is_some_and};
 ghost use Rattle.yw_state.specs.State.{is_case};
 ghost use Rattle.yw_state.specs.declared.event.Event.TheVariants as events;
 
+use crate::held::is_held;
 use crate::rows::{copy_row, launch_fits};
 use std::alloc::{AllocError, Global};
 use yw_base::{Ident, Name, Row};
@@ -60,23 +61,31 @@ pub fn may_launch(standing: &Standing, n: u64, name: &Name, values: &Row) -> Opt
     Some(number)
 }
 
-/// The net of the case with this number is at its end. An `Err` says that no memory was left.
-fn case_at_output(alloc: Global, standing: &Standing, n: u64) -> Result<bool, AllocError>
+/// Nothing holds work at an identity, and the net there is at its end.
+fn ends_at(standing: &Standing, at: &Ident) -> bool
     requires { MayStand standing.now }
-    ensures { IfOk result (λ ends. ends ≡ at_output (state_of standing.now) (case_ident n)) }
+    ensures { result ≡ ends_at (state_of standing.now) at.now }
+{
+    !is_held(standing, at) && net_at_output(&standing.known, &standing.forest, at)
+}
+
+/// Nothing holds work in the case with this number, and its net is at its end. An `Err` says that no memory was left.
+fn case_ends(alloc: Global, standing: &Standing, n: u64) -> Result<bool, AllocError>
+    requires { MayStand standing.now }
+    ensures { IfOk result (λ ends. ends ≡ case_ends (state_of standing.now) n) }
 {
     match Ident::from_numbers(vec![in alloc; n]?) {
-        Some(at) => Ok(net_at_output(&standing.known, &standing.forest, &at)),
+        Some(at) => Ok(ends_at(standing, &at)),
         None => Ok(false),
     }
 }
 
-/// Whether a case may finish: its net is at its end. An `Err` says that no memory was left.
+/// Whether a case may finish: nothing holds work in it, and its net is at its end. An `Err` says that no memory was left.
 pub fn may_finish(alloc: Global, standing: &Standing, n: u64) -> Result<bool, AllocError>
     requires { MayStand standing.now }
     ensures { IfOk result (TellsLeads standing.now (events.Finish n)) }
 {
-    case_at_output(alloc, standing, n)
+    case_ends(alloc, standing, n)
 }
 
 /// A case of this number stands.

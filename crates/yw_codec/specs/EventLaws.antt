@@ -390,7 +390,7 @@ event_apart (events.Advance n) f whole x y s u =
 
 -- the tags of what is built
 abbrev pub is_built_tag : ℕ → Bool
-is_built_tag tag = tag == 1 || (tag == 2 || (nat_le 4 tag && nat_le tag 14 || tag == 24))
+is_built_tag tag = tag == 1 || (tag == 2 || (nat_le 4 tag && nat_le tag 14 || nat_le 22 tag && nat_le tag 24))
 
 -- what is built is told by the tag
 pub built_by_tag : (e : Event) (rest : List ℕ) (tag : ℕ) → slice_index (event_bytes e ++ rest) 0 ≡ tag → is_built_tag tag ≡ is_built e

@@ -26,7 +26,7 @@ const ENTRY_ROOM: usize = 128;
 fn is_built_tag(tag: u8) -> bool
     ensures { (event : Event) (rest : List ℕ) → slice_index (event_bytes event ++ rest) 0 ≡ tag → is_built event ≡ result }
 {
-    matches!(tag, 1 | 2 | 4..=14 | 24)
+    matches!(tag, 1 | 2 | 4..=14 | 22..=24)
 }
 
 // The event at the front, where the server does such today.

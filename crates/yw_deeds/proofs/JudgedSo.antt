@@ -10,7 +10,7 @@ use Rattle.yw_base.specs.declared.value.Value.TheVariants as values
 use Rattle.yw_base.specs.Identity.{case_number}
 use Rattle.yw_deeds.specs.Judging.{IsTreeAt, conclusion_in, exlet_in, is_chosen, judged_by, over_case, over_item}
 use Rattle.yw_expr.specs.Tree.{constant}
-use Rattle.yw_library.specs.Trees.{linked}
+use Rattle.yw_trees.specs.Placed.{linked}
 use Rattle.yw_rdr.proofs.Texts.{not_read}
 use Rattle.yw_rdr.specs.Rules.{Kept, kept_of, rules_of}
 use Rattle.yw_state.proofs.Alike.{case_asks, item_asks}

@@ -1,7 +1,7 @@
 -- What a tree that is handed over concludes at a case or an item.
 use Rattle.std.specs.Option.{option_map_or}
 use Rattle.std.specs.Prelude.{◌≡◌, ◌-◌, Bool, List, [], Option, Some, if◌then◌else◌, option_and_then, option_map, slice_get, ℕ}
-use Rattle.yw_library.specs.Trees.{linked}
+use Rattle.yw_trees.specs.Placed.{linked}
 use Rattle.yw_rdr.specs.Rules.{Kept, rules_of}
 use Rattle.yw_state.specs.After.{primitives_of}
 use Rattle.yw_state.specs.Allowed.{is_worklet}

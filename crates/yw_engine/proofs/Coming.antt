@@ -1,4 +1,4 @@
--- Events that are built are of neither a rule tree nor an exlet, and the other way round; and what comes of itself leads to one state.
+-- Events that are built keep states plain, and those of neither a rule tree nor an exlet are built; and what comes of itself leads to one state.
 use Rattle.std.specs.Prelude.{MatchOption}
 use Rattle.std.proofs.Common.{◌≡◌, ◌↔◌, ◌∙◌, Bool, Err, IfOk, IsTrue, None, Ok, Option, Result, Some, ap, false}
 use Rattle.std.proofs.Common.{refl, subst, sym, true, ℕ}
@@ -12,7 +12,7 @@ use Rattle.yw_standing.specs.State.{state_of}
 use Rattle.yw_standing.specs.Tried.{LeadsOn}
 use Rattle.yw_standing.specs.declared.standing.Standing.{Standing}
 use Rattle.yw_texts.specs.Texts.{reader}
-use Rattle.yw_plain.specs.Plain.{is_plain_event}
+use Rattle.yw_plain.specs.Plain.{is_plain_event, keeps_plain}
 use Rattle.yw_state.proofs.Tests.{never}
 use Rattle.yw_state.specs.Automatic.{Comes, IsQuiet, is_automatic}
 use Rattle.yw_state.specs.Events.{Leads, after}
@@ -29,7 +29,7 @@ use Rattle.yw_walk.specs.declared.found.Found.{Found}
 
 -- ---- what is built
 
-pub built_is_plain : (e : Event) → is_built e ≡ true → is_plain_event e ≡ true
+pub built_is_plain : (e : Event) → is_built e ≡ true → keeps_plain e ≡ true
 built_is_plain (events.Person name roles) built = refl
 built_is_plain (events.Load name text) built = refl
 built_is_plain (events.Launch n spec vals) built = refl
@@ -43,6 +43,8 @@ built_is_plain (events.Cancel n) built = refl
 built_is_plain (events.StartSub j) built = refl
 built_is_plain (events.CompleteSub j) built = refl
 built_is_plain (events.CompleteEmpty j) built = refl
+built_is_plain (events.Suspend j) built = refl
+built_is_plain (events.Continue j) built = refl
 built_is_plain (events.Advance n) built = refl
 built_is_plain e built = never built
 

@@ -151,6 +151,17 @@ module _ (h : Standing) where
         as_asked h (commands.Advance j) (events.Advance n) (cases.advance_has_event reader (state_of h) j unbroken)
         (λ d asked. asked ∙ ap events.Advance (sym same))
 
+  module _ (j : Ident) where
+    pub suspend_asks : BreaksNow h (commands.Suspend j) None → Asks h (commands.Suspend j) (events.Suspend j)
+    unfolding IsAsked
+    suspend_asks unbroken =
+        as_asked h (commands.Suspend j) (events.Suspend j) (cases.suspend_has_event reader (state_of h) j unbroken) (λ d asked. asked)
+
+    pub continue_asks : BreaksNow h (commands.Continue j) None → Asks h (commands.Continue j) (events.Continue j)
+    unfolding IsAsked
+    continue_asks unbroken =
+        as_asked h (commands.Continue j) (events.Continue j) (cases.continue_has_event reader (state_of h) j unbroken) (λ d asked. asked)
+
   module _ (name : List ℕ) (roles : List (List ℕ)) where
     pub person_asks : are_roles roles ≡ true → Asks h (commands.Person name roles) (events.Person name roles)
     unfolding IsAsked

@@ -29,6 +29,7 @@ use Rattle.yw_state.specs.Options.{is_some_and}
 use Rattle.yw_state.specs.Passing.{within_bounds}
 use Rattle.yw_state.specs.Texts.{nothing}
 use Rattle.yw_state.specs.Values.{Row}
+use Rattle.yw_state.specs.Words.{held}
 use Rattle.yw_state.specs.declared.command.Command.TheVariants as commands
 use Rattle.yw_state.specs.declared.event.Event.{Event}
 use Rattle.yw_state.specs.declared.event.Event.TheVariants as events
@@ -56,9 +57,9 @@ module _ (h : Standing) (may : MayStand h) (i : Ident) (name : List ℕ) (w : Ne
   pub gives_rows : GivesRows w t rows
   gives_rows = of_task_at w.net.now t (λ (u : Task). rows ≡ entry_rows u (out-NetState w.state.now).vals) able.task able.at able.gives
 
-  pub entered : (found : Found) → IsEntry w i next t taken found → IsEntered (state_of h) i name found
-  entered found entry =
-      entered_as h may i name w here t is.number is.task is.at taken
+  pub entered : held (state_of h) i ≡ false → (found : Found) → IsEntry w i next t taken found → IsEntered (state_of h) i name found
+  entered unheld found entry =
+      entered_as h may i name w here t is.number is.task is.at unheld taken
       (subst (λ (k : ℕ). MayEnter w.net.now w.state.now t k taken) same may_enter_by) found
       (subst (λ (k : ℕ). IsEntry w i k t taken found) same entry)
 

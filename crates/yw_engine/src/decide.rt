@@ -9,6 +9,7 @@ use crate::complete::decide_complete;
 use crate::enter::decide_enter;
 use crate::launch::decide_launch;
 use crate::library::{decide_load, decide_person};
+use crate::marks::{decide_continue, decide_suspend};
 use crate::start::decide_start;
 use crate::whole::{decide_advance, decide_cancel};
 use crate::work::Work;
@@ -73,6 +74,8 @@ fn decide_seen(work: &mut Work, command: Command, quiet: bool) -> Result<Decided
             task,
             value,
         } => decide_add(work, &who, case, task, value, quiet),
+        Command::Suspend { at } => decide_suspend(work, at),
+        Command::Continue { at } => decide_continue(work, at),
         Command::Cancel { case } => decide_cancel(work, &case),
         Command::Advance { case } => decide_advance(work, &case),
         _ => unreachable!(),

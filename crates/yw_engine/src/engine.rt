@@ -49,11 +49,12 @@ impl Model for Engine {
     ghost Value = { Held };
 
     ghost use Rattle.std.specs.Coded.{codes};
+    ghost use Rattle.yw_expr.specs.Tree.{tree_code};
     ghost use Rattle.yw_state.specs.contracts.loaded.Loaded as loaded;
     ghost use Rattle.yw_tree.specs.contracts.NetState as net;
     ghost use Rattle.yw_tree.specs.contracts.Run as run;
 
-    ghost coded = { Prim.hlevel (codes, loaded.the_row.coded, net.the_row.coded, run.the_row.coded) };
+    ghost coded = { Prim.hlevel (codes, tree_code, loaded.the_row.coded, net.the_row.coded, run.the_row.coded) };
 
     ghost view = { λ e. record { standing = e.work.standing; spent = e.spent } };
 
@@ -154,7 +155,7 @@ impl Engine {
         let _ = &self.spent;
     }
 
-    /// Unless the engine is spent, its state is plain: no tree has a rule, and no run, no suspension and no check stands. A law: nothing is done.
+    /// Unless the engine is spent, its state is plain: no tree has a rule, and no run and no check stands. A law: nothing is done.
     pub fn is_plain(&self)
         ensures { self.now.spent ≡ false → IsPlain (state_of self.now) }
     {

@@ -12,6 +12,7 @@ mod fault;
 mod front;
 mod launch;
 mod library;
+mod marks;
 mod start;
 mod whole;
 mod work;

@@ -8,36 +8,10 @@ ghost use Rattle.yw_tree.specs.Forest.{IsForest};
 
 use crate::own::{Own, write};
 use std::alloc::{AllocError, Global};
-use yw_base::{Ident, Items, Text};
-use yw_state::{Primitive, PrimitiveList, TreeKind};
+use yw_base::Ident;
+use yw_rdr::copy_of_primitives;
+use yw_state::{PrimitiveList, TreeKind};
 use yw_tree::{Forest, Run};
-
-fn copy_of(alloc: Global, primitive: &Primitive) -> Result<Primitive, AllocError>
-    ensures { IfOk result (λ copy. copy ≡ primitive.now) }
-{
-    Ok(match primitive {
-        Primitive::SuspendItem => Primitive::SuspendItem,
-        Primitive::ContinueItem => Primitive::ContinueItem,
-        Primitive::RestartItem => Primitive::RestartItem,
-        Primitive::CompleteItem => Primitive::CompleteItem,
-        Primitive::RemoveItem => Primitive::RemoveItem,
-        Primitive::SuspendCase => Primitive::SuspendCase,
-        Primitive::ContinueCase => Primitive::ContinueCase,
-        Primitive::RemoveCase => Primitive::RemoveCase,
-        Primitive::Compensate(name) => Primitive::Compensate(name.copy()?),
-        Primitive::Unknown(text) => Primitive::Unknown(Text::copy_of(alloc, text.as_str())?),
-    })
-}
-
-fn all_of(alloc: Global, exlet: &PrimitiveList) -> Result<PrimitiveList, AllocError>
-    ensures { IfOk result (λ copy. copy ≡ exlet.now) }
-{
-    let mut rest = Items::new(alloc);
-    for primitive in exlet.as_slice() {
-        rest.push(copy_of(alloc, primitive)?)?;
-    }
-    Ok(rest)
-}
 
 /// Run n of the case or item at an identity, which has all of this exlet to do.
 fn new_run(alloc: Global, exlet: &PrimitiveList, j: &Ident, n: u64) -> Result<Run, AllocError>
@@ -46,7 +20,8 @@ fn new_run(alloc: Global, exlet: &PrimitiveList, j: &Ident, n: u64) -> Result<Ru
     ensures { IfOk result (BeginsRun (child j.now n) exlet.now) }
 {
     let id = j.child(alloc, n)?;
-    Ok(Run::begin(id, all_of(alloc, exlet)?))
+    let rest = copy_of_primitives(alloc, exlet.as_slice())?;
+    Ok(Run::begin(id, rest))
 }
 
 /// Run `n` begins at the case or item at an identity, and has all primitives of this exlet to do, which the rule with number `node` of the

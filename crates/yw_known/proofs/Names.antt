@@ -26,6 +26,7 @@ use Rattle.yw_state.specs.declared.loaded.Loaded.{Loaded}
 use Rattle.yw_tree.proofs.Asked.{unique_forest}
 use Rattle.yw_tree.specs.Forest.{entries, sites_of}
 use Rattle.yw_tree.specs.declared.Forest.{Forest}
+use Rattle.yw_trees.specs.Placed.{rules_of}
 use Rattle.yw_within.specs.Within.{IsWithin}
 
 -- ---- a net that stands in a state
@@ -111,6 +112,7 @@ unfolding with_library
 load_keeps_held old new f s name text h adds well =
     record {
       library = refl;
+      rules = h.rules ∙ ap (λ (z : Holdings). rules_of z.rules) (sym adds.behind);
       boxed = h.boxed;
       sites = h.sites ∙ load_keeps_sites old f s adds.loaded h ∙ ap (λ z. sites_of (names_of z) f) (sym adds.behind);
       well = well;

@@ -108,4 +108,5 @@ module _ (known : Holdings) (f : Forest) (s : State) (h : IsHeld known f s) (i :
         spec_within = g.spec_within;
         within = g.within;
         upstream = g.upstream;
+        kept = g.kept;
       }

@@ -4,7 +4,7 @@ use Rattle.yw_library.specs.Held.{IsHeld}
 use Rattle.yw_library.specs.Names.{names_of}
 use Rattle.yw_known.specs.declared.here.ItemHere.{ItemHere}
 use Rattle.yw_known.specs.declared.here.NetHere.{NetHere}
-use Rattle.yw_library.specs.Holdings.{Holdings}
+use Rattle.yw_library.specs.Holdings.{Holdings, IsKept}
 use Rattle.yw_nest.specs.Items.{IsNetOf, IsOfTask}
 use Rattle.yw_path.specs.Upstream.{IsUpstreamOf}
 use Rattle.yw_state.specs.Identity.{Ident}
@@ -24,7 +24,7 @@ use Rattle.yw_within.specs.Within.{IsWithin, NetIsWithin}
 abbrev pub as_net_at : Holdings → NetHere → NetAt
 as_net_at known h = record { part = net_part (names_of known) h.state.now; net = h.net.now }
 
--- The net stands at i. It is a net of the specification, which is within, and the upstream is its own.
+-- The net stands at i. It is a net of the specification, which is within and is kept under its number, and the upstream is its own.
 pub record IsNetHere (known : Holdings) (f : Forest) (s : State) (i : Ident) (h : NetHere) : Type 0 where
   pub stands : NetStands (names_of known) f s i h.net.now h.state.now
   pub at : net_at s i ≡ Some (as_net_at known h)
@@ -33,6 +33,7 @@ pub record IsNetHere (known : Holdings) (f : Forest) (s : State) (i : Ident) (h 
   pub spec_within : IsWithin h.spec.now
   pub within : NetIsWithin h.spec.now h.net.now
   pub upstream : IsUpstreamOf h.net.now h.up.now
+  pub kept : IsKept known h.spec.now.name h.spec.now (out-NetState h.state.now).spec
 
 -- ---- an item
 

@@ -1,3 +1,4 @@
 pub mod Upstreams
 pub mod Known
 pub mod Here
+pub mod Judged

@@ -1,4 +1,4 @@
-// Persons, specifications, and the upstream of each net.
+// Persons, specifications, rule trees, and the upstream of each net.
 ghost use Rattle.std.specs.Prelude.{◌≡◌, Option, None, Some, Ok, true, All, IfOk, OnOk, OnErr, MatchOption};
 ghost use Rattle.yw_known.specs.Known.{IsKnownNet, net_numbered};
 ghost use Rattle.yw_known.specs.Upstreams.{IsAllOrNothing};
@@ -35,9 +35,9 @@ pub struct KnownNet<'a> {
     pub up: &'a Upstream,
 }
 
-/// What is known beside cases: persons with their roles, the specifications that are loaded, and for each of their nets what is upstream of
-/// its places, by which an OR-join waits. A contract sees what its library holds. That upstreams are kept, and not computed at each
-/// question, is our own.
+/// What is known beside cases: persons with their roles, the specifications that are loaded with their rule trees, and
+/// for each of their nets what is upstream of its places, by which an OR-join waits. A contract sees what its library
+/// holds. That upstreams are kept, and not computed at each question, is our own.
 #[derive(Drop)]
 pub struct Known {
     alloc: Global,
@@ -53,8 +53,9 @@ impl Model for Known {
 
     ghost use Rattle.std.specs.Coded.{codes};
     ghost use Rattle.yw_state.specs.contracts.loaded.Loaded as loaded;
+    ghost use Rattle.yw_expr.specs.Tree.{tree_code};
 
-    ghost coded = { Prim.hlevel (codes, loaded.the_row.coded) };
+    ghost coded = { Prim.hlevel (codes, loaded.the_row.coded, tree_code) };
 
     ghost view = { λ k. k.library };
 
@@ -62,7 +63,7 @@ impl Model for Known {
 }
 
 impl Known {
-    /// Nobody, and no specification. It takes no memory.
+    /// Nobody, no specification and no rule. It takes no memory.
     pub fn new(alloc: Global) -> Known
         ensures empty { result ≡ kept.nothing }
         ensures state { state_of result ≡ opening }
@@ -134,7 +135,7 @@ impl Known {
         Ok(leads)
     }
 
-    /// The persons and the specifications.
+    /// The persons, the specifications and the rule trees.
     pub fn library(&self) -> &Library
         ensures { result.now ≡ self.now }
     {

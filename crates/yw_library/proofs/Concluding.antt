@@ -2,9 +2,7 @@
 use Rattle.std.proofs.Common.{◌≡◌, List, [], ◌∷◌, Bool, refl, ap, ◌∙◌}
 use Rattle.std.specs.Prelude.{◌&&◌, is_none, not, length, nat_le, nat_lt}
 use Rattle.std.specs.List.{list_all}
-use Rattle.yw_library.specs.Holdings.{Holdings, state_of, with_library}
-use Rattle.yw_library.specs.Trees.{with_trees}
-use Rattle.yw_library.specs.declared.trees.grown.Grown.{Grown}
+use Rattle.yw_library.specs.Holdings.{Holdings, state_of, with_holdings, with_library}
 use Rattle.yw_state.specs.Judged.{is_select}
 use Rattle.yw_state.specs.Map.{has_key}
 use Rattle.yw_state.specs.NewRule.{is_known, is_of_item, may_conclude, most_primitives, removes_last}
@@ -40,7 +38,7 @@ module _ (s t : State) (same : s.specs ≡ t.specs) where
   same_conclude p (Exlet ps) =
       ap (λ b. not (is_select p.kind) && nat_lt 0 (length ps) && nat_le (length ps) most_primitives && (b && removes_last ps)) (same_all (is_none p.net) ps)
 
-pub concludes : (s : State) (known : Holdings) (trees : List Grown) (p : TreePlace) (c : Conclusion)
-    → may_conclude (with_trees s known trees) p c ≡ may_conclude (state_of known) p c
+pub concludes : (s : State) (known : Holdings) (p : TreePlace) (c : Conclusion)
+    → may_conclude (with_holdings s known) p c ≡ may_conclude (state_of known) p c
 unfolding with_library
-concludes s known trees p c = same_conclude (with_trees s known trees) (state_of known) refl p c
+concludes s known p c = same_conclude (with_holdings s known) (state_of known) refl p c

@@ -1,8 +1,8 @@
 -- What a library's lists stand for, after a change.
-use Rattle.std.proofs.Common.{◌≡◌, ◌⊎◌, inl, inr, ℕ, suc, zero, List, [], ◌∷◌, ◌++◌, Bool, true, false, cond, Option, Some, None, nat_cmp, refl, sym, ap, subst, ◌∙◌}
-use Rattle.std.specs.Prelude.{All, length, map, is_some, slice_get, slice_set}
+use Rattle.std.proofs.Common.{◌≡◌, ◌⊎◌, inl, inr, ℕ, suc, zero, List, [], ◌∷◌, ◌++◌, Bool, true, false, cond, Option, Some, None, Result, Ok, Err, nat_cmp, refl, sym, ap, subst, ◌∙◌}
+use Rattle.std.specs.Prelude.{All, IfOk, OnErr, length, map, is_some, slice_get, slice_set}
 use Rattle.std.specs.Cmp.Lexicographic.{slice_cmp}
-use Rattle.std.specs.FinMap.{insert}
+use Rattle.std.specs.FinMap.{get as fin_get, insert}
 use Rattle.std.specs.FinMap.Entries.{find}
 use Rattle.std.specs.Str.{bytes_eq}
 use Rattle.std.proofs.lemmas.List.{map-append}
@@ -17,6 +17,15 @@ use Rattle.yw_state.specs.Texts.{a_spec, nothing}
 use Rattle.yw_state.proofs.MapEntries.{get-of_entries, of_entries-push}
 use Rattle.yw_state.proofs.MapLemmas.{by_name, get-insert, same_map}
 use Rattle.yw_state.specs.declared.event.Event.TheVariants as events
+use Rattle.std.specs.declared.alloc.AllocError.{AllocError}
+use Rattle.yw_state.proofs.Tests.{nowhere, some_same}
+use Rattle.yw_state.specs.RuleTree.{TreeRule}
+use Rattle.yw_state.specs.declared.tree.TreePlace.{TreePlace}
+use Rattle.yw_trees.proofs.Rules.{all_behind, still_owned}
+use Rattle.yw_trees.specs.Owners.{Owns, SpecsApart}
+use Rattle.yw_trees.specs.Placed.{IsAdded, Placed}
+use Rattle.yw_trees.specs.declared.owner.Owner.{Owner}
+use Rattle.yw_library.specs.Adding.{IsGrown}
 use Rattle.yw_library.specs.Holdings.{Holdings, IsKeptRight, SaysItsText, person_name, put_person, roles_under, spec_name, spec_under, state_of, with_library, with_person, with_spec}
 use Rattle.yw_library.specs.Numbers.{NumberedNames, AreFound, IsNumberOf, NoneNamed}
 use Rattle.yw_library.specs.declared.items.Person.{Person}
@@ -191,49 +200,82 @@ all_at P xs i x all at = subst P (get_or_from_slice_get xs i x x at) (all i x (s
 
 -- ---- what stays so
 
-pub kept-nothing : (persons specs : NumberedNames) → IsKeptRight [] persons [] specs
+pub apart_by : (ss : List Loaded) (sn : NumberedNames) → AreFound spec_name ss sn → SpecsApart ss
+apart_by ss sn found i j l m at there same =
+    some_same i j (sym (found.found i l at) ∙ ap (fin_get sn) same ∙ found.found j m there)
+
+pub kept-nothing : (persons specs : NumberedNames) → IsKeptRight [] persons [] specs []
 kept-nothing persons specs = record {
   persons_found = record { found = λ i x e. cc };
   specs_found = record { found = λ i x e. cc };
   accepted = All-nil SaysItsText;
+  owned = λ n t at. nowhere at;
 }
 
-pub kept-stale_person : (ps : List Person) (pn : NumberedNames) (ss : List Loaded) (sn : NumberedNames) (name : List ℕ) (n : ℕ)
-    → IsKeptRight ps pn ss sn → NoneNamed person_name ps name → IsKeptRight ps (insert pn name n) ss sn
-kept-stale_person ps pn ss sn name n k none = record {
-  persons_found = found-stale person_name ps pn name n k.persons_found none;
-  specs_found = k.specs_found;
-  accepted = k.accepted;
-}
+module _ (ps : List Person) (pn : NumberedNames) (ss : List Loaded) (sn : NumberedNames) (ts : List Placed) (k : IsKeptRight ps pn ss sn ts) where
+  pub kept-stale_person : (name : List ℕ) (n : ℕ) → NoneNamed person_name ps name → IsKeptRight ps (insert pn name n) ss sn ts
+  kept-stale_person name n none = record {
+    persons_found = found-stale person_name ps pn name n k.persons_found none;
+    specs_found = k.specs_found;
+    accepted = k.accepted;
+    owned = k.owned;
+  }
 
-pub kept-push_person : (ps : List Person) (pn : NumberedNames) (ss : List Loaded) (sn : NumberedNames) (new : Person)
-    → IsKeptRight ps pn ss sn → NoneNamed person_name ps new.name → IsKeptRight (ps ++ new ∷ []) (insert pn new.name (length ps)) ss sn
-kept-push_person ps pn ss sn new k none = record {
-  persons_found = found-push person_name ps pn new k.persons_found none;
-  specs_found = k.specs_found;
-  accepted = k.accepted;
-}
+  pub kept-push_person : (new : Person) → NoneNamed person_name ps new.name
+      → IsKeptRight (ps ++ new ∷ []) (insert pn new.name (length ps)) ss sn ts
+  kept-push_person new none = record {
+    persons_found = found-push person_name ps pn new k.persons_found none;
+    specs_found = k.specs_found;
+    accepted = k.accepted;
+    owned = k.owned;
+  }
 
-pub kept-set_person : (ps : List Person) (pn : NumberedNames) (ss : List Loaded) (sn : NumberedNames) (new : Person) (n : ℕ)
-    → IsKeptRight ps pn ss sn → IsNumberOf person_name ps new.name (Some n) → IsKeptRight (slice_set ps n new) pn ss sn
-kept-set_person ps pn ss sn new n k (old, at, has) = record {
-  persons_found = found-set person_name ps pn n old new k.persons_found at has;
-  specs_found = k.specs_found;
-  accepted = k.accepted;
-}
+  pub kept-set_person : (new : Person) (n : ℕ) → IsNumberOf person_name ps new.name (Some n) → IsKeptRight (slice_set ps n new) pn ss sn ts
+  kept-set_person new n (old, at, has) = record {
+    persons_found = found-set person_name ps pn n old new k.persons_found at has;
+    specs_found = k.specs_found;
+    accepted = k.accepted;
+    owned = k.owned;
+  }
 
-pub kept-stale_spec : (ps : List Person) (pn : NumberedNames) (ss : List Loaded) (sn : NumberedNames) (name : List ℕ) (n : ℕ)
-    → IsKeptRight ps pn ss sn → NoneNamed spec_name ss name → IsKeptRight ps pn ss (insert sn name n)
-kept-stale_spec ps pn ss sn name n k none = record {
-  persons_found = k.persons_found;
-  specs_found = found-stale spec_name ss sn name n k.specs_found none;
-  accepted = k.accepted;
-}
+  pub kept-stale_spec : (name : List ℕ) (n : ℕ) → NoneNamed spec_name ss name → IsKeptRight ps pn ss (insert sn name n) ts
+  kept-stale_spec name n none = record {
+    persons_found = k.persons_found;
+    specs_found = found-stale spec_name ss sn name n k.specs_found none;
+    accepted = k.accepted;
+    owned = k.owned;
+  }
 
-pub kept-push_spec : (ps : List Person) (pn : NumberedNames) (ss : List Loaded) (sn : NumberedNames) (new : Loaded)
-    → IsKeptRight ps pn ss sn → NoneNamed spec_name ss new.spec.name → SaysItsText new → IsKeptRight ps pn (ss ++ new ∷ []) (insert sn new.spec.name (length ss))
-kept-push_spec ps pn ss sn new k none says = record {
-  persons_found = k.persons_found;
-  specs_found = found-push spec_name ss sn new k.specs_found none;
-  accepted = All-push SaysItsText ss new k.accepted says;
-}
+  pub kept-push_spec : (new : Loaded) → NoneNamed spec_name ss new.spec.name → SaysItsText new
+      → IsKeptRight ps pn (ss ++ new ∷ []) (insert sn new.spec.name (length ss)) ts
+  kept-push_spec new none says = record {
+    persons_found = k.persons_found;
+    specs_found = found-push spec_name ss sn new k.specs_found none;
+    accepted = All-push SaysItsText ss new k.accepted says;
+    owned = all_behind ss (new ∷ []) ts k.owned;
+  }
+
+  -- one rule more, whether memory was left for it or not
+  pub kept-rule : (owner : Owner) (p : TreePlace) (r : TreeRule) → Owns ss owner p → (new : List Placed) (answer : Result ℕ AllocError)
+      → IfOk answer (IsAdded ts new owner p r) → OnErr answer (new ≡ ts)
+      → IsKeptRight ps pn ss sn new
+  kept-rule owner p r owns new (Ok number) added same =
+      subst (IsKeptRight ps pn ss sn) (sym added.added) (record {
+        persons_found = k.persons_found;
+        specs_found = k.specs_found;
+        accepted = k.accepted;
+        owned = still_owned ss (apart_by ss sn k.specs_found) owner p owns.is r owns ts k.owned;
+      })
+  kept-rule owner p r owns new (Err e) added same = subst (IsKeptRight ps pn ss sn) (sym same) k
+
+-- ---- one rule more
+
+pub grown_as : (h known : Holdings) → h ≡ known → (new : List Placed) (owner : Owner) (p : TreePlace) (r : TreeRule) (number : ℕ)
+    → IsAdded h.rules new owner p r number
+    → IsGrown known (record { persons = h.persons; specs = h.specs; rules = new }) owner p r number
+grown_as h known view new owner p r number added =
+    subst (λ (z : Holdings). IsGrown z (record { persons = h.persons; specs = h.specs; rules = new }) owner p r number) view
+    (record {
+      grown = λ i. record { persons = h.persons; specs = h.specs; rules = added.added i };
+      numbered = added.numbered;
+    })

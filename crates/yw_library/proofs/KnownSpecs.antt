@@ -2,20 +2,18 @@
 use Rattle.std.proofs.Common.{◌≡◌, inl, inr, ℕ, List, [], true, Option, None, Some, sym, ap, subst, ◌∙◌}
 use Rattle.std.specs.Borrow.{Bor}
 use Rattle.std.specs.Prelude.{MatchOption, is_some, slice_get}
-use Rattle.yw_library.proofs.HasOwner.{none_stands}
 use Rattle.yw_library.proofs.NamedLemmas.{Looked, found_in, get-map_of, looked}
-use Rattle.yw_library.proofs.PlaceLemmas.{in_its_spec, may_stand}
-use Rattle.yw_library.proofs.TreeRules.{at_number, no_rules}
-use Rattle.yw_library.specs.Holdings.{Holdings, IsKept, spec_name, state_of, with_library}
+use Rattle.yw_library.specs.Holdings.{Holdings, IsKept, spec_name, state_of, with_holdings, with_library}
 use Rattle.yw_library.specs.Numbers.{NoneNamed}
-use Rattle.yw_library.specs.Owners.{IsNamed, Owns, may_own, owner_in, spec_number}
-use Rattle.yw_library.specs.Trees.{AreOwned, with_trees}
-use Rattle.yw_library.specs.declared.trees.grown.Grown.{Grown}
-use Rattle.yw_library.specs.declared.trees.owner.Owner.{Owner}
+use Rattle.yw_trees.proofs.HasOwner.{none_stands}
+use Rattle.yw_trees.proofs.PlaceLemmas.{in_its_spec, may_stand}
+use Rattle.yw_trees.proofs.Rules.{at_place, nothing_at}
+use Rattle.yw_trees.specs.Owners.{IsNamed, Owns, may_own, owner_in, spec_number}
+use Rattle.yw_trees.specs.Placed.{AreOwned, rules_for}
+use Rattle.yw_trees.specs.declared.owner.Owner.{Owner}
 use Rattle.yw_spec.specs.declared.spec.Spec.{Spec}
 use Rattle.yw_state.proofs.Tests.{never, nowhere, some_same}
-use Rattle.yw_state.specs.Judged as judged
-use Rattle.yw_state.specs.Judged.{is_tree_place}
+use Rattle.yw_state.specs.Judged.{is_tree_place, rules_at}
 use Rattle.yw_state.specs.Map.{get, has_key}
 use Rattle.yw_state.specs.State.{State}
 use Rattle.yw_state.specs.declared.loaded.Loaded.{Loaded}
@@ -55,36 +53,35 @@ pub is_key : (known : Holdings) (name : List ℕ) (found : Option (Bor Spec × �
 is_key known name None none = sym (ap is_some none)
 is_key known name (Some e) kept = sym (ap is_some kept.kept)
 
--- ---- where no tree stands
+-- ---- where no tree stands, and where one may
 
-module _ (known : Holdings) (trees : List Grown) (owned : AreOwned known.specs trees) (p : TreePlace) where
-  owns : (n : ℕ) (g : Grown) → slice_get trees n ≡ Some g → Owns known.specs g.owner g.place
-  owns = at_number (λ (g : Grown). Owns known.specs g.owner g.place) trees owned.owned
+module _ (known : Holdings) (owned : AreOwned known.specs known.rules) (p : TreePlace) where
+  -- the rules by numbers stand at the place that is named after them
+  pub rules_here : (owner : Owner) → IsNamed known.specs owner p → (s : State) → rules_at (with_holdings s known) p ≡ rules_for owner p.kind known.rules
+  rules_here owner is s = at_place known.specs owned.apart owner p is known.rules owned.owned
 
   -- at a place of a specification that isn't loaded
-  pub none_of_spec : get (state_of known).specs p.spec ≡ None → (s : State) → judged.rules_at (with_trees s known trees) p ≡ []
+  pub none_of_spec : get (state_of known).specs p.spec ≡ None → (s : State) → rules_at (with_holdings s known) p ≡ []
   none_of_spec none s =
-      no_rules trees p
-      (λ n g at same.
-      let o = owns n g at in
-      none_named known p.spec none (spec_number g.owner) o.is.loaded o.is.numbered (o.is.named ∙ ap (λ (q : TreePlace). q.spec) same))
-      s known
+      nothing_at known.specs p
+      (λ owner o. none_named known p.spec none (spec_number owner) o.is.loaded o.is.numbered o.is.named)
+      known.rules owned.owned
 
   module _ (spec : Spec) (number : ℕ) (kept : IsKept known p.spec spec number) where
     abbrev its_text : Loaded
     its_text = record { text = kept.text; spec = spec }
 
-    stands_in : (n : ℕ) (g : Grown) → slice_get trees n ≡ Some g → g.place ≡ p → is_tree_place spec p ≡ true
-    stands_in n g at same =
-        let o = owns n g at in
-        let names : o.is.loaded.spec.name ≡ spec.name = o.is.named ∙ ap (λ (q : TreePlace). q.spec) same ∙ sym (kept_named known p.spec spec number kept) in
-        let numbers : spec_number g.owner ≡ number = owned.apart (spec_number g.owner) number o.is.loaded its_text o.is.numbered kept.stands names in
+    stands_in : (owner : Owner) → Owns known.specs owner p → is_tree_place spec p ≡ true
+    stands_in owner o =
+        let names : o.is.loaded.spec.name ≡ spec.name = o.is.named ∙ sym (kept_named known p.spec spec number kept) in
+        let numbers : spec_number owner ≡ number = owned.apart (spec_number owner) number o.is.loaded its_text o.is.numbered kept.stands names in
         let loaded : o.is.loaded ≡ its_text = some_same o.is.loaded its_text (sym o.is.numbered ∙ ap (slice_get known.specs) numbers ∙ kept.stands) in
-        ap (is_tree_place spec) (sym same) ∙ ap (λ (l : Loaded). is_tree_place l.spec g.place) (sym loaded) ∙ o.may
+        ap (λ (l : Loaded). is_tree_place l.spec p) (sym loaded) ∙ o.may
 
     -- at what is no place of one that is
-    pub none_at_place : may_own number spec p ≡ None → (s : State) → judged.rules_at (with_trees s known trees) p ≡ []
-    none_at_place none s = no_rules trees p (λ n g at same. never (sym (none_stands number spec p none) ∙ stands_in n g at same)) s known
+    pub none_at_place : may_own number spec p ≡ None → (s : State) → rules_at (with_holdings s known) p ≡ []
+    none_at_place none s =
+        nothing_at known.specs p (λ owner o. never (sym (none_stands number spec p none) ∙ stands_in owner o)) known.rules owned.owned
 
 -- ---- what is named at a place
 

@@ -5,15 +5,13 @@ use Rattle.std.specs.Prelude.{◌&&◌, is_none, is_some, not, nat_lt, option_ma
 use Rattle.yw_library.proofs.Concluding.{concludes}
 use Rattle.yw_library.proofs.RuleTable as rows
 use Rattle.yw_library.proofs.RuleTable.{table}
+use Rattle.yw_library.proofs.KnownSpecs.{rules_here}
 use Rattle.yw_library.proofs.SideLemmas.{as_many, as_taken}
-use Rattle.yw_library.proofs.TreeRules.{its_rules}
 use Rattle.yw_library.specs.Adding.{a_command, side_rule}
-use Rattle.yw_library.specs.Holdings.{Holdings, state_of, with_library}
-use Rattle.yw_library.specs.Owners.{IsNamed}
-use Rattle.yw_library.specs.Trees.{AreOwned, AreRight, IsTreeOf, kept_at, rules_at, with_trees}
-use Rattle.yw_library.specs.declared.trees.grown.Grown.{Grown}
-use Rattle.yw_library.specs.declared.trees.owner.Owner.{Owner}
-use Rattle.yw_library.specs.declared.trees.slots.Slots.{Slots}
+use Rattle.yw_library.specs.Holdings.{Holdings, state_of, with_holdings, with_library}
+use Rattle.yw_trees.specs.Owners.{IsNamed}
+use Rattle.yw_trees.specs.Placed.{AreOwned, links_for, rules_for}
+use Rattle.yw_trees.specs.declared.owner.Owner.{Owner}
 use Rattle.yw_texts.proofs.ReadingOnce.{reads_one}
 use Rattle.yw_texts.specs.Texts.{ReadsCondition, reader}
 use Rattle.yw_rdr.specs.Attached.{IfFault, Takes}
@@ -37,9 +35,9 @@ use Rattle.yw_state.specs.declared.rule.Rule.TheVariants as rules
 use Rattle.yw_state.specs.declared.tree.Conclusion.{Conclusion}
 use Rattle.yw_state.specs.declared.tree.TreePlace.{TreePlace}
 
-module _ (s : State) (known : Holdings) (trees : List Grown) (p : TreePlace) (at : ℕ) (side : Bool) (when : List ℕ) (c : Conclusion) where
+module _ (s : State) (known : Holdings) (p : TreePlace) (at : ℕ) (side : Bool) (when : List ℕ) (c : Conclusion) where
   abbrev u : State
-  u = with_trees s known trees
+  u = with_holdings s known
 
   abbrev Misspelt : List ℕ → Type 0
   Misspelt text = (spec : Spec) × (spec_called u p.spec ≡ Some spec) × reader.condition when (tree_scope spec p) (Err text)
@@ -85,19 +83,18 @@ module _ (s : State) (known : Holdings) (trees : List Grown) (p : TreePlace) (at
         (ap (λ (o : Option Spec). not (is_some_and o (λ spec. is_tree_place spec p) && is_side (length (judged.rules_at u p)) at side)) spec_is
         ∙ ap (λ b. not (b && is_side (length (judged.rules_at u p)) at side)) none))
 
-    module _ (slots : Slots) (right : AreRight trees slots) (owned : AreOwned known.specs trees) (owner : Owner) (is : IsNamed known.specs owner p)
-        (may : is_tree_place l.spec p ≡ true) (number : Option ℕ) (of : IsTreeOf trees owner p.kind number) where
+    module _ (owned : AreOwned known.specs known.rules) (owner : Owner) (is : IsNamed known.specs owner p) (may : is_tree_place l.spec p ≡ true) where
       abbrev links : List rdr.Kept
-      links = kept_at trees number
+      links = links_for owner p.kind known.rules
 
-      pub rules_are : judged.rules_at u p ≡ rules_at trees number
-      rules_are = its_rules known.specs trees slots right owned owner p is s known number of
+      pub rules_are : judged.rules_at u p ≡ rules_for owner p.kind known.rules
+      rules_are = rules_here known owned p owner is s
 
       pub count_is : length (judged.rules_at u p) ≡ length links
-      count_is = ap length rules_are ∙ as_many trees right.agree number
+      count_is = ap length rules_are ∙ as_many (rules_for owner p.kind known.rules)
 
       pub taken_is : is_taken (judged.rules_at u p) at side ≡ is_taken (rdr.rules_of links) at side
-      taken_is = ap (λ rs. is_taken rs at side) rules_are ∙ as_taken trees right.agree number at side
+      taken_is = ap (λ rs. is_taken rs at side) rules_are ∙ as_taken (rules_for owner p.kind known.rules) at side
 
       place_is : no_place ≡ not (is_side (length links) at side)
       place_is =
@@ -132,13 +129,13 @@ module _ (s : State) (known : Holdings) (trees : List Grown) (p : TreePlace) (at
             pub bad_conclusion : may_conclude (state_of known) p c ≡ false → BreaksHere (Some (placeless rules.BadConclusion))
             bad_conclusion none =
                 as_table (Some (placeless rules.BadConclusion))
-                (rows.bad_conclusion Misspelt spelt _ _ _ _ _ there placed_right (taken_is ∙ free) (ap not (concludes s known trees p c ∙ none)))
+                (rows.bad_conclusion Misspelt spelt _ _ _ _ _ there placed_right (taken_is ∙ free) (ap not (concludes s known p c ∙ none)))
 
             module _ (can : may_conclude (state_of known) p c ≡ true) where
               pub full : most_rules ≤ length links → BreaksHere (Some (placeless rules.Numbers))
               full many =
                   as_table (Some (placeless rules.Numbers))
-                  (rows.full Misspelt spelt _ _ _ _ _ there placed_right (taken_is ∙ free) (ap not (concludes s known trees p c ∙ can))
+                  (rows.full Misspelt spelt _ _ _ _ _ there placed_right (taken_is ∙ free) (ap not (concludes s known p c ∙ can))
                   (ap (λ n. not (nat_lt n most_rules)) count_is ∙ ap not (le-ltb (length links) most_rules many)))
 
               pub has_place : length links < most_rules → has_room u p ≡ true
@@ -147,7 +144,7 @@ module _ (s : State) (known : Holdings) (trees : List Grown) (p : TreePlace) (at
               pub unbroken : length links < most_rules → BreaksHere None
               unbroken few =
                   as_table None
-                  (rows.none Misspelt spelt _ _ _ _ _ there placed_right (taken_is ∙ free) (ap not (concludes s known trees p c ∙ can))
+                  (rows.none Misspelt spelt _ _ _ _ _ there placed_right (taken_is ∙ free) (ap not (concludes s known p c ∙ can))
                   (ap not (has_place few)))
 
       -- ---- what a tree answers of a side

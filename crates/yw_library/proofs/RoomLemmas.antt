@@ -7,25 +7,23 @@ use Rattle.yw_expr.specs.Tree.{Tree}
 use Rattle.yw_expr.specs.declared.fault.ExprFault.{ExprFault}
 use Rattle.yw_expr.specs.declared.fault.ExprFault.TheVariants as exprs
 use Rattle.yw_expr.specs.declared.scope.Binding.{Binding}
-use Rattle.yw_library.proofs.HasOwner.{none_stands}
 use Rattle.yw_library.proofs.KnownSpecs.{named_here}
-use Rattle.yw_library.proofs.PlaceLemmas.{may_stand}
 use Rattle.yw_library.proofs.Refusing as refusing
 use Rattle.yw_library.proofs.ScopeLemmas.{same_scope}
 use Rattle.yw_library.specs.Accepts.{IfRefused}
 use Rattle.yw_library.specs.Adding.{AlwaysRefuses, HasRoom, command_of, side_rule}
 use Rattle.yw_library.specs.Conditions.{IsFault, IsSaid, Misspells}
-use Rattle.yw_library.specs.Holdings.{Holdings, IsKept, state_of}
-use Rattle.yw_library.specs.Owners.{IsNamed, may_own}
+use Rattle.yw_library.specs.Holdings.{Holdings, IsKept, state_of, with_holdings}
 use Rattle.yw_library.specs.Scopes.{scope_of}
-use Rattle.yw_library.specs.Trees.{AreOwned, AreRight, IsTreeOf, kept_at, with_trees}
 use Rattle.yw_library.specs.declared.fault.LibraryFault.{LibraryFault}
 use Rattle.yw_library.specs.declared.fault.LibraryFault.TheVariants as faults
 use Rattle.yw_library.specs.declared.trees.Room.{Room}
 use Rattle.yw_library.specs.declared.trees.Wanted.{Wanted}
-use Rattle.yw_library.specs.declared.trees.grown.Grown.{Grown}
-use Rattle.yw_library.specs.declared.trees.owner.Owner.{Owner}
-use Rattle.yw_library.specs.declared.trees.slots.Slots.{Slots}
+use Rattle.yw_trees.proofs.HasOwner.{none_stands}
+use Rattle.yw_trees.proofs.PlaceLemmas.{may_stand}
+use Rattle.yw_trees.specs.Owners.{IsNamed, may_own}
+use Rattle.yw_trees.specs.Placed.{AreOwned, Placed, links_for}
+use Rattle.yw_trees.specs.declared.owner.Owner.{Owner}
 use Rattle.yw_texts.specs.Texts.{IsMisspelt, ReadsCondition, reader}
 use Rattle.yw_rdr.specs.Attached.{IfFault}
 use Rattle.yw_rdr.specs.declared.fault.RdrFault.{RdrFault}
@@ -65,52 +63,51 @@ misread text scope fault (Err e) means said = tt
 
 -- ---- on the way to a place
 
-module _ (known : Holdings) (trees : List Grown) (w : Wanted) (c : Conclusion) where
+module _ (known : Holdings) (w : Wanted) (c : Conclusion) where
   abbrev p : TreePlace
   p = w.place.now
 
   abbrev Refuses : Rule → Type 0
-  Refuses rule = AlwaysRefuses known trees (command_of w c) (Some (placeless rule))
+  Refuses rule = AlwaysRefuses known (command_of w c) (Some (placeless rule))
 
   pub refused_for : (fault : LibraryFault) (broken : Rule) → fault ≡ faults.Refused (placeless broken) → Refuses broken
-      → IfRefused {A = Room} (Err fault) (λ refusal. AlwaysRefuses known trees (command_of w c) (Some refusal))
-  refused_for fault broken is refuses = subst (λ f. IfRefused {A = Room} (Err f) (λ refusal. AlwaysRefuses known trees (command_of w c) (Some refusal)))
+      → IfRefused {A = Room} (Err fault) (λ refusal. AlwaysRefuses known (command_of w c) (Some refusal))
+  refused_for fault broken is refuses = subst (λ f. IfRefused {A = Room} (Err f) (λ refusal. AlwaysRefuses known (command_of w c) (Some refusal)))
       (sym is) refuses
 
   pub no_spec : get (state_of known).specs p.spec ≡ None → Refuses rules.UnknownSpec
-  no_spec none = λ s. refusing.no_spec s known trees p w.at w.side w.when.now c none
+  no_spec none = λ s. refusing.no_spec s known p w.at w.side w.when.now c none
 
   module _ (spec : Spec) (number : ℕ) (kept : IsKept known p.spec spec number) where
     abbrev its_text : Loaded
     its_text = record { text = kept.text; spec = spec }
 
     pub no_place : may_own number spec p ≡ None → Refuses rules.UnknownPlace
-    no_place none = λ s. refusing.not_there s known trees p w.at w.side w.when.now c its_text kept.kept (none_stands number spec p none)
+    no_place none = λ s. refusing.not_there s known p w.at w.side w.when.now c its_text kept.kept (none_stands number spec p none)
 
-    module _ (slots : Slots) (right : AreRight trees slots) (owned : AreOwned known.specs trees) (owner : Owner)
-        (may : may_own number spec p ≡ Some owner) (tree : Option ℕ)
-        (of : IsTreeOf trees owner p.kind tree) (fault : Option RdrFault) (asked : IfFault fault (kept_at trees tree) w.at w.side) where
+    module _ (owned : AreOwned known.specs known.rules) (owner : Owner) (may : may_own number spec p ≡ Some owner) (fault : Option RdrFault)
+        (asked : IfFault fault (links_for owner p.kind known.rules) w.at w.side) where
       abbrev named : IsNamed known.specs owner p
       named = named_here known p spec number kept owner may
 
       pub bad_side : (broken : Rule) → side_rule fault ≡ Some broken → Refuses broken
       bad_side broken e = λ s.
-          refusing.side_breaks s known trees p w.at w.side w.when.now c its_text kept.kept slots right owned owner named
-          (may_stand number spec p owner may).0 tree of fault broken asked e
+          refusing.side_breaks s known p w.at w.side w.when.now c its_text kept.kept owned owner named
+          (may_stand number spec p owner may).0 fault broken asked e
 
       module _ (free : side_rule fault ≡ None) where
-        side_free : refusing.IsFree (kept_at trees tree) w.at w.side (is_some fault)
-        side_free = refusing.is_free (kept_at trees tree) w.at w.side fault asked free
+        side_free : refusing.IsFree (links_for owner p.kind known.rules) w.at w.side (is_some fault)
+        side_free = refusing.is_free (links_for owner p.kind known.rules) w.at w.side fault asked free
 
         scopes : tree_scope spec p ≡ scope_of spec owner
         scopes = same_scope number spec p owner (may_stand number spec p owner may).1
 
         pub bad_text : (answer : LibraryFault) → IfRefused {A = Tree} (Err answer) (Misspells w.when.now (scope_of spec owner))
-            → IfRefused {A = Room} (Err answer) (λ refusal. AlwaysRefuses known trees (command_of w c) (Some refusal))
+            → IfRefused {A = Room} (Err answer) (λ refusal. AlwaysRefuses known (command_of w c) (Some refusal))
         bad_text (faults.Refused refusal) m = λ s.
-            subst (λ r. Breaks reader (with_trees s known trees) (command_of w c) (Some r)) (sym m.said)
-            (refusing.misspelt s known trees p w.at w.side w.when.now c its_text kept.kept slots right owned owner named
-            (may_stand number spec p owner may).0 tree of side_free.there
+            subst (λ r. Breaks reader (with_holdings s known) (command_of w c) (Some r)) (sym m.said)
+            (refusing.misspelt s known p w.at w.side w.when.now c its_text kept.kept owned owner named
+            (may_stand number spec p owner may).0 side_free.there
             side_free.free m.at (subst (λ scope. ReadsCondition w.when.now scope (Err m.at)) (sym scopes) m.misspelt))
         bad_text faults.Memory m = tt
 
@@ -120,24 +117,31 @@ module _ (known : Holdings) (trees : List Grown) (w : Wanted) (c : Conclusion) w
 
           pub bad_conclusion : may_conclude (state_of known) p c ≡ false → Refuses rules.BadConclusion
           bad_conclusion none = λ s.
-              refusing.bad_conclusion s known trees p w.at w.side w.when.now c its_text kept.kept slots right owned owner named
-              (may_stand number spec p owner may).0 tree of side_free.there
+              refusing.bad_conclusion s known p w.at w.side w.when.now c its_text kept.kept owned owner named
+              (may_stand number spec p owner may).0 side_free.there
               side_free.free test spells none
 
           module _ (can : may_conclude (state_of known) p c ≡ true) where
             pub full : is_some fault ≡ true → Refuses rules.Numbers
             full many = λ s.
-                refusing.full s known trees p w.at w.side w.when.now c its_text kept.kept slots right owned owner named
-                (may_stand number spec p owner may).0 tree of side_free.there
+                refusing.full s known p w.at w.side w.when.now c its_text kept.kept owned owner named
+                (may_stand number spec p owner may).0 side_free.there
                 side_free.free test spells can (side_free.many many)
 
-            pub has_room : is_some fault ≡ false → HasRoom known trees w c (record { owner = owner; tree = tree; test = test })
+            pub has_room : is_some fault ≡ false → HasRoom known w c (record { owner = owner; test = test })
             has_room few = record {
+              owned = owned;
               is = named_here known p spec number kept owner may;
               called = kept.kept;
               may = (may_stand number spec p owner may).0;
-              tree = of;
               takes = side_free.few few;
               spells = spells;
               concludes = can;
             }
+
+-- what trees answer, that are those of the library
+pub asked_so : (known : Holdings) (w : Wanted) (c : Conclusion) (owner : Owner) (trees : List Placed) (fault : Option RdrFault) → trees ≡ known.rules
+    → IfFault fault (links_for owner w.place.now.kind trees) w.at w.side
+    → IfFault fault (links_for owner w.place.now.kind known.rules) w.at w.side
+asked_so known w c owner trees fault same asked =
+    subst (λ ts. IfFault fault (links_for owner w.place.now.kind ts) w.at w.side) same asked

@@ -1,21 +1,18 @@
 -- What an event that adds a rule leads to, and when it leads nowhere.
 use Rattle.std.proofs.Common.{◌≡◌, ◌+◌, ◌++◌, ◌∷◌, [], ℕ, List, Bool, true, false, Option, None, Some, Ok, Err, refl, sym, ap, subst, ◌∙◌, length}
 use Rattle.std.proofs.lemmas.Bool.{and_from, and_parts, eq-eqb, eqb-true, not-true}
-use Rattle.std.proofs.lemmas.List.Elements.{All-push, All-set}
-use Rattle.std.specs.Prelude.{All, ◌&&◌, ◌==◌, is_none, not}
+use Rattle.std.specs.Prelude.{◌&&◌, ◌==◌, is_none, not}
 use Rattle.yw_expr.specs.Tree.{Tree}
 use Rattle.yw_library.proofs.Concluding.{concludes}
 use Rattle.yw_library.proofs.Refusing as refusing
 use Rattle.yw_library.proofs.RuleTable as rows
-use Rattle.yw_library.proofs.TreeRules.{at_number, rules_added, rules_begun}
-use Rattle.yw_library.specs.Adding.{AlwaysGrows, AlwaysRefuses, HasRoom, IsGrown, IsGrownAt, NeverGrows, a_command, command_of, rule_of}
-use Rattle.yw_library.specs.Holdings.{Holdings, with_library}
-use Rattle.yw_library.specs.Owners.{Owns}
-use Rattle.yw_library.specs.Trees.{AreOwned, AreRight, IsTreeOf, rules_at, rules_of, with_trees}
+use Rattle.yw_library.proofs.KnownSpecs.{rules_here}
+use Rattle.yw_library.specs.Adding.{AlwaysGrows, AlwaysRefuses, HasRoom, IsGrown, NeverGrows, a_command, command_of, rule_of}
+use Rattle.yw_library.specs.Holdings.{Holdings, with_holdings, with_library, with_tree_rule}
+use Rattle.yw_trees.proofs.Rules.{added_there}
+use Rattle.yw_trees.specs.Placed.{rules_for, rules_of}
 use Rattle.yw_library.specs.declared.trees.Room.{Room}
 use Rattle.yw_library.specs.declared.trees.Wanted.{Wanted}
-use Rattle.yw_library.specs.declared.trees.grown.Grown.{Grown}
-use Rattle.yw_library.specs.declared.trees.slots.Slots.{Slots}
 use Rattle.yw_texts.proofs.ReadingOnce.{reads_one}
 use Rattle.yw_texts.specs.Texts.{reader}
 use Rattle.yw_spec.specs.declared.spec.Spec.{Spec}
@@ -106,47 +103,44 @@ module _ (u t : State) (p : TreePlace) (at : ℕ) (side : Bool) (when : List ℕ
       (ap not a.can) (ap not a.room)
 
 -- a rule that breaks one leads nowhere
-pub refused_never : (known : Holdings) (trees : List Grown) (p : TreePlace) (at : ℕ) (side : Bool) (when : List ℕ) (c : Conclusion) (node : ℕ)
-    (refusal : Refusal)
-    → AlwaysRefuses known trees (a_command p at side when c) (Some refusal) → NeverGrows known trees (events.AddRule p at side when c node)
-refused_never known trees p at side when c node refusal breaks s t leads =
-    let u = with_trees s known trees in
+pub refused_never : (known : Holdings) (p : TreePlace) (at : ℕ) (side : Bool) (when : List ℕ) (c : Conclusion) (node : ℕ) (refusal : Refusal)
+    → AlwaysRefuses known (a_command p at side when c) (Some refusal) → NeverGrows known (events.AddRule p at side when c node)
+refused_never known p at side when c node refusal breaks s t leads =
+    let u = with_holdings s known in
     let same = command-breaks-one reader reads_one u (a_command p at side when c) None (Some refusal) (leads_unbroken u t p at side when c node leads)
     (breaks s) in
     cc
 
 -- ---- where there is room
 
-module _ (known : Holdings) (trees : List Grown) (slots : Slots) (right : AreRight trees slots) (owned : AreOwned known.specs trees) (w : Wanted)
-    (c : Conclusion) (room : Room)
-    (has : HasRoom known trees w c room) where
+module _ (known : Holdings) (w : Wanted) (c : Conclusion) (room : Room) (has : HasRoom known w c room) where
   abbrev p : TreePlace
   p = w.place.now
 
+  -- the rules of the tree that it joins or begins
+  abbrev its_rules : List TreeRule
+  its_rules = rules_for room.owner p.kind known.rules
+
   -- the rule breaks none
-  pub unbroken : (s : State) → Breaks reader (with_trees s known trees) (command_of w c) None
+  pub unbroken : (s : State) → Breaks reader (with_holdings s known) (command_of w c) None
   unbroken s =
-      refusing.unbroken s known trees p w.at w.side w.when.now c has.is.loaded has.called slots right owned room.owner has.is has.may room.tree has.tree
-      has.takes.there
-      has.takes.free room.test has.spells has.concludes has.takes.room
+      refusing.unbroken s known p w.at w.side w.when.now c has.is.loaded has.called has.owned room.owner has.is has.may has.takes.there has.takes.free
+      room.test has.spells has.concludes has.takes.room
 
   module _ (s : State) where
     abbrev u : State
-    u = with_trees s known trees
+    u = with_holdings s known
 
-    rules_are : judged.rules_at u p ≡ rules_at trees room.tree
-    rules_are =
-        refusing.rules_are s known trees p w.at w.side w.when.now c has.is.loaded has.called slots right owned room.owner has.is has.may room.tree has.tree
+    rules_are : judged.rules_at u p ≡ its_rules
+    rules_are = rules_here known has.owned p room.owner has.is s
 
     spec_is : spec_called u p.spec ≡ Some has.is.loaded.spec
-    spec_is = refusing.spec_is s known trees p w.at w.side w.when.now c has.is.loaded has.called
+    spec_is = refusing.spec_is s known p w.at w.side w.when.now c has.is.loaded has.called
 
     fits : is_some_and (spec_called u p.spec) (fits_tree u p w.at w.side) ≡ true
     fits =
-        let count = refusing.count_is s known trees p w.at w.side w.when.now c has.is.loaded has.called slots right owned room.owner has.is has.may
-        room.tree has.tree in
-        let taken = refusing.taken_is s known trees p w.at w.side w.when.now c has.is.loaded has.called slots right owned room.owner has.is has.may
-        room.tree has.tree in
+        let count = refusing.count_is s known p w.at w.side w.when.now c has.is.loaded has.called has.owned room.owner has.is has.may in
+        let taken = refusing.taken_is s known p w.at w.side w.when.now c has.is.loaded has.called has.owned room.owner has.is has.may in
         ap (λ (o : Option Spec). is_some_and o (fits_tree u p w.at w.side)) spec_is
         ∙ and_from _ _ (and_from _ _ has.may (ap (λ n. is_side n w.at w.side) count ∙ has.takes.there)) (ap not (taken ∙ has.takes.free))
 
@@ -155,14 +149,13 @@ module _ (known : Holdings) (trees : List Grown) (slots : Slots) (right : AreRig
         → Leads reader u (events.AddRule p w.at w.side w.when.now c node) t
     unfolding allows
     leads_to node t numbered then =
-        let place = refusing.has_place s known trees p w.at w.side w.when.now c has.is.loaded has.called slots right owned room.owner has.is has.may
-        room.tree has.tree
+        let place = refusing.has_place s known p w.at w.side w.when.now c has.is.loaded has.called has.owned room.owner has.is has.may
         has.takes.there has.takes.free room.test has.spells has.concludes has.takes.room in
         record {
           said = a_test room.test;
           says = (has.is.loaded.spec, room.test, spec_is, has.spells, refl);
           allowed = (
-            and_from _ _ (and_from _ _ (and_from _ _ fits (concludes s known trees p c ∙ has.concludes)) place)
+            and_from _ _ (and_from _ _ (and_from _ _ fits (concludes s known p c ∙ has.concludes)) place)
                 (eq-eqb node (length (judged.rules_at u p) + 1) numbered),
             tt,
           );
@@ -172,58 +165,24 @@ module _ (known : Holdings) (trees : List Grown) (slots : Slots) (right : AreRig
     abbrev rule : TreeRule
     rule = rule_of w room.test c
 
-    becomes : (new : List Grown) (node : ℕ) → rules_of new ≡ insert (rules_of trees) (place_key p) (rules_at trees room.tree ++ rule ∷ [])
-        → with_trees s known new ≡ after u (events.AddRule p w.at w.side w.when.now c node) (a_test room.test)
-    unfolding after
-    becomes new node e =
+    becomes : (node : ℕ) → with_holdings s (with_tree_rule known room.owner p rule)
+        ≡ after u (events.AddRule p w.at w.side w.when.now c node) (a_test room.test)
+    unfolding after with_library
+    becomes node =
         ap (λ m. record (with_library s known) { rules = m })
-        (e ∙ ap (λ rs. insert (rules_of trees) (place_key p) (rs ++ rule ∷ [])) (sym rules_are))
+        (added_there known.specs has.owned.apart room.owner p has.is rule known.rules has.owned.owned
+        ∙ ap (λ rs. insert (rules_of known.rules) (place_key p) (rs ++ rule ∷ [])) (sym rules_are))
 
-  -- the trees have the rules, and the rule its number
-  grown_rules : (new : List Grown) (node : ℕ) (r : TreeRule) (number : Option ℕ) → IsTreeOf trees room.owner p.kind number
-      → IsGrownAt number trees new room p r node
-      → (rules_of new ≡ insert (rules_of trees) (place_key p) (rules_at trees number ++ r ∷ [])) × (node ≡ length (rules_at trees number) + 1)
-  grown_rules new node r None none b = (rules_begun known.specs trees slots right owned room.owner p has.is r new none b.begun, b.numbered)
-  grown_rules new node r (Some n) of a = (rules_added known.specs trees slots right owned room.owner p has.is r new n of a.added, a.numbered)
+  pub grown_number : (new : Holdings) (node : ℕ) → IsGrown known new room.owner p (rule_of w room.test c) node → node ≡ length its_rules + 1
+  grown_number new node grown = grown.numbered
 
-  pub grown_number : (new : List Grown) (node : ℕ) → IsGrown trees new room w c node → node ≡ length (rules_at trees room.tree) + 1
-  grown_number new node grown = (grown_rules new node (rule_of w room.test c) room.tree has.tree grown).1
-
-  pub grows : (new : List Grown) (node : ℕ) → IsGrown trees new room w c node → AlwaysGrows known trees (events.AddRule p w.at w.side w.when.now c node) new
+  pub grows : (new : Holdings) (node : ℕ) → IsGrown known new room.owner p (rule_of w room.test c) node
+      → AlwaysGrows known (events.AddRule p w.at w.side w.when.now c node) new
   grows new node grown s =
-      let (rules, numbered) = grown_rules new node (rule_of w room.test c) room.tree has.tree grown in
-      leads_to s node (with_trees s known new) (numbered ∙ ap (λ rs. length rs + 1) (sym (rules_are s))) (becomes s new node rules)
-
-  -- each tree stands where it may
-  still_owned : (new : List Grown) (node : ℕ) (r : TreeRule) (number : Option ℕ) → IsGrownAt number trees new room p r node → AreOwned known.specs new
-  still_owned new node r None b = record {
-    apart = owned.apart;
-    owned =
-        let tree = b.begun.tree in
-        let owns : Owns known.specs tree.owner tree.place =
-        subst (λ o. Owns known.specs o tree.place) (sym b.begun.first.owned)
-        (subst (λ q. Owns known.specs room.owner q) (sym b.begun.first.place) (record { is = has.is; may = has.may })) in
-        subst (All (λ (g : Grown). Owns known.specs g.owner g.place)) (sym b.begun.behind)
-        (All-push (λ (g : Grown). Owns known.specs g.owner g.place) trees tree owned.owned owns);
-  }
-  still_owned new node r (Some n) a = record {
-    apart = owned.apart;
-    owned =
-        let was = a.added.was in
-        let now = a.added.now in
-        let owns : Owns known.specs now.owner now.place =
-        subst (λ o. Owns known.specs o now.place) (sym a.added.more.owner)
-        (subst (λ q. Owns known.specs was.owner q) (sym a.added.more.place)
-        (at_number (λ (g : Grown). Owns known.specs g.owner g.place) trees owned.owned n was a.added.here)) in
-        subst (All (λ (g : Grown). Owns known.specs g.owner g.place)) (sym a.added.set)
-        (All-set (λ (g : Grown). Owns known.specs g.owner g.place) trees n now owns owned.owned);
-  }
-
-  pub grown_owned : (new : List Grown) (node : ℕ) → IsGrown trees new room w c node → AreOwned known.specs new
-  grown_owned new node grown = still_owned new node (rule_of w room.test c) room.tree grown
+      leads_to s node (with_holdings s new) (grown.numbered ∙ ap (λ rs. length rs + 1) (sym (rules_are s)))
+      (ap (with_holdings s) grown.grown ∙ becomes s node)
 
   -- another number than the next leads nowhere
-  pub renumbered_never : (node : ℕ) → (length (rules_at trees room.tree) + 1 ≡ node → ⊥)
-      → NeverGrows known trees (events.AddRule p w.at w.side w.when.now c node)
+  pub renumbered_never : (node : ℕ) → (length its_rules + 1 ≡ node → ⊥) → NeverGrows known (events.AddRule p w.at w.side w.when.now c node)
   renumbered_never node other s t leads =
       other (ap (λ rs. length rs + 1) (sym (rules_are s)) ∙ sym (leads_numbered (u s) t p w.at w.side w.when.now c node leads))

@@ -2,10 +2,10 @@
 use Rattle.std.proofs.Common.{◌≡◌, ◌++◌, ℕ, List, [], Option, None, Some, sym, ap, ◌∙◌}
 use Rattle.std.specs.Prelude.{option_and_then, option_map, slice_get, unwrap_or}
 use Rattle.yw_expr.specs.declared.scope.Binding.{Binding}
-use Rattle.yw_library.specs.Owners.{by_names, net_number, numbered_task, owner_in}
+use Rattle.yw_trees.specs.Owners.{by_names, net_number, numbered_task, owner_in}
 use Rattle.yw_library.specs.Scopes.{params_of, scope_of}
-use Rattle.yw_library.specs.declared.trees.owner.Owner.{Owner}
-use Rattle.yw_library.specs.declared.trees.owner.Owner.TheVariants.{Cases, Task}
+use Rattle.yw_trees.specs.declared.owner.Owner.{Owner}
+use Rattle.yw_trees.specs.declared.owner.Owner.TheVariants.{Cases, Task}
 use Rattle.yw_spec.specs.declared.spec.Net.{Net}
 use Rattle.yw_spec.specs.declared.spec.Spec.{Spec}
 use Rattle.yw_spec.specs.declared.task.Task as tasks

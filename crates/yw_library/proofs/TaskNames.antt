@@ -8,10 +8,10 @@ use Rattle.yw_accept.specs.Verdict.{IsVerdict}
 use Rattle.yw_accepted.proofs.Found.{zip_names}
 use Rattle.yw_accepted.proofs.Loaded.{accepted_are_within}
 use Rattle.yw_accepted.proofs.Numbered.{named_at}
-use Rattle.yw_library.proofs.TreeRules.{at_number}
 use Rattle.yw_library.specs.Holdings.{SaysItsText}
-use Rattle.yw_library.specs.Owners.{NamesCases, NamesTasks, net_number, numbered_task}
-use Rattle.yw_library.specs.declared.trees.owner.Owner.TheVariants.{Task}
+use Rattle.yw_trees.proofs.Right.{at_number}
+use Rattle.yw_trees.specs.Owners.{NamesCases, NamesTasks, net_number, numbered_task}
+use Rattle.yw_trees.specs.declared.owner.Owner.TheVariants.{Task}
 use Rattle.yw_texts.specs.Texts.{IsAccepted}
 use Rattle.yw_read.specs.declared.raw.RawNet.{RawNet}
 use Rattle.yw_said.proofs.Numbers.{Apart, apart_names}

@@ -8,14 +8,20 @@ use Rattle.yw_state.specs.declared.loaded.Loaded.{Loaded}
 use Rattle.yw_texts.specs.Texts.{IsAccepted}
 use Rattle.yw_library.specs.declared.items.Person.{Person}
 use Rattle.yw_library.specs.Numbers.{NumberedNames, AreFound, NoneNamed}
+use Rattle.yw_state.specs.RuleTree.{TreeRule}
+use Rattle.yw_state.specs.declared.tree.TreePlace.{TreePlace}
+use Rattle.yw_trees.specs.Placed.{AllOwned, Placed, rules_of, with_rule}
+use Rattle.yw_trees.specs.declared.owner.Owner.{Owner}
 
--- Persons in the order of their first coming, and specifications in the order of loading.
+-- Persons in the order of their first coming, specifications in the order of loading, and the rules of trees in the order of their first
+-- rules.
 pub record Holdings : Type 0 where
   pub persons : List Person
   pub specs : List Loaded
+  pub rules : List Placed
 
 abbrev pub nothing : Holdings
-nothing = record { persons = []; specs = [] }
+nothing = record { persons = []; specs = []; rules = [] }
 
 abbrev pub person_name : Person → List ℕ
 person_name p = p.name
@@ -29,12 +35,16 @@ roles_under p = (p.name, p.roles)
 abbrev pub spec_under : Loaded → List ℕ × Loaded
 spec_under l = (l.spec.name, l)
 
--- The state s with these specifications by name and with these roles of persons, and all else of s.
+-- The state s with these specifications by name and with these roles of persons, and all else of s, rules too.
 unfoldable pub with_library : State → Holdings → State
 with_library s library =
     record s { specs = of_entries (map spec_under library.specs); persons = of_entries (map roles_under library.persons) }
 
--- the same where no rule is added and no case stands
+-- and so also with these rules
+abbrev pub with_holdings : State → Holdings → State
+with_holdings s library = record (with_library s library) { rules = rules_of library.rules }
+
+-- persons and specifications, where no rule is added and no case stands
 abbrev pub state_of : Holdings → State
 state_of library = with_library opening library
 
@@ -44,11 +54,13 @@ state_of library = with_library opening library
 abbrev pub SaysItsText : Loaded → Type 0
 SaysItsText l = IsAccepted l.text l.spec
 
--- Each person and each specification is found under its name by its number, and each specification is the one that its text says.
-pub record IsKeptRight (persons : List Person) (person_numbers : NumberedNames) (specs : List Loaded) (spec_numbers : NumberedNames) : Type 0 where
+-- Each person and each specification is found under its name by its number, and each specification is the one that its text says. Each tree
+-- stands at a place of what has it.
+pub record IsKeptRight (persons : List Person) (person_numbers : NumberedNames) (specs : List Loaded) (spec_numbers : NumberedNames) (rules : List Placed) : Type 0 where
   pub persons_found : AreFound person_name persons person_numbers
   pub specs_found : AreFound spec_name specs spec_numbers
   pub accepted : All SaysItsText specs
+  pub owned : AllOwned specs rules
 
 -- ---- changes
 
@@ -58,13 +70,17 @@ put_person new [] = new ∷ []
 put_person new (p ∷ ps) = if bytes_eq p.name new.name then new ∷ ps else p ∷ put_person new ps
 
 abbrev pub with_person : Holdings → Person → Holdings
-with_person library new = record { persons = put_person new library.persons; specs = library.specs }
+with_person library new = record { persons = put_person new library.persons; specs = library.specs; rules = library.rules }
 
 -- one specification more, behind all others
 abbrev pub with_spec : Holdings → Loaded → Holdings
-with_spec library loaded = record { persons = library.persons; specs = library.specs ++ loaded ∷ [] }
+with_spec library loaded = record { persons = library.persons; specs = library.specs ++ loaded ∷ []; rules = library.rules }
 
--- the persons are the same, and behind the specifications stands one more, with this name and this text
+-- one rule more
+abbrev pub with_tree_rule : Holdings → Owner → TreePlace → TreeRule → Holdings
+with_tree_rule library owner p r = record { persons = library.persons; specs = library.specs; rules = with_rule owner p r library.rules }
+
+-- the persons and the rules are the same, and behind the specifications stands one more, with this name and this text
 pub record AddsSpec (old new : Holdings) (name text : List ℕ) : Type 0 where
   pub loaded : Loaded
   pub behind : new ≡ with_spec old loaded

@@ -6,8 +6,6 @@ pub mod Ended
 pub mod Names
 pub mod Held
 pub mod Parts
-pub mod Owners
-pub mod Slots
 pub mod Scopes
 pub mod Conditions
 pub mod Concluded

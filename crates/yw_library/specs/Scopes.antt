@@ -3,8 +3,8 @@ use Rattle.std.specs.Prelude.{◌≡◌, ℕ, List, [], ◌++◌, map, Option, S
 use Rattle.yw_accept.specs.Facts.{AreDistinct}
 use Rattle.yw_expr.specs.Scope.{binding}
 use Rattle.yw_expr.specs.declared.scope.Binding.{Binding}
-use Rattle.yw_library.specs.declared.trees.owner.Owner.{Owner}
-use Rattle.yw_library.specs.declared.trees.owner.Owner.TheVariants.{Cases, Task}
+use Rattle.yw_trees.specs.declared.owner.Owner.{Owner}
+use Rattle.yw_trees.specs.declared.owner.Owner.TheVariants.{Cases, Task}
 use Rattle.yw_spec.specs.declared.spec.Net.{Net}
 use Rattle.yw_spec.specs.declared.spec.Spec.{Spec}
 use Rattle.yw_spec.specs.declared.spec.Var.{Var}

@@ -1,5 +1,5 @@
-//! What the server knows beside its cases: persons with their roles, the specifications that are loaded, and rule trees; and the parts of all that it
-//! keeps.
+//! What the server knows beside its cases: persons with their roles, the specifications that are loaded, and their rule
+//! trees; and the parts of all that it keeps.
 #![tactic(auto)]
 
 mod accepted;
@@ -12,10 +12,9 @@ mod numbers;
 mod parts;
 mod trees;
 
-pub use copies::{copy_of_conclusion, copy_of_names, copy_of_place};
+pub use copies::copy_of_names;
 pub use ended::EndedTable;
 pub use fault::LibraryFault;
 pub use items::{Person, PersonList};
 pub use library::Library;
 pub use parts::{FIRST_NUMBER, Parts};
-pub use trees::{GivenRule, GivenRuleList, Grown, GrownList, Owner, Trees};

@@ -1,4 +1,4 @@
-// Persons with their roles, and the specifications that are loaded.
+// Persons with their roles, the specifications that are loaded, and the rule trees of these.
 ghost use Rattle.std.specs.Prelude.{◌≡◌, ◌<◌, List, ℕ, Option, Some, None, Ok, true, false, length, slice_get, slice_set, All, IfOk, OnOk, OnErr, MatchOption};
 ghost use Rattle.std.specs.Option.{option_copied};
 ghost use Rattle.yw_state.specs.declared.event.Event.TheVariants as events;
@@ -14,8 +14,12 @@ ghost use Rattle.yw_library.specs.Accepts.{Answers, IfRefused};
 ghost use Rattle.yw_library.specs.Always.{AlwaysBreaks, AlwaysLeads, IsTried};
 ghost use Rattle.yw_library.specs.Holdings as kept;
 ghost use Rattle.yw_library.specs.Holdings.{AddsSpec, AreNamed, IsFresh, IsKept, SaysItsText, person_name, spec_name, state_of, with_library, with_person, with_spec};
+ghost use Rattle.yw_library.specs.Adding.{IsGrown};
 ghost use Rattle.yw_library.specs.Numbers.{IsNumberOf, NoneNamed};
-ghost use Rattle.yw_library.specs.Owners.{SpecsApart};
+ghost use Rattle.yw_rdr.specs.Attached.{Takes};
+ghost use Rattle.yw_trees.specs.Grown.{rule_of};
+ghost use Rattle.yw_trees.specs.Owners.{Owns, SpecsApart};
+ghost use Rattle.yw_trees.specs.Placed.{AreOwned, links_for};
 
 use crate::accepted::{accepted, placeless};
 use crate::copies::copy_of_person;
@@ -26,10 +30,12 @@ use std::marker::Model;
 use std::mem;
 use yw_base::{Items, Name, NameList, Text};
 use yw_spec::Spec;
-use yw_state::{Loaded, LoadedList, Rule};
+use yw_state::{Loaded, LoadedList, Rule, TreePlace};
+use yw_trees::{NewRule, Owner, Trees};
 
-/// The persons with their roles, and the specifications that are loaded. Both are found by name without a
-/// scan. A contract sees two lists, and by `state_of` the state that they stand for.
+/// The persons with their roles, the specifications that are loaded, and their rule trees. Persons and specifications
+/// are found by name without a scan, trees by numbers. A contract sees three lists, and by `state_of` the state that
+/// the first two stand for.
 #[derive(Drop)]
 pub struct Library {
     alloc: Global,
@@ -37,6 +43,7 @@ pub struct Library {
     person_numbers: Numbers,
     specs: LoadedList,
     spec_numbers: Numbers,
+    trees: Trees,
 }
 
 impl Model for Library {
@@ -46,12 +53,13 @@ impl Model for Library {
 
     ghost use Rattle.std.specs.Coded.{codes};
     ghost use Rattle.yw_state.specs.contracts.loaded.Loaded as loaded;
+    ghost use Rattle.yw_expr.specs.Tree.{tree_code};
 
-    ghost coded = { Prim.hlevel (codes, loaded.the_row.coded) };
+    ghost coded = { Prim.hlevel (codes, loaded.the_row.coded, tree_code) };
 
-    ghost view = { λ l. record { persons = l.persons; specs = l.specs } };
+    ghost view = { λ l. record { persons = l.persons; specs = l.specs; rules = l.trees } };
 
-    ghost invariant = { λ l. IsKeptRight l.persons l.person_numbers l.specs l.spec_numbers };
+    ghost invariant = { λ l. IsKeptRight l.persons l.person_numbers l.specs l.spec_numbers l.trees };
 }
 
 /// The persons, with this one in place of the one with this number.
@@ -65,7 +73,7 @@ fn replaced(persons: PersonList, number: usize, person: Person) -> PersonList
 }
 
 impl Library {
-    /// Nobody, and no specification. It takes no memory.
+    /// Nobody, no specification and no rule. It takes no memory.
     pub fn new(alloc: Global) -> Library
         ensures empty { result ≡ kept.nothing }
         ensures state { state_of result ≡ opening }
@@ -76,6 +84,7 @@ impl Library {
             person_numbers: Numbers::new(alloc),
             specs: Items::new(alloc),
             spec_numbers: Numbers::new(alloc),
+            trees: Trees::new(alloc),
         }
     }
 
@@ -125,8 +134,8 @@ impl Library {
         Ok(())
     }
 
-    /// The person with this number and this name has these roles from now on. Where they are those that stand there, nothing is
-    /// copied. An `Err` says that no memory was left, and changes nothing.
+    /// The person with this number and this name has these roles from now on. Where they are those that stand there,
+    /// nothing is copied. An `Err` says that no memory was left, and changes nothing.
     fn set_roles(&mut self, number: usize, name: &Name, roles: &NameList) -> Result<(), AllocError>
         requires { IsNumberOf person_name self.old.persons name.now (Some number) }
         ensures ok { OnOk result (self.new ≡ with_person self.old (record { name = name.now; roles = roles.now })) }
@@ -143,9 +152,9 @@ impl Library {
         }
     }
 
-    /// The person has these roles from now on, and no others. Who was there keeps the place among the persons,
-    /// and who comes first stands behind all others. The roles aren't looked at: that they are at most 64, and none
-    /// twice, is for the caller. It is so in each state with this library in it. A person who has these roles already takes no
+    /// The person has these roles from now on, and no others. Who was there keeps the place among the persons, and who
+    /// comes first stands behind all others. The roles aren't looked at: that they are at most 64, and none twice, is
+    /// for the caller. It is so in each state with this library in it. A person who has these roles already takes no
     /// memory. An `Err` says that no memory was left, and changes nothing.
     pub fn person(&mut self, name: &Name, roles: &NameList) -> Result<(), AllocError>
         ensures ok { OnOk result ((s : State) → with_library s self.new ≡ after (with_library s self.old) (events.Person name.now roles.now) nothing) }
@@ -173,7 +182,8 @@ impl Library {
         Ok(())
     }
 
-    /// Keeps the specification that a text says with a copy of the text. An `Err` says that no memory was left, and changes nothing.
+    /// Keeps the specification that a text says with a copy of the text. An `Err` says that no memory was left, and
+    /// changes nothing.
     fn keep_fresh(&mut self, text: &str, spec: Spec) -> Result<(), AllocError>
         requires { IsFresh self.old text.now spec }
         ensures leads { OnOk result (AlwaysLeads self.old (events.Load spec.name text.now) self.new) }
@@ -185,7 +195,8 @@ impl Library {
         Ok(())
     }
 
-    /// The specification that a text says, where one of its name isn't loaded. Else the first rule that the text breaks, as `load` says.
+    /// The specification that a text says, where one of its name isn't loaded. Else the first rule that the text
+    /// breaks, as `load` says.
     fn fresh(&self, text: &str) -> Result<Spec, LibraryFault>
         ensures ok { IfOk result (IsFresh self.now text.now) }
         ensures refused { IfRefused result (λ refusal. AlwaysBreaks self.now (commands.Load text.now) (Some refusal)) }
@@ -221,9 +232,10 @@ impl Library {
         Ok(name)
     }
 
-    /// Loads the specification that a text says under this name, as an event tells it: `true` where that leads on, and the
-    /// library is then that after it; `false` where it leads nowhere, since the text can't be loaded or says another name, and
-    /// nothing has changed. It is so in each state with this library in it. An `Err` says that no memory was left, and changes nothing.
+    /// Loads the specification that a text says under this name, as an event tells it: `true` where that leads on, and
+    /// the library is then that after it; `false` where it leads nowhere, since the text can't be loaded or says
+    /// another name, and nothing has changed. It is so in each state with this library in it. An `Err` says that no
+    /// memory was left, and changes nothing.
     pub fn load_as(&mut self, name: &Name, text: &str) -> Result<bool, AllocError>
         ensures tried { IfOk result (λ leads. IsTried self.old (events.Load name.now text.now) leads self.new) }
         ensures place { result ≡ Ok true → AddsSpec self.old self.new name.now text.now }
@@ -276,6 +288,36 @@ impl Library {
         ensures { SpecsApart self.now.specs }
     {
         let _ = &self.specs;
+    }
+
+    /// The rule trees that have a rule, each at a place of what has it.
+    pub fn trees(&self) -> &Trees
+        ensures same { result.now ≡ self.now.rules }
+        ensures owned { AreOwned self.now.specs self.now.rules }
+    {
+        self.are_apart();
+        &self.trees
+    }
+
+    /// Where memory is taken.
+    pub(crate) fn alloc(&self) -> Global {
+        self.alloc
+    }
+
+    /// One rule more in a tree, behind its others, and its number. A tree without a rule begins with it. An `Err` says
+    /// that no memory was left, and changes nothing but that the rule's parts are gone.
+    pub(crate) fn grow(
+        &mut self,
+        owner: Owner,
+        place: &TreePlace,
+        rule: NewRule,
+    ) -> Result<u32, AllocError>
+        requires owns { Owns self.old.specs owner place.now }
+        requires takes { Takes (links_for owner place.now.kind self.old.rules) rule.at rule.side }
+        ensures ok { IfOk result (IsGrown self.old self.new owner place.now (rule_of rule)) }
+        ensures err { OnErr result (self.new ≡ self.old) }
+    {
+        self.trees.add(owner, place, rule)
     }
 
     /// The persons in the order in which they came first.

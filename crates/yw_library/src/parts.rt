@@ -8,10 +8,11 @@ use yw_tree::Forest;
 /// The number that is drawn first.
 pub const FIRST_NUMBER: u64 = 1;
 
-/// What an engine is made of: persons and specifications, the cases that stand, how cases ended, and the number that is drawn next.
+/// What an engine is made of: persons, specifications and rules, the cases that stand, how cases ended, and the number
+/// that is drawn next.
 #[derive(Drop)]
 pub struct Parts {
-    /// Persons and specifications.
+    /// Persons, specifications and rules.
     pub library: Library,
     /// The cases that stand.
     pub forest: Forest,
@@ -22,7 +23,7 @@ pub struct Parts {
 }
 
 impl Parts {
-    /// The parts of the opening state: nobody, no specification and no case. It takes no memory.
+    /// The parts of the opening state: nobody, no specification, no rule and no case. It takes no memory.
     pub fn opening(alloc: Global) -> Parts
         ensures { IsOpening result }
     {

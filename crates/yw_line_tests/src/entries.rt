@@ -75,6 +75,8 @@ fn is_writable(event: &Event) -> bool
         | Event::StartSub { .. }
         | Event::CompleteSub { .. }
         | Event::CompleteEmpty { .. }
+        | Event::Suspend { .. }
+        | Event::Continue { .. }
         | Event::Advance { .. } => true,
         _ => false,
     }

@@ -37,8 +37,8 @@ can_be_asked (commands.Start who j) proper built = tt
 can_be_asked (commands.Complete who j gs) proper built = tt
 can_be_asked (commands.Add who i t value) proper built = tt
 can_be_asked (commands.Raise j kind) proper built = never built
-can_be_asked (commands.Suspend j) proper built = never built
-can_be_asked (commands.Continue j) proper built = never built
+can_be_asked (commands.Suspend j) proper built = tt
+can_be_asked (commands.Continue j) proper built = tt
 can_be_asked (commands.Cancel j) proper built = tt
 can_be_asked (commands.Advance j) proper built = tt
 

@@ -25,8 +25,8 @@ use Rattle.yw_lines.specs.declared.word.Word.TheVariants as words
 -- the words whose commands and queries are built
 abbrev pub built_words : List Word
 built_words =
-    words.Person ∷ words.Load ∷ words.Launch ∷ words.Enter ∷ words.Start ∷ words.Complete ∷ words.Add ∷ words.Cancel ∷ words.Advance
-    ∷ words.List ∷ words.Show ∷ words.Ended ∷ words.Specs ∷ []
+    words.Person ∷ words.Load ∷ words.Launch ∷ words.Enter ∷ words.Start ∷ words.Complete ∷ words.Add ∷ words.Suspend ∷ words.Continue
+    ∷ words.Cancel ∷ words.Advance ∷ words.List ∷ words.Show ∷ words.Ended ∷ words.Specs ∷ []
 
 -- What one accepted command does: its events in order, and whether all is quiet after them.
 pub record Entry : Type 0 where

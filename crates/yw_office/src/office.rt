@@ -38,11 +38,12 @@ impl Model for Office {
     ghost Value = { Held };
 
     ghost use Rattle.std.specs.Coded.{codes};
+    ghost use Rattle.yw_expr.specs.Tree.{tree_code};
     ghost use Rattle.yw_state.specs.contracts.loaded.Loaded as loaded;
     ghost use Rattle.yw_tree.specs.contracts.NetState as net;
     ghost use Rattle.yw_tree.specs.contracts.Run as run;
 
-    ghost coded = { Prim.hlevel (codes, loaded.the_row.coded, net.the_row.coded, run.the_row.coded) };
+    ghost coded = { Prim.hlevel (codes, tree_code, loaded.the_row.coded, net.the_row.coded, run.the_row.coded) };
 
     ghost view = { λ o. record { standing = o.engine.standing; spent = o.spent } };
 

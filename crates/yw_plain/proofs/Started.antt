@@ -1,11 +1,11 @@
--- A state that is well and has no worklet has none behind an event of neither a rule tree nor an exlet that is allowed: an item that executes
--- then did so before, or was started by somebody, or is of a composite task.
+-- A state that is well and has no worklet has none behind an event that is allowed and keeps states plain: an item that executes then did so
+-- before, or was started by somebody, or is of a composite task.
 use Rattle.std.specs.Prelude.{◌≡◌, ◌<◌, ◌==◌, ℕ, true, false, List, Option, Some, None, is_some, is_none, option_and_then, option_map, slice_get, refl}
 use Rattle.std.specs.Str.{bytes_eq}
 use Rattle.std.proofs.Common.{sym, ◌∙◌, ap, subst, inl, inr, arith}
 use Rattle.std.proofs.lemmas.Bool.{eqb-true, ltb-true, not-true}
 use Rattle.yw_plain.proofs.Walk.{Holds, Keeps, Puts, event-holds}
-use Rattle.yw_plain.specs.Plain.{is_plain_event}
+use Rattle.yw_plain.specs.Plain.{keeps_plain}
 use Rattle.yw_plain.specs.Worklets.{HasNoWorklet}
 use Rattle.yw_spec.specs.declared.spec.Net.{Net}
 use Rattle.yw_spec.specs.declared.spec.Spec.{Spec}
@@ -117,6 +117,7 @@ module _ (s : State) where
               net = is.net;
               item = λ p e runs. let (old, was, now) = map_some (completed out) x.item p e in never (subst (λ (q : ItemPart). is_executing q.stage ≡ true) (sym now) runs);
             };
+        marked = λ mark j x is. record { net = is.net; item = is.item };
         comes = λ t x known j given.
             record {
               net = λ n m e at. nowhere e;
@@ -230,7 +231,7 @@ module _ (s : State) where
                 old.started x found (ap is_atomic (sym task) ∙ atomic);
           }
 
-    pub none_stays : (e : Event) (said : Said) → HasNoWorklet s → is_plain_event e ≡ true → Allowed s e said → HasNoWorklet (after s e said)
+    pub none_stays : (e : Event) (said : Said) → HasNoWorklet s → keeps_plain e ≡ true → Allowed s e said → HasNoWorklet (after s e said)
     none_stays e said none is allowed =
         none_then (after s e said) (event-holds Known GoesOn keeps s e said (at_first none) (puts e said allowed.0) is)
 

@@ -1,5 +1,5 @@
--- What is so of each site that stands stays so behind an event of neither a rule tree nor an exlet, where it is so of what the event puts
--- there. Beside it goes what is so of specifications and rules.
+-- What is so of each site that stands stays so behind an event of neither a rule tree nor an exlet, and behind one that suspends or continues
+-- something, where it is so of what the event puts there. Beside it goes what is so of specifications and rules.
 use Rattle.std.specs.Prelude.{◌≡◌, ℕ, Bool, true, false, List, [], ◌∷◌, fold, length, Option, Some, None, refl, unwrap_or, if◌then◌else◌}
 use Rattle.std.specs.List.{range_with_len, zip}
 use Rattle.std.specs.Ordering.{eq_by_cmp}
@@ -8,7 +8,7 @@ use Rattle.yw_base.specs.declared.value.Value.{Value}
 use Rattle.yw_spec.specs.declared.spec.Net.{Net}
 use Rattle.yw_spec.specs.declared.spec.Place.{Place}
 use Rattle.yw_spec.specs.declared.spec.Spec.{Spec}
-use Rattle.yw_plain.specs.Plain.{is_plain_event}
+use Rattle.yw_plain.specs.Plain.{keeps_plain}
 use Rattle.yw_state.proofs.MapLemmas.{by_name, get-update_other, get-update_same, insert_stands, retain_stands, tied, tied_self}
 use Rattle.yw_state.proofs.Tests.{by_test, map_some, never}
 use Rattle.yw_state.specs.After
@@ -89,8 +89,8 @@ module _ (R : Map lexical Loaded → Map lexical_each (List TreeRule) → Type 0
 
   -- ---- what is changed, and items that come
 
-  -- It stays so where a check becomes due, where a net gets other values or tokens or goes, and where an item is completed; and it is so of an
-  -- item that comes with its checks.
+  -- It stays so where a check becomes due, where a net gets other values or tokens or goes, where an item is completed, and where a mark is set or
+  -- taken away; and it is so of an item that comes with its checks.
   pub record Keeps : Type 0 where
     pub due : (s : State) (p : TreePlace) (j : Ident) (x : Site)
         → R s.specs s.rules → P j x → P j (record x { due = After.due_where (has_rules s p) p.kind x.due })
@@ -98,6 +98,7 @@ module _ (R : Map lexical Loaded → Map lexical_each (List TreeRule) → Type 0
         → ((n : NetPart) → (f n).spec ≡ n.spec) → ((n : NetPart) → (f n).net ≡ n.net) → (j : Ident) (x : Site) → P j x → P j (After.with_net f x)
     pub gone : (j : Ident) (x : Site) → P j x → P j (without_net x)
     pub completed : (out : Row) (j : Ident) (x : Site) → P j x → P j (After.with_item (After.completed out) x)
+    pub marked : (mark : Bool) (j : Ident) (x : Site) → P j x → P j (record x { suspended = mark })
     pub comes : (s : State) (x : TaskAt) → R s.specs s.rules → (j : Ident) (given : Row) → P j (After.new_item x.number given (After.item_checks s x))
 
   -- So is what an event puts that loads a specification, begins a case or an item, or begins a child net.
@@ -190,7 +191,7 @@ module _ (R : Map lexical Loaded → Map lexical_each (List TreeRule) → Type 0
     end_case-holds : (s : State) (n : ℕ) (way : Way) → Holds s → Holds (After.end_case s n way)
     end_case-holds s n way holds = (holds.0, retain-each s.sites _ holds.1)
 
-    pub event-holds : (s : State) (e : Event) (said : Said) → Holds s → Puts s e → is_plain_event e ≡ true → Holds (after s e said)
+    pub event-holds : (s : State) (e : Event) (said : Said) → Holds s → Puts s e → keeps_plain e ≡ true → Holds (after s e said)
     unfolding after
     event-holds s (events.Person name roles) said holds puts is = holds
     event-holds s (events.Load name text) said holds puts is = load-holds s name text said holds puts
@@ -205,5 +206,7 @@ module _ (R : Map lexical Loaded → Map lexical_each (List TreeRule) → Type 0
     event-holds s (events.StartSub j) said holds puts is = where_some-holds (item_at s j) s _ holds (λ x found. start_sub-holds s j x found holds puts)
     event-holds s (events.CompleteSub j) said holds puts is = where_some-holds (item_at s j) s _ holds (λ x found. end_net-holds s j made_by_child x holds)
     event-holds s (events.CompleteEmpty j) said holds puts is = change-holds s j _ holds (λ x at. keeps.completed [] j x (holds.1 j x at))
+    event-holds s (events.Suspend j) said holds puts is = change-holds s j _ holds (λ x at. keeps.marked true j x (holds.1 j x at))
+    event-holds s (events.Continue j) said holds puts is = change-holds s j _ holds (λ x at. keeps.marked false j x (holds.1 j x at))
     event-holds s (events.Advance n) said holds puts is = holds
     event-holds s e said holds puts is = never is

@@ -11,11 +11,10 @@ use Rattle.yw_state.specs.Identity.{Ident, is_child, strictly_under}
 use Rattle.yw_state.specs.Judged.{case_place, has_rules, is_manual, place_key, rules_at, task_place}
 use Rattle.yw_state.specs.Map.{empty, entries, get}
 use Rattle.yw_state.specs.Nets.{is_atomic}
-use Rattle.yw_state.specs.Options.{is_some_and}
 use Rattle.yw_state.specs.RuleTree.{TreeRule}
-use Rattle.yw_state.specs.State.{State, Site, ItemPart, RunPart, TaskAt, due_at, is_suspended, no_checks, run_part, some_site}
+use Rattle.yw_state.specs.State.{State, Site, RunPart, TaskAt, due_at, no_checks, run_part, some_site}
 use Rattle.yw_state.specs.Well.{Stands}
-use Rattle.yw_state.specs.Words.{any_due, busy, clear, done, held, is_at_work, is_completed, shielded, urgent}
+use Rattle.yw_state.specs.Words.{any_due, busy, clear, held, is_at_work, shielded, urgent}
 use Rattle.yw_state.specs.declared.part.Checks.{Checks}
 use Rattle.yw_state.specs.declared.tree.TreeKind.TheVariants.{Pre, Select}
 use Rattle.yw_state.specs.declared.tree.TreePlace.{TreePlace}
@@ -69,9 +68,6 @@ module _ (s : State) (plain : IsPlain s) where
   not_shielded : (j i : Ident) → shielded s j i ≡ false
   not_shielded j i = none_pass s _ (λ r x at. ap (λ (o : Option RunPart). is_some o && strictly_under r i && under j r) (plain.run r x at))
 
-  not_held : (j : Ident) → held s j ≡ false
-  not_held j = none_pass s _ (λ i x at. ap (λ b. b && under j i && not (shielded s j i)) (plain.suspended i x at))
-
   not_urgent : (n : ℕ) → urgent s n ≡ false
   not_urgent n =
       none_pass s _ (λ j x at.
@@ -79,24 +75,14 @@ module _ (s : State) (plain : IsPlain s) where
       ∙ ap (λ (o : Option RunPart). case_number j == n && is_at_work o) (plain.run j x at)
       ∙ and_false (case_number j == n))
 
-  is_clear : (j : Ident) → clear s j ≡ true
-  is_clear j = ap (λ b. not b && not (urgent s (case_number j))) (not_held j) ∙ ap not (not_urgent (case_number j))
-
-  not_suspended : (j : Ident) → is_suspended s j ≡ false
-  not_suspended j = read (λ o. is_some_and o (λ x. x.suspended)) false j refl (plain.suspended j)
+  is_clear : (j : Ident) → clear s j ≡ not (held s j)
+  is_clear j = ap (λ b. not (held s j) && not b) (not_urgent (case_number j)) ∙ and_true (not (held s j))
 
   no_run : (j : Ident) → run_part s j ≡ None
   no_run j = read (option_and_then (λ x. x.run)) None j refl (plain.run j)
 
   none_due : (j : Ident) → due_at s j ≡ no_checks
   none_due j = read (λ o. unwrap_or (option_map (λ (x : Site). x.due) o) no_checks) no_checks j refl (plain.due j)
-
-  is_done : (j : Ident) (x : ItemPart) → done s j x ≡ is_completed x.stage
-  is_done j x =
-      ap (λ b. is_completed x.stage && not b && not (is_suspended s j)) (not_busy j)
-      ∙ ap (λ b. is_completed x.stage && true && not b) (not_suspended j)
-      ∙ and_true (is_completed x.stage && true)
-      ∙ and_true (is_completed x.stage)
 
   by_person : (x : TaskAt) → is_manual s x ≡ is_atomic x.task
   by_person x = ap (λ (rs : List TreeRule). is_atomic x.task && length rs == 0) (no_rules s plain.rules (task_place x Select)) ∙ and_true (is_atomic x.task)
@@ -106,13 +92,10 @@ module _ (s : State) (plain : IsPlain s) where
       record {
         busy = not_busy;
         shielded = not_shielded;
-        held = not_held;
         urgent = not_urgent;
         clear = is_clear;
-        suspended = not_suspended;
         run = no_run;
         due = none_due;
-        done = is_done;
         rules = no_rules s plain.rules;
         manual = by_person;
         rule = no_rule s plain.rules;

@@ -1,6 +1,6 @@
 // States without worklets, as each is that is reached until worklets are built.
 ghost use Rattle.std.specs.Prelude.{◌≡◌, true, Some, None};
-ghost use Rattle.yw_plain.specs.Plain.{is_plain_event};
+ghost use Rattle.yw_plain.specs.Plain.{keeps_plain};
 ghost use Rattle.yw_plain.specs.Worklets.{HasNoWorklet};
 ghost use Rattle.yw_state.specs.Allowed.{Allowed};
 ghost use Rattle.yw_state.specs.Events.{after};
@@ -18,9 +18,10 @@ pub fn opening_has_no_worklet()
     ensures { HasNoWorklet opening }
 {}
 
-/// An event of neither a rule tree nor an exlet that is allowed leads from a state that is well and has no worklet to one that has none.
+/// Such an event that is allowed leads from a state that is well and has no worklet to one that has none.
 pub fn no_worklet_stays<R: Reads>()
-    ensures { (s : State) (e : Event) (said : Said) → IsWell R.reader s → HasNoWorklet s → is_plain_event e ≡ true → Allowed s e said → HasNoWorklet (after s e said) }
+    ensures { (s : State) (e : Event) (said : Said) → IsWell R.reader s → HasNoWorklet s → keeps_plain e ≡ true → Allowed s e said
+        → HasNoWorklet (after s e said) }
 {}
 
 /// In a state that is well and has no worklet, no net stands at an item of an atomic task.

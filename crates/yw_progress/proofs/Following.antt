@@ -8,16 +8,14 @@ use Rattle.yw_moved.proofs.Above.{made_undrawn}
 use Rattle.yw_moved.proofs.Parents.{is_same, same_itself}
 use Rattle.yw_moved.proofs.Sites.{added-same, enter-same, left_alone}
 use Rattle.yw_moved.specs.Moved.{done_at, made_by}
-use Rattle.yw_plain.proofs.Keeping.{event_keeps}
-use Rattle.yw_plain.proofs.Words.{words}
-use Rattle.yw_plain.specs.Plain.{IsPlain, is_plain_event}
+use Rattle.yw_plain.specs.Plain.{is_plain_event}
 use Rattle.yw_progress.proofs.Changing.{bared-item, completed-item, exit-item, net-item, own-item, site-item, some-item, started-item}
 use Rattle.yw_progress.proofs.Counting.{CountsBy, as_many, by_part, done_item, done_part, done_there, is_finished, not_below, not_finished, one_more}
 use Rattle.yw_progress.proofs.Leaving.{none_or_same}
 use Rattle.yw_progress.proofs.Staying.{anew_or_left, child_stays, made_lacks, neither, net_of_task, not_launched, stood, undrawn_gone}
-use Rattle.yw_progress.specs.Progress.{CountsBehind, CountsOn, completed_by, completes, completes_done, done_in, is_anew, is_done_of, is_left}
+use Rattle.yw_progress.specs.Progress.{CountsBehind, completed_by, completes_done, done_in, is_anew, is_left}
 use Rattle.yw_state.proofs.MapLemmas.{by_name, tied_self}
-use Rattle.yw_state.proofs.Tests.{and_left, and_right, by_option, by_test, map_some, never, nowhere, some_same, then_some, there_and}
+use Rattle.yw_state.proofs.Tests.{and_left, and_right, by_test, map_some, never, nowhere, some_same, then_some, there_and}
 use Rattle.yw_state.specs.After.{begun, change, complete, completed, end_net, enter, exit, new_item, start_sub, take, where_some, with_item, with_sites}
 use Rattle.yw_state.specs.Allowed.{Allowed, allows, place_numbers}
 use Rattle.yw_state.specs.ByName.{made_by_child}
@@ -309,49 +307,3 @@ plain_counts s e said i free well before now is ok has old =
     (λ stays.
     let unchanged = neither e i old stays in
     record { stood = stood s e said i well is ok has unchanged; as_many = λ k. inl (followed s e said i well free now is ok has unchanged k before) })
-
--- in a plain state an item that is completed is done
-abbrev all_free : Ident → Bool
-all_free q = true
-
-plain_by : (s : State) (i : Ident) → IsPlain s → CountsBy all_free s i
-plain_by s i plain q x below at = (words s plain).done q x ∙ sym (and_true (is_completed x.stage))
-  where
-    and_true : (b : Bool) → (b && true) ≡ b
-    and_true true = refl
-    and_true false = refl
-
--- the item at j is one of task k in the net at i
-abbrev is_of : State → Ident → ℕ → Ident → Bool
-is_of t i k j = is_child j i && is_some_and (item_part t j) (λ (x : ItemPart). x.task == k)
-
-plain_completes : (s : State) (e : Event) (said : Said) (i : Ident) (k : ℕ) → IsPlain (after s e said) → Allowed s e said
-    → completes_done (after s e said) e i k ≡ completes (after s e said) e i k
-plain_completes s e said i k plain ok =
-    let t : State = after s e said in
-    by_option (completed_by e)
-    (λ none. ap (λ o. is_some_and o (is_done_of t i k)) none ∙ sym (ap (λ o. is_some_and o (is_of t i k)) none))
-    (λ j at.
-    let own = own_completes s e said j ok at in
-    ap (λ o. is_some_and o (is_done_of t i k)) at
-    ∙ ap (λ o. is_some_and o (λ (x : ItemPart). is_child j i && x.task == k && done t j x)) own.stands
-    ∙ always (is_child j i) (own.behind.task == k) (done t j own.behind) ((words t plain).done j own.behind ∙ own.over)
-    ∙ sym (ap (λ o. is_some_and o (is_of t i k)) at ∙ ap (λ o. is_child j i && is_some_and o (λ (x : ItemPart). x.task == k)) own.stands))
-  where
-    always : (a b c : Bool) → c ≡ true → (a && b && c) ≡ (a && b)
-    always true true c e = e
-    always true false c e = refl
-    always false b c e = refl
-
-pub counts_on : {reader : Reader} (s : State) (e : Event) (said : Said) (i : Ident) → IsWell reader s → IsPlain s → is_plain_event e ≡ true → Allowed s e said
-    → is_some (net_part (after s e said) i) ≡ true → is_anew e i ≡ false → CountsOn s (after s e said) e i
-counts_on s e said i well plain is ok has old =
-    let kept = event_keeps s e said plain is in
-    let counts = plain_counts s e said i all_free well (plain_by s i plain) (plain_by (after s e said) i kept) is ok has old in
-    record {
-      stood = counts.stood;
-      as_many = λ k. elim (counts.as_many k) [
-        | inl more ↦ inl (more ∙ ap (λ b. done_in s i k + cond b 1 0) (plain_completes s e said i k kept ok))
-        | inr left ↦ inr left
-      ];
-    }

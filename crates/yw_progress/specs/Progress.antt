@@ -21,10 +21,6 @@ completed_by (events.CompleteSub j) = Some j
 completed_by (events.CompleteEmpty j) = Some j
 completed_by e = None
 
--- the event before this state completes an item of task k in the net at i
-abbrev pub completes : State → Event → Ident → ℕ → Bool
-completes t e i k = is_some_and (completed_by e) (λ j. is_child j i && is_some_and (item_part t j) (λ (x : ItemPart). x.task == k))
-
 -- the item at j is one of task k in the net at i, and is done
 abbrev pub is_done_of : State → Ident → ℕ → Ident → Bool
 is_done_of t i k j = is_some_and (item_part t j) (λ (x : ItemPart). is_child j i && x.task == k && done t j x)
@@ -47,14 +43,6 @@ left_by e = None
 
 abbrev pub is_left : Event → Ident → Bool
 is_left e i = is_some_and (left_by e) (same i)
-
--- The net at i stood before. As many items of each of its tasks are done, or one more where the event completes one; or the task has no item any
--- more, where one of the net exits.
-pub record CountsOn (s t : State) (e : Event) (i : Ident) : Type 0 where
-  pub stood : is_some (net_part s i) ≡ true
-  pub as_many : (k : ℕ) → (done_in t i k ≡ done_in s i k + cond (completes t e i k) 1 0) ⊎ ((is_left e i ≡ true) × (items_of t i k ≡ []))
-
--- ---- in any state that is well
 
 -- what is kept of the net at i goes: it begins or ends by an event of neither a rule tree nor an exlet, or another event warms it
 abbrev pub goes : Event → Ident → Bool

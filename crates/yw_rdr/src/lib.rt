@@ -2,12 +2,14 @@
 //! held. The README of the crate says which clause proves what.
 #![tactic(auto)]
 
+mod copies;
 mod fault;
 mod item;
 pub mod laws;
 mod tree;
 mod zeros;
 
+pub use copies::copy_of_primitives;
 pub use fault::RdrFault;
 pub use item::ItemRow;
 pub use tree::RuleTree;

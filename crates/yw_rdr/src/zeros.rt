@@ -1,6 +1,7 @@
 // What stands for a value that there isn't.
 ghost use Rattle.std.specs.Prelude.{◌≡◌, [], ◌∷◌};
 ghost use Rattle.yw_base.specs.Values.{zero_of};
+ghost use Rattle.yw_rdr.specs.Item.{zeros};
 
 use std::alloc::Global;
 use std::marker::Model;
@@ -29,8 +30,10 @@ impl Model for Zeros {
 }
 
 impl Zeros {
-    /// It takes no memory.
-    pub fn new(alloc: Global) -> Zeros {
+    /// One for each sort. It takes no memory.
+    pub fn new(alloc: Global) -> Zeros
+        ensures { result ≡ zeros }
+    {
         Zeros {
             truth: Value::Bool(false),
             int: Value::Int(0),

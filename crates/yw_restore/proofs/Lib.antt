@@ -1,5 +1,4 @@
 pub mod Below
-pub mod ComesLast
 pub mod Drawn
 pub mod Framing
 pub mod Gathering

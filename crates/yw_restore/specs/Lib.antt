@@ -1,5 +1,4 @@
 pub mod Gathers
-pub mod Grown
 pub mod Lines
 pub mod Names
 pub mod Standing

@@ -5,7 +5,6 @@ mod cases;
 mod ended;
 mod framed;
 mod gather;
-mod grow;
 mod kept;
 pub mod laws;
 mod line;
@@ -16,6 +15,5 @@ mod tokens;
 mod write;
 
 pub use framed::{frame, framed_state};
-pub use grow::{grow_case, grow_item};
 pub use kept::Kept;
 pub use write::write_state;

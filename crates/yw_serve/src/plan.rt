@@ -19,7 +19,7 @@ use yw_state::{Asked, Command, Refusal, Rule};
 use yw_wire::{WireFault, read_command, reply_done, reply_refused};
 
 /// The words whose commands and queries are built.
-const BUILT: [Word; 13] = [
+const BUILT: [Word; 15] = [
     Word::Person,
     Word::Load,
     Word::Launch,
@@ -27,6 +27,8 @@ const BUILT: [Word; 13] = [
     Word::Start,
     Word::Complete,
     Word::Add,
+    Word::Suspend,
+    Word::Continue,
     Word::Cancel,
     Word::Advance,
     Word::List,

@@ -7,9 +7,9 @@ ghost use Rattle.yw_tree.specs.Entries.{run_site};
 ghost use Rattle.yw_tree.specs.Forest.{IsForest, sites_of};
 ghost use Rattle.yw_shown.specs.Shows.{AddsMarks};
 
-use crate::copies::copy_of_steps;
 use std::alloc::{AllocError, Global};
 use yw_base::{Ident, Items};
+use yw_rdr::copy_of_primitives;
 use yw_state::{Checks, DueList, DueRow, RunRow, Shown, TreeKind};
 use yw_tree::{Forest, Run, Spot};
 
@@ -72,7 +72,7 @@ fn push_run(alloc: Global, at: &Ident, run: &Run, shown: &mut Shown) -> Result<(
     let row = RunRow {
         run: at.copy(alloc)?,
         waiting: run.waiting,
-        rest: copy_of_steps(alloc, run.rest.as_slice())?,
+        rest: copy_of_primitives(alloc, run.rest.as_slice())?,
     };
     shown.runs.push(row)
 }

@@ -4,7 +4,7 @@ use Rattle.std.specs.Ordering.{nat_cmp}
 use Rattle.std.specs.Prelude.{List, false, refl, ℕ, ◌≡◌}
 use Rattle.yw_base.specs.Identity.{number_end}
 use Rattle.yw_library.specs.Ended.{ended_of}
-use Rattle.yw_library.specs.Holdings.{with_library}
+use Rattle.yw_library.specs.Holdings.{with_holdings, with_library}
 use Rattle.yw_library.specs.Names.{names_of}
 use Rattle.yw_nest.specs.Cases.{with_ended}
 use Rattle.yw_standing.specs.State.{state_of}
@@ -48,7 +48,7 @@ module _ (old : Standing) (f : Forest) where
       → with_sites (with_ended n way (state_of old)) (sites_of (names_of old.known) f) ≡ state_of (record old { forest = f; ended = es })
   unfolding with_library
   placed_over es n way put =
-      ap (λ (m : Map nat_cmp Way). with_library (record opening { next = old.next; sites = sites_of (names_of old.known) f; ended = m }) old.known) (sym put)
+      ap (λ (m : Map nat_cmp Way). with_holdings (record opening { next = old.next; sites = sites_of (names_of old.known) f; ended = m }) old.known) (sym put)
 
 -- ---- an event whose test fails
 

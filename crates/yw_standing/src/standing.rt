@@ -3,8 +3,8 @@ use yw_known::Known;
 use yw_library::EndedTable;
 use yw_tree::Forest;
 
-/// Persons and specifications, the cases that stand, how cases ended, and the number that is drawn next. A contract
-/// sees these four; by `state_of` they are a state, in which no tree has a rule.
+/// Persons and specifications, the cases that stand, how cases ended, and the number that is drawn next. A contract sees these four; by
+/// `state_of` they are a state.
 #[derive(Drop)]
 pub struct Standing {
     /// Persons, and specifications with the upstream of each of their nets.

@@ -9,13 +9,13 @@ ghost use Rattle.yw_library.specs.Scopes.{HasNames, scope_of};
 ghost use Rattle.yw_texts.specs.Texts.{ReadsCondition};
 
 use crate::LibraryFault;
-use crate::trees::owner::Owner;
 use crate::trees::scope::layers_of;
 use std::alloc::{AllocError, Global};
 use yw_base::{Sort, Text};
 use yw_expr::{Expr, ExprFault, Scope, parse, sort_of};
 use yw_spec::Spec;
 use yw_state::{Refusal, Rule};
+use yw_trees::Owner;
 
 /// A fault's name and its place.
 fn at_byte(alloc: Global, name: &str, at: usize) -> Result<Text, AllocError>

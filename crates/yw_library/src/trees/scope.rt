@@ -4,13 +4,13 @@ ghost use Rattle.std.specs.Prelude.{◌≡◌, ◌∷◌, ◌++◌, [], None, If
 ghost use Rattle.yw_accept.specs.Facts.{AreDistinct};
 ghost use Rattle.yw_expr.specs.Scope.{binding, place_in};
 ghost use Rattle.yw_library.specs.Scopes.{HasNames, IsApart, params_of, scope_of, task_in, vars_of};
-ghost use Rattle.yw_library.specs.declared.trees.owner.Owner.TheVariants.{Cases};
+ghost use Rattle.yw_trees.specs.declared.owner.Owner.TheVariants.{Cases};
 
-use crate::trees::owner::Owner;
 use std::alloc::{AllocError, Global};
 use yw_base::Sort;
 use yw_expr::Bindings;
 use yw_spec::{ParamList, Spec, Task, VarList};
+use yw_trees::Owner;
 
 /// Names of which a condition speaks: those of `inner`, and behind them those of `outer`.
 #[derive(Drop)]

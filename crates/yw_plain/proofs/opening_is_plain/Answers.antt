@@ -3,4 +3,4 @@ use Rattle.yw_state.proofs.Tests.{nowhere}
 use Rattle.yw_plain.proofs.opening_is_plain.Goals as goal
 
 pub returns : goal.returns
-returns c = record { rules = refl; run = λ j x at. nowhere at; suspended = λ j x at. nowhere at; due = λ j x at. nowhere at }
+returns c = record { rules = refl; run = λ j x at. nowhere at; due = λ j x at. nowhere at }

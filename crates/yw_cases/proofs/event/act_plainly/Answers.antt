@@ -27,6 +27,18 @@ act_complete_sub-requires-clause-leads c = subst (LeadsOn c.args.standing.now) c
 pub act_complete_empty-requires-clause-leads : goal.act_complete_empty-requires-clause-leads
 act_complete_empty-requires-clause-leads c = subst (LeadsOn c.args.standing.now) c.in-CompleteEmpty.is c.requires.leads
 
+pub act_suspend-requires-clause-held : goal.act_suspend-requires-clause-held
+act_suspend-requires-clause-held c = c.requires.stands.held
+
+pub act_suspend-requires-clause-leads : goal.act_suspend-requires-clause-leads
+act_suspend-requires-clause-leads c = subst (LeadsOn c.args.standing.now) c.in-Suspend.is c.requires.leads
+
+pub act_continue-requires-clause-held : goal.act_continue-requires-clause-held
+act_continue-requires-clause-held c = c.requires.stands.held
+
+pub act_continue-requires-clause-leads : goal.act_continue-requires-clause-leads
+act_continue-requires-clause-leads c = subst (LeadsOn c.args.standing.now) c.in-Continue.is c.requires.leads
+
 pub returns-in-Advance : goal.returns-in-Advance
 returns-in-Advance c =
     subst (λ e. IsDone c.args.standing.now e c.args.standing.now) (sym c.in-Advance.is)

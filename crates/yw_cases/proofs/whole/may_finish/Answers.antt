@@ -4,4 +4,4 @@ use Rattle.yw_cases.proofs.Ending.{tells_finish}
 use Rattle.yw_cases.proofs.whole.may_finish.Goals as goal
 
 pub returns : goal.returns
-returns c = IfOk-weaker c.case_at_output.result _ _ (λ b e. tells_finish c.args.standing.now c.requires c.args.n b (sym e)) c.case_at_output.ensures
+returns c = IfOk-weaker c.case_ends.result _ _ (λ b e. tells_finish c.args.standing.now c.requires c.args.n b (sym e)) c.case_ends.ensures

@@ -1,4 +1,5 @@
 use Rattle.std.proofs.Common.{None, Some, subst}
+use Rattle.yw_asked.proofs.Unbroken.{none_broken}
 use Rattle.yw_breaks.proofs.Whole.{enter_joins}
 use Rattle.yw_breaks.specs.Enter.{EnterFinds, EnterMakes, IsEntryAsked}
 use Rattle.yw_breaks.specs.Tables.{enter_front, enter_rest}
@@ -54,12 +55,13 @@ returns-in_ok-entry_of-in-Ok c =
     let roles = c.args.asked.now.roles.now in
     let made =
     subst (λ (f : Forest). IsEntryAsked f roles w next i t c.in-Ok.entry) c.forest-forest.ensures
-    (subst (EnterMakes c.forest-forest.result.now roles w next i t) c.in-Ok.is c.in_ok-entry.ensures) in (
+    (subst (EnterMakes c.forest-forest.result.now roles w next i t) c.in-Ok.is c.in_ok-entry.ensures) in
+    let unbroken = made.unbroken h.known who c.requires.roles c.requires.says s may.held (words_of h may).manual (next_of h next c.next-next.ensures) in (
       behind h (commands.Enter who i t) i (enter_front s who i t) (enter_rest s who i t) (enter_joins reader s who i t) c.requires.front
           c.args.quiet c.requires.rest c.breaks_quiet.result c.breaks_quiet.ensures c.in_default.is
-          None (made.unbroken h.known who c.requires.roles c.requires.says s may.held (words_of h may).manual (next_of h next c.next-next.ensures)),
+          None unbroken,
       entered h may i t w (c.requires.says s may.held) c.in-Ok.entry.task made.named next c.next-next.ensures c.in-Ok.entry.taken c.in-Ok.entry.rows.items made.enterable
-          c.in_ok-entry_of-in-Ok.field-0 c.in_ok-entry_of-in-Ok.ensures,
+          (none_broken (enter_rest s who i t) unbroken).1.1.1.0 c.in_ok-entry_of-in-Ok.field-0 c.in_ok-entry_of-in-Ok.ensures,
     )
 
 pub returns-in-Err : goal.returns-in-Err

@@ -9,8 +9,8 @@ pub returns : goal.returns
 returns c =
     let run = out-Run c.args.run.now in
     let at : c.in_ok-copy.field-0 ≡ c.args.at.now = c.in_ok-copy.ensures in
-    let rest : c.in_ok-copy_of_steps.field-0 ≡ run.rest = c.in_ok-copy_of_steps.ensures ∙ c.as_slice.ensures in
-    let made : RunRow = record { run = c.in_ok-copy.field-0; waiting = run.waiting; rest = c.in_ok-copy_of_steps.field-0 } in
+    let rest : c.in_ok-copy_of_primitives.field-0 ≡ run.rest = c.in_ok-copy_of_primitives.ensures ∙ c.as_slice.ensures in
+    let made : RunRow = record { run = c.in_ok-copy.field-0; waiting = run.waiting; rest = c.in_ok-copy_of_primitives.field-0 } in
     let wanted : RunRow = record { run = c.args.at.now; waiting = run.waiting; rest = run.rest } in
     let same : made ≡ wanted = (λ z. record { run = at z; waiting = run.waiting; rest = rest z }) in
     on_ok_weaker c.push.result

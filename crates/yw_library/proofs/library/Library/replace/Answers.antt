@@ -12,7 +12,7 @@ returns c =
     let n = c.args.number in
     let ps = c.self.inside.persons in
     let one = subst (λ (l : Holdings). IsNumberOf person_name l.persons new.name (Some n)) (sym c.self.view_is) c.requires in
-    ap (λ (qs : List Person). record { persons = qs; specs = c.self.inside.specs })
+    ap (λ (qs : List Person). record { persons = qs; specs = c.self.inside.specs; rules = c.self.inside.trees })
     (c.replaced.ensures ∙ ap (λ (qs : List Person). slice_set qs n new) c.replace-persons.ensures.value
     ∙ sym (put_person-set new ps c.self.inside.person_numbers n c.self.invariant.persons_found one))
     ∙ ap (λ (l : Holdings). with_person l new) c.self.view_is

@@ -16,5 +16,5 @@ returns-in-Some-clause-ok c =
     let found = subst (λ (l : Holdings). AreFound person_name l.persons c.self.inside.person_numbers) c.self.view_is c.self.invariant.persons_found in
     let at = subst (λ (l : Holdings). slice_get l.persons c.args.number ≡ Some p) c.self.view_is (sym c.get.ensures ∙ ap option_copied c.in-Some.is) in
     let roles = sym c.as_slice.ensures ∙ (slice_eq-Decides bytes_eq-Decides _ _ _ c.eq.ensures).0 c.if-eq.true ∙ c.as_slice-wanted.ensures in
-    sym (ap (λ (ps : List Person). record { persons = ps; specs = library.specs })
+    sym (ap (λ (ps : List Person). record { persons = ps; specs = library.specs; rules = library.rules })
     (put_person-same new p library.persons c.self.inside.person_numbers c.args.number found c.requires at roles))

@@ -1,0 +1,10 @@
+pub mod ComesLast
+pub mod Hanging
+pub mod InOrder
+pub mod Lists
+pub mod Named
+pub mod NetRows
+pub mod Persons
+pub mod Taking
+pub mod Texts
+pub mod TokenLemmas
